@@ -1,0 +1,6 @@
+use Rattle.std.proofs.Common.{rules, ◌≡◌, sym, false, ap, subst, ◌∙◌, arith}
+use Rattle.dotenvy.proofs.TextMaps.{good-empty}
+use Rattle.dotenvy.proofs.environment.Environment.new.Goals as goal
+
+pub invariant_of-result : goal.invariant_of-result
+invariant_of-result g c = rw c.new.ensures.empty (good-empty false)
