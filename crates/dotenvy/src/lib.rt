@@ -4,7 +4,9 @@
 mod dialect;
 mod environment;
 mod errors;
+mod input;
 pub mod laws;
+mod lines;
 mod source;
 
 pub use dialect::Dialect;
