@@ -2,6 +2,7 @@ pub mod Characters
 pub mod PhysicalLines
 pub mod Tokens
 pub mod LogicalLine
+pub mod LineModes
 pub mod Statement
 pub mod Value
 pub mod Places
@@ -17,6 +18,7 @@ pub mod Search
 pub mod Words
 pub mod Errors
 pub mod Source
+pub mod Input
 pub mod Environment
 pub mod Laws
 pub mod FileRows
