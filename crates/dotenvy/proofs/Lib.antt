@@ -26,4 +26,6 @@ pub mod SearchOnce
 pub mod WordsOnce
 pub mod CallRows
 pub mod Inputs
+pub mod LineTexts
+pub mod LineJoins
 mod TextMaps

@@ -19,6 +19,8 @@ pub mod Words
 pub mod Errors
 pub mod Source
 pub mod Input
+pub mod Lines
+pub mod JoinedLines
 pub mod Environment
 pub mod Laws
 pub mod FileRows
