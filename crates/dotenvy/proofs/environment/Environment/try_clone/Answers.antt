@@ -1,3 +1,4 @@
+use Rattle.std.proofs.Common.{rules, ◌≡◌, sym, ap, subst, ◌∙◌, arith}
 use Rattle.dotenvy.proofs.TextMaps.{text_entries-clones}
 use Rattle.dotenvy.proofs.environment.Environment.try_clone.Goals as goal
 
