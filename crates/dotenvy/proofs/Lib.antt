@@ -3,6 +3,7 @@ pub mod LoadLaws
 pub mod LoadsTwice
 pub mod ReadBack
 pub mod ReadBackLines
+pub mod WrittenTexts
 pub mod Scans
 pub mod NameCharacters
 pub mod Values

@@ -7,12 +7,12 @@ pub mod Value
 pub mod Places
 pub mod Line
 pub mod Entries
-pub mod Decided
 pub mod Items
 pub mod Run
 pub mod Loads
 pub mod Marks
 pub mod Written
+pub mod Decided
 pub mod Search
 pub mod Errors
 pub mod Source
