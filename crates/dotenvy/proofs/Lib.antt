@@ -1,3 +1,4 @@
+pub mod Basics
 pub mod Cuts
 pub mod LoadLaws
 pub mod LoadsTwice

@@ -1,13 +1,12 @@
 -- The written form of keys and texts is a text.
-use Rattle.std.proofs.Common.{◌≡◌, ℕ, Bool, true, false, ◌&&◌, cond, List, [], ◌∷◌, ◌++◌, refl, sym, ◌∙◌, ap, arith}
-use Rattle.std.specs.Prelude.{IsTrue, ◌==◌}
+use Rattle.std.proofs.Common.{◌≡◌, ℕ, Bool, true, false, cond, List, [], ◌∷◌, ◌++◌, refl, arith}
 use Rattle.std.specs.List.{flat_map, list_all}
 use Rattle.std.proofs.lemmas.Bool.Decides.{nat_tests}
 use Rattle.std.proofs.Math.Utf8.{scalar, scalars}
 use Rattle.dotenvy.specs.Characters.{double_quote, backslash, equals_sign, line_feed, begins_key, continues_key}
 use Rattle.dotenvy.specs.Statement.{is_key}
 use Rattle.dotenvy.specs.Written.{needs_backslash, written_character, written_pair, written_text, AreWritable}
-use Rattle.dotenvy.proofs.Cuts.{and_left, and_right, both}
+use Rattle.dotenvy.proofs.Basics.{and_left, and_right, both}
 use Rattle.dotenvy.proofs.ReadBackLines.{AreKeys}
 
 pub keys_of : (pairs : List (List ℕ × List ℕ)) → AreWritable pairs → AreKeys pairs

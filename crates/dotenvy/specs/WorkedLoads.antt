@@ -1,6 +1,6 @@
 -- Worked loads: what iteration and the loads make of files, by examples.
 use Prim.Native.String.{String}
-use Rattle.std.specs.Prelude.{◌≡◌, ℕ, List, [], ◌∷◌, Option, Some, None, Result, Ok, Err, codes}
+use Rattle.std.specs.Prelude.{◌≡◌, ℕ, List, [], ◌∷◌, Some, None, Result, Ok, Err, codes}
 use Rattle.dotenvy.specs.declared.dialect.Dialect.TheVariants.{V15}
 use Rattle.dotenvy.specs.Entries.{Entry, Failure, Nul, HasEntries}
 use Rattle.dotenvy.specs.Items.{LookUp, no_values, with_value, items}
