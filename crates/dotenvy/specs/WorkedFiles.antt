@@ -7,6 +7,7 @@ use Rattle.dotenvy.specs.Value.{Piece, Text, Name}
 use Rattle.dotenvy.specs.Entries.{Entry, Declares, Fails, LineParse, Io, HasEntries}
 use Rattle.dotenvy.specs.Marks.{without_mark}
 use Rattle.dotenvy.specs.Written.{written_pair}
+use Rattle.dotenvy.specs.Decided.{HasDecided}
 
 -- the bytes of a file with these characters
 abbrev pub file : String → List ℕ
@@ -133,3 +134,13 @@ abbrev pub HaveWritten : Type 0
 HaveWritten =
     (written_pair (codes "K", codes "a\"b$c\\d\ne") ≡ codes "K=\"a\\\"b\\$c\\\\d\ne\"\n")
     × (written_pair (codes "K", []) ≡ codes "K=\"\"\n")
+
+-- what is decided of bytes whose end was not reached
+abbrev pub HaveDecisions : Type 0
+HaveDecisions =
+    -- the lines up to the last line feed
+    HasDecided V15 (file "A=1\nB=2") (declares "A" (text_of "1" ∷ []) ∷ [])
+    × HasDecided V15 (file "A=1\nB=2\n") (declares "A" (text_of "1" ∷ []) ∷ declares "B" (text_of "2" ∷ []) ∷ [])
+    × HasDecided V15 (file "A=1") []
+    -- and no open end
+    × HasDecided V15 (file "A=1\nB=\"x\ny\n") (declares "A" (text_of "1" ∷ []) ∷ [])

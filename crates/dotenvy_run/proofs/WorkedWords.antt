@@ -8,4 +8,4 @@ words_row : (words : List (List ℕ)) (answer : Result CommandLine Usage) → an
 words_row words answer h = ((read words).0, (read words).1, words-read words, h)
 
 pub usages : HaveUsages
-usages = (words_row _ _ refl, words_row _ _ refl, words_row _ _ refl, words_row _ _ refl, words_row _ _ refl, words_row _ _ refl)
+usages = (words_row _ _ refl, words_row _ _ refl, words_row _ _ refl, words_row _ _ refl, words_row _ _ refl, words_row _ _ refl, words_row _ _ refl, words_row _ _ refl)
