@@ -23,3 +23,4 @@ pub mod WorkedFiles
 pub mod SearchOnce
 pub mod WorkedSearches
 mod TextMaps
+pub mod Keys
