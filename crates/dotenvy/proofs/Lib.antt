@@ -23,6 +23,5 @@ pub mod NextEntries
 pub mod RawLines
 pub mod FileRows
 pub mod SearchOnce
-pub mod WordsOnce
-pub mod CallRows
+pub mod WorkedSearches
 mod TextMaps

@@ -14,10 +14,9 @@ pub mod Loads
 pub mod Marks
 pub mod Written
 pub mod Search
-pub mod Words
 pub mod Errors
 pub mod Source
 pub mod Environment
 pub mod Laws
 pub mod FileRows
-pub mod CallRows
+pub mod WorkedSearches
