@@ -25,3 +25,4 @@ pub mod WorkedFiles
 pub mod SearchOnce
 pub mod WorkedSearches
 mod TextMaps
+pub mod Keys
