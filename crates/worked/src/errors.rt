@@ -1,0 +1,48 @@
+//! What errors print, and which of them say that nothing was found.
+
+use dotenvy::{Error, VarError};
+use std::alloc::AllocError;
+use std::io;
+use std::io::ErrorKind;
+use std::test::Fail;
+
+#[test]
+fn nothing_was_found(rt: HostRuntime) -> Result<(), Fail> {
+    for (kind, want) in [
+        (ErrorKind::NotFound, true),
+        (ErrorKind::PermissionDenied, false),
+    ] {
+        let error: Error = Error::Io(io::Error::from(kind));
+        assert_eq!(rt; error.not_found(), want);
+    }
+    let error: Error = Error::EnvVar(VarError::NotPresent);
+    assert!(rt; !error.not_found());
+    Ok(())
+}
+
+#[test]
+fn texts(rt: HostRuntime) -> Result<(), Fail> {
+    let alloc = rt.alloc();
+    let fault = io::Error::from(ErrorKind::PermissionDenied).to_string(alloc)?;
+    let rows: [(Error, &str); 5] = [
+        (
+            Error::LineParse(String::from_str(alloc, "test line")?, 2),
+            "Error parsing line: 'test line', error at line index: 2",
+        ),
+        (
+            Error::Io(io::Error::from(ErrorKind::PermissionDenied)),
+            fault.as_str(),
+        ),
+        (Error::EnvVar(VarError::NotPresent), "environment variable not found"),
+        (
+            Error::Nul(String::from_str(alloc, "K")?),
+            "value of 'K' contains a NUL",
+        ),
+        (Error::Memory(AllocError), "out of memory"),
+    ];
+    for (error, want) in rows {
+        assert_eq!(rt; error.to_string(alloc)?.as_str(), want);
+    }
+    assert_eq!(rt; VarError::NotPresent.to_string(alloc)?.as_str(), "environment variable not found");
+    Ok(())
+}
