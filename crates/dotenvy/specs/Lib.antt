@@ -18,5 +18,6 @@ pub mod Errors
 pub mod Source
 pub mod Environment
 pub mod Laws
-pub mod FileRows
+pub mod WorkedFiles
+pub mod WorkedLoads
 pub mod WorkedSearches

@@ -8,6 +8,6 @@ pub mod laws;
 mod source;
 
 pub use dialect::Dialect;
-pub use environment::{Environment, is_name};
+pub use environment::{Environment, is_key, is_name};
 pub use errors::{Error, Result, VarError};
 pub use source::{Bytes, Plain, Sink, Source};
