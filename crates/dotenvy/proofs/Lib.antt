@@ -26,3 +26,4 @@ pub mod SearchOnce
 pub mod WordsOnce
 pub mod CallRows
 mod TextMaps
+mod Writing

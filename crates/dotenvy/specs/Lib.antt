@@ -17,6 +17,7 @@ pub mod Search
 pub mod Words
 pub mod Errors
 pub mod Source
+pub mod Sent
 pub mod Environment
 pub mod Laws
 pub mod FileRows

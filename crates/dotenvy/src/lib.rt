@@ -4,10 +4,17 @@
 mod dialect;
 mod environment;
 mod errors;
+mod iter;
 pub mod laws;
+mod lines;
+mod parse;
+mod remembered;
 mod source;
+mod written;
 
 pub use dialect::Dialect;
 pub use environment::{Environment, is_name};
 pub use errors::{Error, Result, VarError};
+pub use iter::{Items, Iter, from_read, from_read_iter, from_read_override};
 pub use source::{Bytes, Plain, Sink, Source};
+pub use written::{list, list_with, write_pair};
