@@ -23,7 +23,6 @@ pub mod NextEntries
 pub mod RawLines
 pub mod FileRows
 pub mod SearchOnce
-pub mod WordsOnce
-pub mod CallRows
+pub mod WorkedSearches
 mod TextMaps
 mod Writing
