@@ -26,3 +26,4 @@ pub mod SearchOnce
 pub mod WorkedSearches
 mod TextMaps
 mod Writing
+mod Keys
