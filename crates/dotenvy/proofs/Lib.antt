@@ -27,3 +27,4 @@ pub mod WorkedSearches
 mod TextMaps
 mod Writing
 mod Keys
+pub mod Keys

@@ -13,7 +13,7 @@ mod source;
 mod written;
 
 pub use dialect::Dialect;
-pub use environment::{Environment, is_name};
+pub use environment::{Environment, is_key, is_name};
 pub use errors::{Error, Result, VarError};
 pub use iter::{Items, Iter, from_read, from_read_iter, from_read_override};
 pub use source::{Bytes, Plain, Sink, Source};
