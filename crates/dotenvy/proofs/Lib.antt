@@ -25,4 +25,5 @@ pub mod FileRows
 pub mod SearchOnce
 pub mod WordsOnce
 pub mod CallRows
+mod RememberedMaps
 mod TextMaps
