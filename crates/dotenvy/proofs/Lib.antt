@@ -26,4 +26,5 @@ pub mod SearchOnce
 pub mod WordsOnce
 pub mod CallRows
 mod RememberedMaps
+pub mod WorkedSearches
 mod TextMaps

@@ -14,11 +14,10 @@ pub mod Loads
 pub mod Marks
 pub mod Written
 pub mod Search
-pub mod Words
 pub mod Errors
 pub mod Source
 pub mod Environment
 pub mod Remembered
 pub mod Laws
 pub mod FileRows
-pub mod CallRows
+pub mod WorkedSearches
