@@ -23,6 +23,9 @@ pub mod NextEntries
 pub mod RawLines
 pub mod FileRows
 pub mod SearchOnce
+pub mod WordsOnce
+pub mod CallRows
+mod RememberedMaps
 pub mod WorkedSearches
 mod TextMaps
 mod Writing

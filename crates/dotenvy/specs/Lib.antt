@@ -18,6 +18,7 @@ pub mod Errors
 pub mod Source
 pub mod Sent
 pub mod Environment
+pub mod Remembered
 pub mod Laws
 pub mod FileRows
 pub mod WorkedSearches

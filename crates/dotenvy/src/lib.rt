@@ -4,12 +4,16 @@
 mod dialect;
 mod environment;
 mod errors;
+mod input;
 mod iter;
 pub mod laws;
 mod lines;
 mod parse;
 mod remembered;
 mod source;
+mod statement;
+mod text;
+mod value;
 mod written;
 
 pub use dialect::Dialect;
