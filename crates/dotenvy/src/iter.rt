@@ -50,7 +50,7 @@ impl<R: Source, A: Allocator + Clone> Iter<R, A> {
     {
         let remembered = HashMap::new(alloc.clone()?);
         Ok(Iter {
-            lines: QuotedLines::new(alloc, reader)?,
+            lines: QuotedLines::new(alloc, reader),
             remembered,
             dialect,
         })
