@@ -4,10 +4,9 @@ pub mod LoadsTwice
 pub mod ReadBack
 pub mod ReadBackLines
 pub mod Scans
-pub mod Rows
+pub mod NameCharacters
 pub mod Values
 pub mod ValuePlaces
-mod ValueRows
 pub mod Statements
 pub mod StatementPlaces
 pub mod Outcomes
@@ -20,8 +19,7 @@ pub mod ParseLine
 pub mod ScanValue
 pub mod SayLine
 pub mod NextEntries
-pub mod RawLines
-pub mod FileRows
+pub mod WorkedFiles
 pub mod SearchOnce
 pub mod WordsOnce
 pub mod CallRows

@@ -20,5 +20,6 @@ pub mod Sent
 pub mod Environment
 pub mod Remembered
 pub mod Laws
-pub mod FileRows
+pub mod WorkedFiles
+pub mod WorkedLoads
 pub mod WorkedSearches
