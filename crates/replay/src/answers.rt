@@ -8,7 +8,7 @@
 use crate::case::Case;
 use anyhow::{Result, bail};
 use dotenvy::{Environment, Error, Iter, Plain, Source};
-use std::alloc::Global;
+use std::alloc::{AllocError, Global};
 
 /// What one case gives in each of the four ways to read it.
 #[derive(Drop)]
@@ -36,20 +36,37 @@ impl Answers {
             list: list(alloc, case, read(bytes))?,
         })
     }
-
-    /// Each answer by its name, beside the other one's.
-    pub fn paired<'a>(&'a self, other: &'a Answers) -> [(&'static str, &'a str, &'a str); 4] {
-        [
-            ("items", self.items.as_str(), other.items.as_str()),
-            ("load", self.load.as_str(), other.load.as_str()),
-            (
-                "load_override",
-                self.load_override.as_str(),
-                other.load_override.as_str(),
-            ),
-            ("list", self.list.as_str(), other.list.as_str()),
-        ]
+    /// A text for each answer that is not the wanted one.
+    pub fn differences(
+        &self,
+        alloc: Global,
+        wanted: &Answers,
+    ) -> std::result::Result<Vec<String>, AllocError> {
+        let mut found = Vec::new(alloc);
+        push_difference(&mut found, "items", &wanted.items, &self.items)?;
+        push_difference(&mut found, "load", &wanted.load, &self.load)?;
+        push_difference(
+            &mut found,
+            "load_override",
+            &wanted.load_override,
+            &self.load_override,
+        )?;
+        push_difference(&mut found, "list", &wanted.list, &self.list)?;
+        Ok(found)
     }
+}
+
+fn push_difference(
+    found: &mut Vec<String>,
+    answer: &str,
+    wanted: &String,
+    got: &String,
+) -> std::result::Result<(), AllocError> {
+    if wanted != got {
+        let alloc = *found.allocator();
+        found.push(format!(in alloc; "{answer}: wanted {wanted}, got {got}")?)?;
+    }
+    Ok(())
 }
 
 fn items<R: Source + Drop>(alloc: Global, case: &Case, reader: R) -> Result<String> {

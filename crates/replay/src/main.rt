@@ -35,28 +35,26 @@ fn read_cases(alloc: Global, text: &str) -> Result<Vec<Case>> {
     Ok(cases)
 }
 
-/// Prints where the answers differ from the recorded ones, and tells whether they do.
-fn differs<R: Print>(rt: &R, case: &Case, reading: &str, got: &Answers) -> Result<bool> {
-    let mut differs = false;
-    for (answer, wanted, got) in case.answers.paired(got) {
-        if wanted != got {
-            println!(rt;
-                "{} {reading}: {answer} wanted {wanted}, got {got}",
-                case.name
-            )?;
-            differs = true;
-        }
+/// Prints each answer that is not the recorded one, and tells whether there is one.
+fn differs<R: AllocGlobal + Print>(
+    rt: &R,
+    case: &Case,
+    reading: &str,
+    got: &Answers,
+) -> Result<bool> {
+    let differences = got.differences(rt.alloc(), &case.answers)?;
+    for difference in &differences {
+        println!(rt; "{}, {reading}: {difference}", case.name)?;
     }
-    Ok(differs)
+    Ok(!differences.is_empty())
 }
 
 /// Runs a case with whole reads and with reads of one byte, and tells whether an answer differs.
 fn replay<R: AllocGlobal + Print>(rt: &R, case: &Case) -> Result<bool> {
-    let alloc = rt.alloc();
-    let whole = Answers::of(alloc, case, Bytes::new)?;
-    let by_byte = Answers::of(alloc, case, OneByteReads::new)?;
-    let whole_differs = differs(rt, case, "in whole reads", &whole)?;
-    let by_byte_differs = differs(rt, case, "in reads of one byte", &by_byte)?;
+    let whole = Answers::of(rt.alloc(), case, Bytes::new)?;
+    let by_byte = Answers::of(rt.alloc(), case, OneByteReads::new)?;
+    let whole_differs = differs(rt, case, "whole reads", &whole)?;
+    let by_byte_differs = differs(rt, case, "one byte a read", &by_byte)?;
     Ok(whole_differs || by_byte_differs)
 }
 

@@ -12,7 +12,13 @@ fn names_in_quotes_and_with_underscores(rt: HostRuntime) -> Result<(), Fail> {
         ("A", "1", "K=\"é$A\"", "fault at 5: \"é$A\"", "K=é1"),
         ("X", "", "K=\"$\"", "fault at 2: \"$\"", "K="),
         ("A_B", "7", "K=$A_B-", "K=_B-", "K=7-"),
-        ("A", "1", "K=$A\"", "fault at 6: K=$A\"\n", "fault at 6: K=$A\"\n"),
+        (
+            "A",
+            "1",
+            "K=$A\"",
+            "fault at 6: K=$A\"\n",
+            "fault at 6: K=$A\"\n",
+        ),
         ("KEY1", "u", "KEY2=$KEY1_2", "KEY2=u_2", "KEY2="),
     ] {
         let alloc = rt.alloc();

@@ -7,7 +7,13 @@ use std::test::Fail;
 #[test]
 fn pairs_that_are_passed_by(rt: HostRuntime) -> Result<(), Fail> {
     let alloc = rt.alloc();
-    let list = [("A", "1"), ("A", "2"), ("", "3"), ("B=", "4"), ("C", "x\0y")];
+    let list = [
+        ("A", "1"),
+        ("A", "2"),
+        ("", "3"),
+        ("B=", "4"),
+        ("C", "x\0y"),
+    ];
     let environment = environment(alloc, &list)?;
     assert_eq!(rt; pairs(alloc, &environment)?.as_str(), "A=1");
     assert!(rt; !environment.loaded());

@@ -33,7 +33,10 @@ fn texts(rt: HostRuntime) -> Result<(), Fail> {
             Error::Io(io::Error::from(ErrorKind::PermissionDenied)),
             fault.as_str(),
         ),
-        (Error::EnvVar(VarError::NotPresent), "environment variable not found"),
+        (
+            Error::EnvVar(VarError::NotPresent),
+            "environment variable not found",
+        ),
         (
             Error::Nul(String::from_str(alloc, "K")?),
             "value of 'K' contains a NUL",
@@ -43,6 +46,9 @@ fn texts(rt: HostRuntime) -> Result<(), Fail> {
     for (error, want) in rows {
         assert_eq!(rt; error.to_string(alloc)?.as_str(), want);
     }
-    assert_eq!(rt; VarError::NotPresent.to_string(alloc)?.as_str(), "environment variable not found");
+    assert_eq!(rt;
+        VarError::NotPresent.to_string(alloc)?.as_str(),
+        "environment variable not found"
+    );
     Ok(())
 }

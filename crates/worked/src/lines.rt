@@ -17,7 +17,11 @@ fn comments(rt: HostRuntime) -> Result<(), Fail> {
         // After two blanks the splitter sees no comment, so the quote opens.
         ("A=1  # it's\nB=2\n", "fault at 16: A=1  # it's\nB=2\n"),
     ] {
-        assert_eq!(rt; items(rt.alloc(), input.as_bytes())?.as_str(), want, "at {input:?}");
+        assert_eq!(rt;
+            items(rt.alloc(), input.as_bytes())?.as_str(),
+            want,
+            "at {input:?}"
+        );
     }
     Ok(())
 }
@@ -33,7 +37,11 @@ fn line_ends(rt: HostRuntime) -> Result<(), Fail> {
         ("K=a\\ \n", "K=a"),
         ("K=\"a\\\nb\"\n", "fault at 3: \"a\\\nb\""),
     ] {
-        assert_eq!(rt; items(rt.alloc(), input.as_bytes())?.as_str(), want, "at {input:?}");
+        assert_eq!(rt;
+            items(rt.alloc(), input.as_bytes())?.as_str(),
+            want,
+            "at {input:?}"
+        );
     }
     Ok(())
 }
@@ -54,7 +62,11 @@ fn open_ends(rt: HostRuntime) -> Result<(), Fail> {
             "fault at 3: my uncool value; fault at 40: KEY2=\"why\nKEY3='please stop''\nKEY4=h\\8u\n",
         ),
     ] {
-        assert_eq!(rt; items(rt.alloc(), input.as_bytes())?.as_str(), want, "at {input:?}");
+        assert_eq!(rt;
+            items(rt.alloc(), input.as_bytes())?.as_str(),
+            want,
+            "at {input:?}"
+        );
     }
     Ok(())
 }
@@ -73,7 +85,11 @@ fn lines_that_are_no_text(rt: HostRuntime) -> Result<(), Fail> {
         b"# \xc3\nB=2\n",
     ];
     for input in inputs {
-        assert_eq!(rt; items(rt.alloc(), input)?.as_str(), "io InvalidData; B=2", "at {input:?}");
+        assert_eq!(rt;
+            items(rt.alloc(), input)?.as_str(),
+            "io InvalidData; B=2",
+            "at {input:?}"
+        );
     }
     let cut = b"K=\xf0\x9f\x98";
     assert_eq!(rt; items(rt.alloc(), cut)?.as_str(), "io InvalidData");
@@ -90,9 +106,18 @@ fn characters_of_several_bytes(rt: HostRuntime) -> Result<(), Fail> {
         ("K=$é-\n", "K=-"),
         ("\u{feff}T=1\n", "fault at 0: \u{feff}T=1"),
     ] {
-        assert_eq!(rt; items(rt.alloc(), input.as_bytes())?.as_str(), want, "at {input:?}");
+        assert_eq!(rt;
+            items(rt.alloc(), input.as_bytes())?.as_str(),
+            want,
+            "at {input:?}"
+        );
     }
-    let named = items_under(rt.alloc(), &[("é", "x")], "K=$é-\n".as_bytes(), Dialect::V15)?;
+    let named = items_under(
+        rt.alloc(),
+        &[("é", "x")],
+        "K=$é-\n".as_bytes(),
+        Dialect::V15,
+    )?;
     assert_eq!(rt; named.as_str(), "K=x-");
     Ok(())
 }
@@ -118,7 +143,11 @@ fn values_over_several_lines(rt: HostRuntime) -> Result<(), Fail> {
             "KEY4=hello 'world\ngood ' 'morning",
         ),
     ] {
-        assert_eq!(rt; items(rt.alloc(), input.as_bytes())?.as_str(), want, "at {input:?}");
+        assert_eq!(rt;
+            items(rt.alloc(), input.as_bytes())?.as_str(),
+            want,
+            "at {input:?}"
+        );
     }
     Ok(())
 }

@@ -25,9 +25,16 @@ fn loads_into_an_empty_environment(rt: HostRuntime) -> Result<(), Fail> {
     for (input, want) in [
         ("", "ok:  | ok: "),
         ("A=1\nA=2\nB=$A\n", "ok: A=1, B=1 | ok: A=2, B=2"),
-        ("A=1\n.B=2\nC=3\n", "fault at 0: .B=2: A=1 | fault at 0: .B=2: A=1"),
+        (
+            "A=1\n.B=2\nC=3\n",
+            "fault at 0: .B=2: A=1 | fault at 0: .B=2: A=1",
+        ),
     ] {
-        assert_eq!(rt; loads(rt.alloc(), &[], input.as_bytes())?.as_str(), want, "at {input:?}");
+        assert_eq!(rt;
+            loads(rt.alloc(), &[], input.as_bytes())?.as_str(),
+            want,
+            "at {input:?}"
+        );
     }
     Ok(())
 }
@@ -56,7 +63,9 @@ fn names_in_values_of_several_names(rt: HostRuntime) -> Result<(), Fail> {
         ("'", "$ZZZ>>$KEY>>$KEY1>>${KEY}1>>$KEY_U>>${KEY_U}>>\\$KEY"),
     ] {
         let value = "$ZZZ>>$KEY>>$KEY1>>${KEY}1>>$KEY_U>>${KEY_U}>>\\$KEY";
-        let input = format!(in alloc; "KEY1=new_value1\nKEY_U=$KEY+valueU\nS={quote}{value}{quote}\n")?;
+        let input = format!(in alloc;
+            "KEY1=new_value1\nKEY_U=$KEY+valueU\nS={quote}{value}{quote}\n"
+        )?;
         let mut environment = environment(alloc, &[("KEY", "value"), ("KEY1", "value1")])?;
         dotenvy::from_read(alloc, Bytes::new(input.as_bytes()), &mut environment)?;
         assert_eq!(rt; environment.get("KEY1").ok_or("absent")?, "value1");
@@ -76,10 +85,17 @@ fn byte_order_marks(rt: HostRuntime) -> Result<(), Fail> {
         ),
         (b"\xef\xbb", "io InvalidData:  | io InvalidData: "),
         (b"\xef\xbb\xbf", "ok:  | ok: "),
-        (b"\xef\xbb\xbf\xff\nB=2\n", "io InvalidData:  | io InvalidData: "),
+        (
+            b"\xef\xbb\xbf\xff\nB=2\n",
+            "io InvalidData:  | io InvalidData: ",
+        ),
     ];
     for (input, want) in rows {
-        assert_eq!(rt; loads(rt.alloc(), &[], input)?.as_str(), want, "at {input:?}");
+        assert_eq!(rt;
+            loads(rt.alloc(), &[], input)?.as_str(),
+            want,
+            "at {input:?}"
+        );
     }
     Ok(())
 }

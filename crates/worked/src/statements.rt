@@ -15,12 +15,22 @@ fn keys_and_their_values(rt: HostRuntime) -> Result<(), Fail> {
         ("KEY7=", "KEY7="),
         ("KEY8=     ", "KEY8="),
         ("KEY9=   # foo", "KEY9="),
-        ("KEY10  =\"whitespace before =\"", "KEY10=whitespace before ="),
-        ("KEY11=    \"whitespace after =\"", "KEY11=whitespace after ="),
+        (
+            "KEY10  =\"whitespace before =\"",
+            "KEY10=whitespace before =",
+        ),
+        (
+            "KEY11=    \"whitespace after =\"",
+            "KEY11=whitespace after =",
+        ),
         ("KEY.Value=VALUE", "KEY.Value=VALUE"),
     ] {
         let input = format!(in rt.alloc(); "{line}\n")?;
-        assert_eq!(rt; items(rt.alloc(), input.as_bytes())?.as_str(), want, "at {line:?}");
+        assert_eq!(rt;
+            items(rt.alloc(), input.as_bytes())?.as_str(),
+            want,
+            "at {line:?}"
+        );
     }
     Ok(())
 }
@@ -40,7 +50,11 @@ fn export_as_a_prefix_and_as_a_key(rt: HostRuntime) -> Result<(), Fail> {
         ("export A B=1", "fault at 9: export A B=1"),
     ] {
         let input = format!(in rt.alloc(); "{line}\n")?;
-        assert_eq!(rt; items(rt.alloc(), input.as_bytes())?.as_str(), want, "at {line:?}");
+        assert_eq!(rt;
+            items(rt.alloc(), input.as_bytes())?.as_str(),
+            want,
+            "at {line:?}"
+        );
     }
     Ok(())
 }
@@ -48,7 +62,10 @@ fn export_as_a_prefix_and_as_a_key(rt: HostRuntime) -> Result<(), Fail> {
 #[test]
 fn faults_before_the_value(rt: HostRuntime) -> Result<(), Fail> {
     for (input, want) in [
-        ("very bacon = yes indeed\n", "fault at 5: very bacon = yes indeed"),
+        (
+            "very bacon = yes indeed\n",
+            "fault at 5: very bacon = yes indeed",
+        ),
         ("  invalid    \n", "fault at 9:   invalid    "),
         ("=value", "fault at 0: =value"),
         (".Key=VALUE\n", "fault at 0: .Key=VALUE"),
@@ -58,7 +75,11 @@ fn faults_before_the_value(rt: HostRuntime) -> Result<(), Fail> {
             "fault at 9:   invalid    ; fault at 5: very bacon = yes indeed; fault at 0: =value",
         ),
     ] {
-        assert_eq!(rt; items(rt.alloc(), input.as_bytes())?.as_str(), want, "at {input:?}");
+        assert_eq!(rt;
+            items(rt.alloc(), input.as_bytes())?.as_str(),
+            want,
+            "at {input:?}"
+        );
     }
     Ok(())
 }

@@ -21,7 +21,11 @@ fn dollars(rt: HostRuntime) -> Result<(), Fail> {
         ("K=\"é$A\"", "fault at 5: \"é$A\""),
     ] {
         let input = format!(in rt.alloc(); "{line}\n")?;
-        assert_eq!(rt; items(rt.alloc(), input.as_bytes())?.as_str(), want, "at {line:?}");
+        assert_eq!(rt;
+            items(rt.alloc(), input.as_bytes())?.as_str(),
+            want,
+            "at {line:?}"
+        );
     }
     Ok(())
 }
@@ -35,7 +39,11 @@ fn quotes_and_escapes_around_names(rt: HostRuntime) -> Result<(), Fail> {
         ("KEY='>${KEY1}<>$KEY2<'", "KEY=>${KEY1}<>$KEY2<"),
     ] {
         let input = format!(in rt.alloc(); "{line}\n")?;
-        assert_eq!(rt; items(rt.alloc(), input.as_bytes())?.as_str(), want, "at {line:?}");
+        assert_eq!(rt;
+            items(rt.alloc(), input.as_bytes())?.as_str(),
+            want,
+            "at {line:?}"
+        );
     }
     Ok(())
 }
@@ -48,7 +56,10 @@ fn names_of_earlier_lines(rt: HostRuntime) -> Result<(), Fail> {
         ("A=1\nA=\nB=x$A\n", "A=1; A=; B=x"),
         ("KEY=test\nKEY1=\"${KEY}\"\n", "KEY=test; KEY1=test"),
         ("KEY=VALUE\nKEY1=$KEY$KEY\n", "KEY=VALUE; KEY1=VALUEVALUE"),
-        ("KEY=VALUE\nKEY1=>${KEY{<\n", "KEY=VALUE; fault at 7: >${KEY{<"),
+        (
+            "KEY=VALUE\nKEY1=>${KEY{<\n",
+            "KEY=VALUE; fault at 7: >${KEY{<",
+        ),
         (
             "KEY=${KEY1}+KEY_VALUE\nKEY1=${KEY}+KEY1_VALUE\n",
             "KEY=+KEY_VALUE; KEY1=+KEY_VALUE+KEY1_VALUE",
@@ -61,9 +72,16 @@ fn names_of_earlier_lines(rt: HostRuntime) -> Result<(), Fail> {
             "KEY1=test_user\nKEY2=$KEY1_2\nKEY=>${KEY1}<>${KEY2}<\n",
             "KEY1=test_user; KEY2=test_user_2; KEY=>test_user<>test_user_2<",
         ),
-        ("KEY2=$KEY1_2\nKEY=>${KEY1}<>${KEY2}<\n", "KEY2=_2; KEY=><>_2<"),
+        (
+            "KEY2=$KEY1_2\nKEY=>${KEY1}<>${KEY2}<\n",
+            "KEY2=_2; KEY=><>_2<",
+        ),
     ] {
-        assert_eq!(rt; items(rt.alloc(), input.as_bytes())?.as_str(), want, "at {input:?}");
+        assert_eq!(rt;
+            items(rt.alloc(), input.as_bytes())?.as_str(),
+            want,
+            "at {input:?}"
+        );
     }
     Ok(())
 }
@@ -104,7 +122,12 @@ fn another_environment_at_each_item(rt: HostRuntime) -> Result<(), Fail> {
 fn a_long_value_from_short_names(rt: HostRuntime) -> Result<(), Fail> {
     let alloc = rt.alloc();
     let letters = "a".repeat(alloc, 10_000)?;
-    let shown = items_under(alloc, &[("A", letters.as_str())], b"K=$A$A$A\n", Dialect::V15)?;
+    let shown = items_under(
+        alloc,
+        &[("A", letters.as_str())],
+        b"K=$A$A$A\n",
+        Dialect::V15,
+    )?;
     let want = format!(in alloc; "K={letters}{letters}{letters}")?;
     assert!(rt; shown.as_str() == want.as_str());
     Ok(())

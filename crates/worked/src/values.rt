@@ -16,7 +16,11 @@ fn quotes_and_what_follows_them(rt: HostRuntime) -> Result<(), Fail> {
         ("KEY=my uncool value", "fault at 3: my uncool value"),
     ] {
         let input = format!(in rt.alloc(); "{line}\n")?;
-        assert_eq!(rt; items(rt.alloc(), input.as_bytes())?.as_str(), want, "at {line:?}");
+        assert_eq!(rt;
+            items(rt.alloc(), input.as_bytes())?.as_str(),
+            want,
+            "at {line:?}"
+        );
     }
     Ok(())
 }
@@ -26,14 +30,21 @@ fn escapes(rt: HostRuntime) -> Result<(), Fail> {
     for (line, want) in [
         ("KEY=my\\ cool\\ value", "KEY=my cool value"),
         ("KEY2=\\$sweet", "KEY2=$sweet"),
-        ("KEY3=\"awesome stuff \\\"mang\\\"\"", "KEY3=awesome stuff \"mang\""),
+        (
+            "KEY3=\"awesome stuff \\\"mang\\\"\"",
+            "KEY3=awesome stuff \"mang\"",
+        ),
         ("KEY4='sweet $\\fgs'\\''fds'", "KEY4=sweet $\\fgs'fds"),
         ("KEY5=\"'\\\"yay\\\\\"\\ \"stuff\"", "KEY5='\"yay\\ stuff"),
         ("KEY6=\"lol\" #well you see when I say lol wh", "KEY6=lol"),
         ("KEY7=\"line 1\\nline 2\"", "KEY7=line 1\nline 2"),
     ] {
         let input = format!(in rt.alloc(); "{line}\n")?;
-        assert_eq!(rt; items(rt.alloc(), input.as_bytes())?.as_str(), want, "at {line:?}");
+        assert_eq!(rt;
+            items(rt.alloc(), input.as_bytes())?.as_str(),
+            want,
+            "at {line:?}"
+        );
     }
     Ok(())
 }
@@ -46,7 +57,11 @@ fn places_are_counted_in_characters(rt: HostRuntime) -> Result<(), Fail> {
         ("VALUE=>\\f<", "fault at 2: >\\f<"),
     ] {
         let input = format!(in rt.alloc(); "{line}\n")?;
-        assert_eq!(rt; items(rt.alloc(), input.as_bytes())?.as_str(), want, "at {line:?}");
+        assert_eq!(rt;
+            items(rt.alloc(), input.as_bytes())?.as_str(),
+            want,
+            "at {line:?}"
+        );
     }
     Ok(())
 }

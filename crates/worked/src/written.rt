@@ -48,7 +48,11 @@ fn a_list_is_listed_as_itself(rt: HostRuntime) -> Result<(), Fail> {
 #[test]
 fn nothing_is_written_of_a_file_with_a_fault(rt: HostRuntime) -> Result<(), Fail> {
     let mut writer = Plain::new(Vec::new(rt.alloc()));
-    let answer = dotenvy::list(rt.alloc(), CutReader::by_byte(b"A=1\n.B=2\nC=3\n"), &mut writer);
+    let answer = dotenvy::list(
+        rt.alloc(),
+        CutReader::by_byte(b"A=1\n.B=2\nC=3\n"),
+        &mut writer,
+    );
     assert!(rt; answer.is_err());
     let output: Vec<u8> = writer.into_inner();
     assert!(rt; output.is_empty());
