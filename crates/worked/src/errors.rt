@@ -23,29 +23,32 @@ fn nothing_was_found(rt: HostRuntime) -> Result<(), Fail> {
 #[test]
 fn texts(rt: HostRuntime) -> Result<(), Fail> {
     let alloc = rt.alloc();
-    let fault = io::Error::from(ErrorKind::PermissionDenied).to_string(alloc)?;
-    let rows: [(Error, &str); 5] = [
+    let line = String::from_str(alloc, "test line")?;
+    let key = String::from_str(alloc, "K")?;
+    let rows: [(Error, &str); 4] = [
         (
-            Error::LineParse(String::from_str(alloc, "test line")?, 2),
+            Error::LineParse(line, 2),
             "Error parsing line: 'test line', error at line index: 2",
-        ),
-        (
-            Error::Io(io::Error::from(ErrorKind::PermissionDenied)),
-            fault.as_str(),
         ),
         (
             Error::EnvVar(VarError::NotPresent),
             "environment variable not found",
         ),
-        (
-            Error::Nul(String::from_str(alloc, "K")?),
-            "value of 'K' contains a NUL",
-        ),
+        (Error::Nul(key), "value of 'K' contains a NUL"),
         (Error::Memory(AllocError), "out of memory"),
     ];
     for (error, want) in rows {
         assert_eq!(rt; error.to_string(alloc)?.as_str(), want);
     }
+    Ok(())
+}
+
+#[test]
+fn a_fault_inside_prints_as_itself(rt: HostRuntime) -> Result<(), Fail> {
+    let alloc = rt.alloc();
+    let want = io::Error::from(ErrorKind::PermissionDenied).to_string(alloc)?;
+    let error: Error = Error::Io(io::Error::from(ErrorKind::PermissionDenied));
+    assert_eq!(rt; error.to_string(alloc)?.as_str(), want.as_str());
     assert_eq!(rt;
         VarError::NotPresent.to_string(alloc)?.as_str(),
         "environment variable not found"

@@ -6,11 +6,11 @@ use std::alloc::{AllocError, Allocator, Global};
 use std::test::Fail;
 
 /// A fault: `fault at 3: TEXT` of a line, `io InvalidData`, or what else it prints.
-pub fn fault(alloc: Global, error: Error) -> std::result::Result<String, AllocError> {
+pub fn fault(alloc: Global, error: &Error) -> std::result::Result<String, AllocError> {
     match error {
         Error::LineParse(text, index) => format!(in alloc; "fault at {index}: {text}"),
         Error::Io(fault) => format!(in alloc; "io {:?}", fault.kind()),
-        _ => error.to_string(alloc),
+        Error::EnvVar(_) | Error::Nul(_) | Error::Memory(_) => error.to_string(alloc),
     }
 }
 
@@ -18,7 +18,7 @@ pub fn fault(alloc: Global, error: Error) -> std::result::Result<String, AllocEr
 pub fn answer(alloc: Global, answer: Result<()>) -> std::result::Result<String, AllocError> {
     match answer {
         Ok(()) => String::from_str(alloc, "ok"),
-        Err(error) => fault(alloc, error),
+        Err(error) => fault(alloc, &error),
     }
 }
 
@@ -61,7 +61,7 @@ pub fn items_of<R: Source + Drop>(
     for item in entries.items(environment) {
         let text = match item {
             Ok((key, value)) => format!(in alloc; "{key}={value}")?,
-            Err(error) => fault(alloc, error)?,
+            Err(error) => fault(alloc, &error)?,
         };
         shown.push(text)?;
     }
