@@ -23,6 +23,11 @@ pub mod SayLine
 pub mod NextEntries
 pub mod WorkedFiles
 pub mod SearchOnce
+pub mod WordsOnce
+pub mod CallRows
+mod RememberedMaps
 pub mod WorkedSearches
 mod TextMaps
+mod Writing
+mod Keys
 pub mod Keys

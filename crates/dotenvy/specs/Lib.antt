@@ -16,7 +16,9 @@ pub mod Decided
 pub mod Search
 pub mod Errors
 pub mod Source
+pub mod Sent
 pub mod Environment
+pub mod Remembered
 pub mod Laws
 pub mod WorkedFiles
 pub mod WorkedLoads
