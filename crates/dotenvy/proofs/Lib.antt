@@ -23,8 +23,7 @@ pub mod NextEntries
 pub mod RawLines
 pub mod FileRows
 pub mod SearchOnce
-pub mod WordsOnce
-pub mod CallRows
 mod RememberedMaps
+pub mod Slices
 pub mod WorkedSearches
 mod TextMaps

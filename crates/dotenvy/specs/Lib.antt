@@ -18,6 +18,9 @@ pub mod Errors
 pub mod Source
 pub mod Environment
 pub mod Remembered
+pub mod Slices
+pub mod ReadValue
+pub mod ParseStatement
 pub mod Laws
 pub mod FileRows
 pub mod WorkedSearches

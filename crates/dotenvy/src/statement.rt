@@ -1,5 +1,9 @@
 // A line up to what is assigned: white space, `export` where it is a prefix, a key and `=`.
-use crate::text::{begins_key, is_key_character, split_while};
+ghost use Rattle.std.specs.Prelude.{◌≡◌};
+ghost use Rattle.std.specs.Str.{chars};
+ghost use Rattle.dotenvy.specs.ParseStatement.{key_then, equals_then, after_equals, after_plain_key, second_key, after_first_key, parse, Parsed, parsed_of, keyed_of, assigned_of};
+
+use crate::text::{Class, begins_key, split_first, split_while};
 
 /// A key and what is assigned to it, as slices of the line.
 #[derive(Clone, Copy)]
@@ -12,33 +16,44 @@ pub(crate) struct Statement<'a> {
 type Parsed<'a> = std::result::Result<Statement<'a>, &'a str>;
 
 // The key that the text begins with, and what follows it.
-fn split_key(text: &str) -> std::result::Result<(&str, &str), &str> {
-    if text.starts_with(begins_key) {
-        Ok(split_while(text, is_key_character))
-    } else {
-        Err(text)
+fn split_key(text: &str) -> std::result::Result<(&str, &str), &str>
+    ensures { (next : _) → keyed_of result next ≡ key_then (chars text.now) next }
+{
+    match split_first(text) {
+        Some((first, _)) if begins_key(first) => Ok(split_while(text, Class::Key)),
+        _ => Err(text),
     }
 }
 
 // What is assigned to the key, where `=` stands next.
-fn assigned<'a>(key: &'a str, left: &'a str) -> Option<Statement<'a>> {
-    let rest = left.strip_prefix('=')?;
-    Some(Statement {
-        key,
-        rest: rest.trim_start(),
-    })
+fn assigned<'a>(key: &'a str, left: &'a str) -> Option<Statement<'a>>
+    ensures { (other : Parsed) → assigned_of result other ≡ equals_then (chars left.now) (after_equals (chars key.now)) other }
+{
+    match split_first(left) {
+        Some(('=', rest)) => Some(Statement {
+            key,
+            rest: rest.trim_start(),
+        }),
+        _ => None,
+    }
 }
 
-fn after_key<'a>(key: &'a str, left: &'a str) -> Parsed<'a> {
+fn after_key<'a>(key: &'a str, left: &'a str) -> Parsed<'a>
+    ensures { parsed_of result ≡ after_plain_key (chars key.now) (chars left.now) }
+{
     assigned(key, left).ok_or(left)
 }
 
-fn after_prefix(left: &str) -> Parsed<'_> {
+fn after_prefix(left: &str) -> Parsed<'_>
+    ensures { parsed_of result ≡ second_key (chars left.now) }
+{
     let (key, after) = split_key(left)?;
     after_key(key, after.trim_start())
 }
 
-fn after_first_key<'a>(key: &'a str, left: &'a str) -> Parsed<'a> {
+fn after_first_key<'a>(key: &'a str, left: &'a str) -> Parsed<'a>
+    ensures { parsed_of result ≡ after_first_key (chars key.now) (chars left.now) }
+{
     match assigned(key, left) {
         Some(statement) => Ok(statement),
         None => {
@@ -52,7 +67,9 @@ fn after_first_key<'a>(key: &'a str, left: &'a str) -> Parsed<'a> {
 }
 
 /// The statement of a line without white space at its end, or what is left of the line where no statement goes on.
-pub(crate) fn split_statement(line: &str) -> Parsed<'_> {
+pub(crate) fn split_statement(line: &str) -> Parsed<'_>
+    ensures { parsed_of result ≡ parse (chars line.now) }
+{
     let (key, after) = split_key(line.trim_start())?;
     after_first_key(key, after.trim_start())
 }
