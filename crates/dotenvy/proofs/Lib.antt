@@ -25,5 +25,6 @@ pub mod FileRows
 pub mod SearchOnce
 mod RememberedMaps
 pub mod Slices
+pub mod StatementParts
 pub mod WorkedSearches
 mod TextMaps

@@ -5,13 +5,13 @@ use Rattle.std.specs.Char.{encode_utf8}
 use Rattle.std.specs.List.{list_all}
 use Rattle.std.specs.Str.{chars, IsUtf8, IsCharBoundary, NonePass, NoCharPasses}
 use Rattle.std.specs.Str.Pattern.{HasPassingCharAt}
-use Rattle.std.proofs.lemmas.Str.{chars-nil, chars_past_char, chars-append, chars_from_encodes, IsUtf8-take, IsUtf8-drop}
+use Rattle.std.proofs.lemmas.Str.{chars-nil, chars_past_char, chars-append, chars_from_encodes, IsUtf8-take, IsUtf8-drop, IsUtf8-past_char}
 use Rattle.std.proofs.lemmas.List.{take-append-drop, append-nil}
 use Rattle.dotenvy.proofs.Cuts.{both}
 use Rattle.dotenvy.specs.Slices.{BeginsWith, IsSpan, begins_passing}
 
 pub begins_with_first : (text rest : List ℕ) (c : ℕ) → IsUtf8 text → text ≡ encode_utf8 c ++ rest → BeginsWith text c rest
-begins_with_first text rest c u h = record { bytes = h; characters = chars_past_char text rest c u h }
+begins_with_first text rest c u h = record { bytes = h; follows = IsUtf8-past_char text rest c u h; characters = chars_past_char text rest c u h }
 
 pub no_characters : (text : List ℕ) → text ≡ [] → chars text ≡ []
 no_characters text h = ap chars h ∙ chars-nil

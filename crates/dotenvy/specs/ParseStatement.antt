@@ -38,25 +38,32 @@ after_equals key text = assigns key (skip_leading_whitespace text)
 abbrev pub after_plain_key : List ℕ → List ℕ → Parsed
 after_plain_key key left = equals_then left (after_equals key) (fails left)
 
+-- go on after white space
+abbrev pub skipping : (List ℕ → List ℕ → Parsed) → List ℕ → List ℕ → Parsed
+skipping next key after = next key (skip_leading_whitespace after)
+
 -- the key after a prefix
 abbrev pub second_key : List ℕ → Parsed
-second_key left = key_then left (λ key after. after_plain_key key (skip_leading_whitespace after))
+second_key left = key_then left (skipping after_plain_key)
 
 -- after the first key, which may be a prefix
 abbrev pub after_first_key : List ℕ → List ℕ → Parsed
 after_first_key key left = cond (bytes_eq key export) (equals_then left (after_equals key) (second_key left)) (after_plain_key key left)
 
 abbrev pub parse : List ℕ → Parsed
-parse line = key_then (skip_leading_whitespace line) (λ key after. after_first_key key (skip_leading_whitespace after))
+parse line = key_then (skip_leading_whitespace line) (skipping after_first_key)
 
+-- a statement, or what is left at the fault
 abbrev pub parsed_of : Result Statement (Bor (List ℕ)) → Parsed
 parsed_of (Ok statement) = assigns (chars statement.key.now) (chars statement.rest.now)
 parsed_of (Err left) = fails (chars left.now)
 
+-- what is assigned, where `=` stood next
 abbrev pub assigned_of : Option Statement → Parsed → Parsed
 assigned_of (Some statement) other = assigns (chars statement.key.now) (chars statement.rest.now)
 assigned_of None other = other
 
+-- go on after the key, where there was one
 abbrev pub keyed_of : Result (Bor (List ℕ) × Bor (List ℕ)) (Bor (List ℕ)) → (List ℕ → List ℕ → Parsed) → Parsed
 keyed_of (Ok cut) next = next (chars cut.0.now) (chars cut.1.now)
 keyed_of (Err left) next = fails (chars left.now)

@@ -2,7 +2,7 @@
 use Rattle.std.specs.Prelude.{ℕ, ◌≡◌, Bool, true, false, not, List, [], ◌∷◌, ◌++◌, IsTrue}
 use Rattle.std.specs.Char.{encode_utf8}
 use Rattle.std.specs.List.{list_all}
-use Rattle.std.specs.Str.{chars}
+use Rattle.std.specs.Str.{chars, IsUtf8}
 use Rattle.dotenvy.specs.declared.text.Class.{Class}
 use Rattle.dotenvy.specs.declared.text.Class.TheVariants.{Key, Name, Unquoted, DoubleQuoted, SpaceOrTab}
 use Rattle.dotenvy.specs.Characters.{continues_key, is_name_character, is_space_or_tab}
@@ -19,6 +19,7 @@ has_character SpaceOrTab c = is_space_or_tab c
 -- the text begins with this character, and the rest follows it
 pub record BeginsWith (text : List ℕ) (c : ℕ) (rest : List ℕ) : Type 0 where
   pub bytes : text ≡ encode_utf8 c ++ rest
+  pub follows : IsUtf8 rest
   pub characters : chars text ≡ c ∷ chars rest
 
 -- the first character of a text passes the test

@@ -1,6 +1,6 @@
 // Texts cut at characters, and the classes of characters.
 ghost use Rattle.std.specs.Prelude.{◌≡◌, ◌++◌, [], MatchOption};
-ghost use Rattle.std.specs.Str.{chars};
+ghost use Rattle.std.specs.Str.{chars, IsUtf8};
 ghost use Rattle.unicode.specs.GeneralCategory.{general_category, general_category_number};
 ghost use Rattle.dotenvy.specs.Characters.{begins_key, continues_key, is_number_category, allows_underscore, is_name_character, is_empty_or_comment};
 ghost use Rattle.dotenvy.specs.Slices.{BeginsWith, IsSpan, has_character};
@@ -99,6 +99,7 @@ pub(crate) fn is_empty_or_comment(text: &str) -> bool
 /// The longest front of characters of the class, and what follows it.
 pub(crate) fn split_while(text: &str, class: Class) -> (&str, &str)
     ensures bytes { text.now ≡ result.0.now ++ result.1.now }
+    ensures texts { IsUtf8 result.0.now × IsUtf8 result.1.now }
     ensures span { IsSpan (has_character class) (chars text.now) (chars result.0.now) (chars result.1.now) }
 {
     match text.find(|c| !class.contains(c)) {
