@@ -23,6 +23,9 @@ pub mod SayLine
 pub mod NextEntries
 pub mod WorkedFiles
 pub mod SearchOnce
+mod RememberedMaps
+pub mod Slices
+pub mod StatementParts
 pub mod WorkedSearches
 mod TextMaps
 pub mod Keys

@@ -17,6 +17,10 @@ pub mod Search
 pub mod Errors
 pub mod Source
 pub mod Environment
+pub mod Remembered
+pub mod Slices
+pub mod ReadValue
+pub mod ParseStatement
 pub mod Laws
 pub mod WorkedFiles
 pub mod WorkedLoads

@@ -5,7 +5,12 @@ mod dialect;
 mod environment;
 mod errors;
 pub mod laws;
+mod parse;
+mod remembered;
 mod source;
+mod statement;
+mod text;
+mod value;
 
 pub use dialect::Dialect;
 pub use environment::{Environment, is_key, is_name};
