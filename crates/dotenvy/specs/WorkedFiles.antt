@@ -54,7 +54,7 @@ HaveLines =
     -- a blank at the end of the input asks for one more character; a pair of blanks does not
     × HasEntries V15 (file "K=1 ") (fault_in "K=1 " 4 ∷ [])
     × HasEntries V15 (file "K=1  ") (declares "K" (text_of "1" ∷ []) ∷ [])
-    -- a broken line ends the quotes before it, and is broken also in a comment
+    -- a broken line takes the open text before it along; it is broken also where the byte stands in a comment
     × HasEntries V15 (file "A=\"x\n" ++ broken_byte ++ file "\nB=2\n") (broken_line ∷ declares "B" (text_of "2" ∷ []) ∷ [])
     × HasEntries V15 (file "A=1 # " ++ broken_byte ++ file "\nB=2\n") (broken_line ∷ declares "B" (text_of "2" ∷ []) ∷ [])
     -- a backslash before a line feed does not join lines: it stands alone at the end of the value, where it means nothing
@@ -69,6 +69,7 @@ HaveLines =
 -- keys, `export`, and lines without a statement
 abbrev pub HaveStatements : Type 0
 HaveStatements =
+    -- white space may stand before the key and round the `=`; a comment or an empty line says nothing
     HasEntries V15 (file "  _b.C \t= 1\n# c\n\n") (declares "_b.C" (text_of "1" ∷ []) ∷ [])
     -- `export` before a key is a prefix, else it is a key
     × HasEntries V15 (file "export\nexport=1\nexport export=1\nexport A\n") (fault_in "export" 6 ∷ declares "export" (text_of "1" ∷ []) ∷ declares "export" (text_of "1" ∷ []) ∷ fault_in "export A" 8 ∷ [])
