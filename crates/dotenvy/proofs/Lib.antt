@@ -24,6 +24,9 @@ pub mod NextEntries
 pub mod WorkedFiles
 pub mod SearchOnce
 pub mod RememberedMaps
+mod RememberedMaps
+pub mod Slices
+pub mod StatementParts
 pub mod WorkedSearches
 pub mod TextMaps
 pub mod Writing

@@ -19,6 +19,9 @@ pub mod Source
 pub mod Sent
 pub mod Environment
 pub mod Remembered
+pub mod Slices
+pub mod ReadValue
+pub mod ParseStatement
 pub mod Laws
 pub mod WorkedFiles
 pub mod WorkedLoads

@@ -1,6 +1,6 @@
 // What is assigned, read piece by piece.
 use crate::dialect::Dialect;
-use crate::text::{is_empty_or_comment, is_name_character, split_first, split_while};
+use crate::text::{Class, is_empty_or_comment, split_first, split_while};
 
 /// What a part of a value means.
 #[derive(Clone, Copy)]
@@ -13,8 +13,8 @@ pub(crate) enum Piece<'a> {
 /// Whether a part stands in double quotes.
 #[derive(Clone, Copy, PartialEq, Eq)]
 pub(crate) enum Quoting {
-    Outside,
-    Double,
+    Unquoted,
+    DoubleQuoted,
 }
 
 /// The pieces of a value, each a slice of it.
@@ -29,30 +29,19 @@ pub(crate) struct Pieces<'a> {
 // value lacks its end.
 type NextPiece<'a> = Option<std::result::Result<Piece<'a>, &'a str>>;
 
-fn is_plain(quoting: Quoting, c: char) -> bool {
-    match quoting {
-        Quoting::Outside => !matches!(c, '\\' | '\'' | '"' | '$' | ' ' | '\t'),
-        Quoting::Double => !matches!(c, '\\' | '"' | '$'),
-    }
-}
-
 // The character after a bare name is no text of its own: it begins a substitution, or closes the quotes.
 fn is_left_by_name(dialect: Dialect, quoting: Quoting, c: char) -> bool {
     match (dialect, quoting) {
-        (Dialect::Next, Quoting::Double) => matches!(c, '$' | '"'),
+        (Dialect::Next, Quoting::DoubleQuoted) => matches!(c, '$' | '"'),
         _ => c == '$',
     }
-}
-
-fn is_space_or_tab(c: char) -> bool {
-    matches!(c, ' ' | '\t')
 }
 
 impl<'a> Pieces<'a> {
     pub(crate) fn new(value: &'a str, dialect: Dialect) -> Pieces<'a> {
         Pieces {
             rest: value,
-            quoting: Quoting::Outside,
+            quoting: Quoting::Unquoted,
             dialect,
         }
     }
@@ -66,14 +55,18 @@ impl<'a> Pieces<'a> {
     // The text ends here.
     fn end(&self) -> NextPiece<'a> {
         match self.quoting {
-            Quoting::Outside => None,
-            Quoting::Double => Some(Err("")),
+            Quoting::Unquoted => None,
+            Quoting::DoubleQuoted => Some(Err("")),
         }
     }
 
+    // The longest front of characters that mean themselves.
     fn plain(&mut self) -> NextPiece<'a> {
-        let quoting = self.quoting;
-        let (text, rest) = split_while(self.rest, |c| is_plain(quoting, c));
+        let class = match self.quoting {
+            Quoting::Unquoted => Class::Unquoted,
+            Quoting::DoubleQuoted => Class::DoubleQuoted,
+        };
+        let (text, rest) = split_while(self.rest, class);
         self.give(Piece::Text(text), rest)
     }
 
@@ -104,8 +97,8 @@ impl<'a> Pieces<'a> {
     // What follows a double quote.
     fn double_quote(&mut self, rest: &'a str) -> NextPiece<'a> {
         self.quoting = match self.quoting {
-            Quoting::Outside => Quoting::Double,
-            Quoting::Double => Quoting::Outside,
+            Quoting::Unquoted => Quoting::DoubleQuoted,
+            Quoting::DoubleQuoted => Quoting::Unquoted,
         };
         self.give(Piece::Text(""), rest)
     }
@@ -120,15 +113,14 @@ impl<'a> Pieces<'a> {
 
     // What follows `$` without a brace.
     fn bare(&mut self, left: &'a str) -> NextPiece<'a> {
-        let dialect = self.dialect;
-        let (name, rest) = split_while(left, |c| is_name_character(dialect, c));
+        let (name, rest) = split_while(left, Class::Name(self.dialect));
         match split_first(rest) {
             None => match self.quoting {
-                Quoting::Outside => self.give(Piece::Name { name, after: "" }, rest),
-                Quoting::Double => Some(Err("")),
+                Quoting::Unquoted => self.give(Piece::Name { name, after: "" }, rest),
+                Quoting::DoubleQuoted => Some(Err("")),
             },
             Some((c, more)) => {
-                if is_left_by_name(dialect, self.quoting, c) {
+                if is_left_by_name(self.dialect, self.quoting, c) {
                     self.give(Piece::Name { name, after: "" }, rest)
                 } else {
                     let (after, _) = rest.split_at(rest.len() - more.len());
@@ -140,15 +132,15 @@ impl<'a> Pieces<'a> {
 
     // What follows `$`.
     fn substitution(&mut self, left: &'a str) -> NextPiece<'a> {
-        match left.strip_prefix('{') {
-            Some(name) => self.braced(name),
-            None => self.bare(left),
+        match split_first(left) {
+            Some(('{', name)) => self.braced(name),
+            _ => self.bare(left),
         }
     }
 
     // What follows a space or tab outside quotes.
     fn tail(&self, left: &'a str) -> NextPiece<'a> {
-        let (_, comment) = split_while(left, is_space_or_tab);
+        let (_, comment) = split_while(left, Class::SpaceOrTab);
         if is_empty_or_comment(comment) {
             None
         } else {
@@ -180,8 +172,8 @@ impl<'a> Pieces<'a> {
         match split_first(self.rest) {
             None => self.end(),
             Some((first, left)) => match self.quoting {
-                Quoting::Outside => self.outside(first, left),
-                Quoting::Double => self.in_double_quotes(first, left),
+                Quoting::Unquoted => self.outside(first, left),
+                Quoting::DoubleQuoted => self.in_double_quotes(first, left),
             },
         }
     }
