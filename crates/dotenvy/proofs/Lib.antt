@@ -24,7 +24,6 @@ pub mod NextEntries
 pub mod WorkedFiles
 pub mod SearchOnce
 pub mod RememberedMaps
-mod RememberedMaps
 pub mod Slices
 pub mod StatementParts
 pub mod WorkedSearches

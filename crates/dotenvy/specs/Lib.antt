@@ -1,9 +1,12 @@
 pub mod Characters
+pub mod Slices
 pub mod PhysicalLines
 pub mod Tokens
 pub mod LogicalLine
 pub mod Statement
+pub mod ParseStatement
 pub mod Value
+pub mod ReadValue
 pub mod Places
 pub mod Line
 pub mod Entries
@@ -19,9 +22,6 @@ pub mod Source
 pub mod Sent
 pub mod Environment
 pub mod Remembered
-pub mod Slices
-pub mod ReadValue
-pub mod ParseStatement
 pub mod Laws
 pub mod WorkedFiles
 pub mod WorkedLoads
