@@ -30,3 +30,7 @@ pub mod WorkedSearches
 pub mod TextMaps
 pub mod Writing
 pub mod Keys
+pub mod WordsOnce
+pub mod CallRows
+pub mod Inputs
+mod TextMaps

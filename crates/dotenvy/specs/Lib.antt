@@ -3,6 +3,7 @@ pub mod Slices
 pub mod PhysicalLines
 pub mod Tokens
 pub mod LogicalLine
+pub mod LineModes
 pub mod Statement
 pub mod ParseStatement
 pub mod Value
@@ -20,6 +21,7 @@ pub mod Search
 pub mod Errors
 pub mod Source
 pub mod Sent
+pub mod Input
 pub mod Environment
 pub mod Remembered
 pub mod Laws
