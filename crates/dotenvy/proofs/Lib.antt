@@ -30,7 +30,4 @@ pub mod WorkedSearches
 pub mod TextMaps
 pub mod Writing
 pub mod Keys
-pub mod WordsOnce
-pub mod CallRows
 pub mod Inputs
-mod TextMaps

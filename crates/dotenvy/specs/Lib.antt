@@ -21,9 +21,9 @@ pub mod Search
 pub mod Errors
 pub mod Source
 pub mod Sent
-pub mod Input
 pub mod Environment
 pub mod Remembered
+pub mod Input
 pub mod Laws
 pub mod WorkedFiles
 pub mod WorkedLoads
