@@ -27,3 +27,4 @@ pub mod WordsOnce
 pub mod CallRows
 mod TextMaps
 pub mod Keys
+pub mod Nuls
