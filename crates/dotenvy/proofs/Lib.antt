@@ -31,3 +31,4 @@ pub mod TextMaps
 pub mod Writing
 pub mod Keys
 pub mod Inputs
+pub mod Nuls
