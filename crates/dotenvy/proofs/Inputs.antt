@@ -1,8 +1,8 @@
 -- Reads, and the first lines of bytes.
-use Rattle.std.proofs.Common.{◌≡◌, ◌≢◌, ℕ, suc, ◌+◌, ◌-◌, ◌<◌, ◌≤◌, Bool, true, false, cond, not, ◌&&◌, eqb, List, [], ◌∷◌, ◌++◌, length, take, drop, refl, sym, ◌∙◌, ap, subst, inl, inr, append-nil, append_assoc, ◌⊎◌, arith, nat_lt, position, length-append, length-drop}
-use Rattle.std.specs.Prelude.{Option, Some, None, Result, Ok, Err, unwrap_or, ◌==◌}
+use Rattle.std.proofs.Common.{◌≡◌, ℕ, suc, ◌+◌, ◌<◌, ◌≤◌, Bool, true, false, cond, not, ◌&&◌, List, [], ◌∷◌, ◌++◌, length, take, drop, refl, sym, ◌∙◌, ap, subst, inl, inr, append-nil, append_assoc, ◌⊎◌, arith, nat_lt, position, length-append, length-drop}
+use Rattle.std.specs.Prelude.{Option, Some, None, unwrap_or, ◌==◌}
 use Rattle.std.proofs.lemmas.Option.{none-some}
-use Rattle.std.specs.List.{position_or_len, list_all}
+use Rattle.std.specs.List.{position_or_len}
 use Rattle.std.proofs.lemmas.Grind.{common_steps}
 use Rattle.std.proofs.lemmas.Bool.{ltb-true, ltb-false}
 use Rattle.std.proofs.lemmas.Bool.Decides.{nat_tests}
@@ -208,15 +208,16 @@ reading_ends a s t line r zero all =
 reading_told : (a : Ahead) (s t : InputState) (line : List ℕ) → IsTold s.left a → (r : Reading a s line t) → IsTold t.left (ahead_of r.left a.fault)
 reading_told a s t line told r = (r.is_left, told.1)
 
-pub fits_more : (a b : Ahead) (s t v : InputState) → ReadsFit a s b t → ReadsFit b t b v → ReadsFit a s b v
-fits_more a b s t v f g = omega (arith, f, g)
+-- the reads of one step after another
+pub fits_more : (a b d : Ahead) (s t v : InputState) → ReadsFit a s b t → ReadsFit b t d v → ReadsFit a s d v
+fits_more a b d s t v f g = omega (arith, f, g)
 
 pub reading_more : (a : Ahead) (s t v : InputState) (line : List ℕ) → IsTold s.left a → Reading a s line t → ((b : Ahead) → IsTold t.left b → (v.left ≡ Some b) × ReadsFit b t b v) → Reading a s line v
 reading_more a s t v line told r more =
     let m = more (ahead_of r.left a.fault) (reading_told a s t line told r) in
-    record { left = r.left; joins = r.joins; is_left = m.0; none = r.none; reads = fits_more a (ahead_of r.left a.fault) s t v r.reads m.1 }
+    record { left = r.left; joins = r.joins; is_left = m.0; none = r.none; reads = fits_more a (ahead_of r.left a.fault) (ahead_of r.left a.fault) s t v r.reads m.1 }
 
-bound_before : (a b : Ahead) (s t : InputState) (x : IoError) → ReadsFit a s b t → BoundIsMet b t x → BoundIsMet a s x
+pub bound_before : (a b : Ahead) (s t : InputState) (x : IoError) → ReadsFit a s b t → BoundIsMet b t x → BoundIsMet a s x
 bound_before a b s t x fits met = (met.0, let m = met.1 in omega (arith, fits, m))
 
 pub reading_fails : {A : Type 0} (a : Ahead) (s t : InputState) (line : List ℕ) (e : Error A) → IsTold s.left a → Reading a s line t → t.unread ≡ 0 → ((b : Ahead) → IsTold t.left b → IsFinal b t (length b.bytes ≡ t.unread) e) → IsFinal a s (no_line_feed a.bytes ≡ true) e

@@ -32,3 +32,5 @@ pub mod Writing
 pub mod Keys
 pub mod Inputs
 pub mod Nuls
+pub mod LineTexts
+pub mod LineJoins

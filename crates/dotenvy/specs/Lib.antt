@@ -4,6 +4,7 @@ pub mod PhysicalLines
 pub mod Tokens
 pub mod LogicalLine
 pub mod LineModes
+pub mod JoinedLines
 pub mod Statement
 pub mod ParseStatement
 pub mod Value
@@ -24,6 +25,7 @@ pub mod Sent
 pub mod Environment
 pub mod Remembered
 pub mod Input
+pub mod Lines
 pub mod Laws
 pub mod WorkedFiles
 pub mod WorkedLoads

@@ -1,6 +1,6 @@
-use Rattle.std.proofs.Common.{arith, sym, ap, ◌∙◌, ◌≡◌, Bool, true, false, cond}
+use Rattle.std.proofs.Common.{arith, sym, ap, ◌∙◌, ◌≡◌, cond}
 use Rattle.std.proofs.lemmas.Result.{err_from_is_err_and}
-use Rattle.dotenvy.specs.Input.{InputState, used_up}
+use Rattle.dotenvy.specs.Input.{used_up}
 use Rattle.dotenvy.proofs.Inputs.{fits_more, deciding_fails, deciding_done}
 use Rattle.dotenvy.proofs.input.Input.drop_mark.Goals as goal
 use Rattle.dotenvy.proofs.input.Input.drop_mark.Goals.{then-is_at_mark, else-is_at_mark}
@@ -11,7 +11,7 @@ deciding-preserved g c = (
   λ a told.
       let i = c.deciding.invariant.1 a told in
       let m = c.in_ok-read_more.ensures.told a (i.0, told.1) in
-      (m.0, fits_more a a c.args.self.now c.deciding.self c.read_more.new.self i.1 m.1),
+      (m.0, fits_more a a a c.args.self.now c.deciding.self c.read_more.new.self i.1 m.1),
 )
 
 pub returns-in_err-read_more-clause-told : goal.returns-in_err-read_more-clause-told

@@ -1,4 +1,4 @@
-use Rattle.std.proofs.Common.{rules, arith, refl, sym, ap, subst, ◌∙◌, ◌≡◌, ◌-◌, length, drop, length-drop, vec_len}
+use Rattle.std.proofs.Common.{rules, arith, refl, sym, ap, ◌∙◌, ◌≡◌, ◌-◌, length, drop, length-drop, vec_len}
 use Rattle.std.proofs.lemmas.Result.{err_from_is_err_and}
 use Rattle.dotenvy.specs.Input.{InputState, left_of}
 use Rattle.dotenvy.proofs.Inputs.{read_more_fails, read_more_gives}
