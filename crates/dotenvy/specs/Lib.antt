@@ -26,6 +26,7 @@ pub mod Environment
 pub mod Remembered
 pub mod Input
 pub mod Lines
+pub mod Iter
 pub mod Laws
 pub mod WorkedFiles
 pub mod WorkedLoads
