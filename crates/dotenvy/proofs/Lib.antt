@@ -26,5 +26,6 @@ pub mod SearchOnce
 mod RememberedMaps
 pub mod Slices
 pub mod StatementParts
+pub mod NextPiece
 pub mod WorkedSearches
 mod TextMaps

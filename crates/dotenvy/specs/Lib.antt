@@ -21,6 +21,7 @@ pub mod Remembered
 pub mod Slices
 pub mod ReadValue
 pub mod ParseStatement
+pub mod NextPiece
 pub mod Laws
 pub mod FileRows
 pub mod WorkedSearches

@@ -4,8 +4,8 @@ use crate::environment::Environment;
 use crate::errors::{Error, Result};
 use crate::remembered::{Remembered, recall, remember};
 use crate::statement::split_statement;
-use crate::text::is_empty_or_comment;
-use crate::value::{Piece, Pieces};
+use crate::text::{Quoting, is_empty_or_comment};
+use crate::value::{Piece, next_piece};
 use std::alloc::Allocator;
 
 pub(crate) type Pair<A> = (String<A>, String<A>);
@@ -28,17 +28,34 @@ impl<'a, A: Allocator> Names<'a, A> {
         }
     }
 
+    fn piece_len(&self, piece: Piece<'_>) -> usize {
+        match piece {
+            Piece::Text(text) => text.len(),
+            Piece::Name { name, after } => self.look_up(name).len().saturating_add(after.len()),
+        }
+    }
+
+    fn push_piece(&self, meaning: &mut String<A>, piece: Piece<'_>) -> Result<(), A> {
+        match piece {
+            Piece::Text(text) => meaning.push_str(text)?,
+            Piece::Name { name, after } => {
+                meaning.push_str(self.look_up(name))?;
+                meaning.push_str(after)?;
+            }
+        }
+        Ok(())
+    }
+
     // How many bytes the value means, or the greatest `usize` where that is less; or what is left of the value at its fault.
     fn measure<'b>(&self, value: &'b str, dialect: Dialect) -> std::result::Result<usize, &'b str> {
         let mut len: usize = 0;
-        let mut pieces = Pieces::new(value, dialect);
-        while let Some(piece) = pieces.next() {
-            len = match piece? {
-                Piece::Text(text) => len.saturating_add(text.len()),
-                Piece::Name { name, after } => len
-                    .saturating_add(self.look_up(name).len())
-                    .saturating_add(after.len()),
-            };
+        let mut rest = value;
+        let mut quoting = Quoting::Unquoted;
+        while let Some(next) = next_piece(rest, quoting, dialect) {
+            let given = next?;
+            len = len.saturating_add(self.piece_len(given.piece));
+            rest = given.rest;
+            quoting = given.quoting;
         }
         Ok(len)
     }
@@ -46,15 +63,12 @@ impl<'a, A: Allocator> Names<'a, A> {
     // The meaning of a value that was measured.
     fn expand(&self, alloc: A, value: Value<'_>, dialect: Dialect) -> Result<String<A>, A> {
         let mut meaning = String::with_capacity(alloc, value.len)?;
-        let mut pieces = Pieces::new(value.text, dialect);
-        while let Some(Ok(piece)) = pieces.next() {
-            match piece {
-                Piece::Text(text) => meaning.push_str(text)?,
-                Piece::Name { name, after } => {
-                    meaning.push_str(self.look_up(name))?;
-                    meaning.push_str(after)?;
-                }
-            }
+        let mut rest = value.text;
+        let mut quoting = Quoting::Unquoted;
+        while let Some(Ok(given)) = next_piece(rest, quoting, dialect) {
+            self.push_piece(&mut meaning, given.piece)?;
+            rest = given.rest;
+            quoting = given.quoting;
         }
         Ok(meaning)
     }
