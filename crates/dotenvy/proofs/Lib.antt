@@ -27,5 +27,6 @@ mod RememberedMaps
 pub mod Slices
 pub mod StatementParts
 pub mod NextPiece
+pub mod Meanings
 pub mod WorkedSearches
 mod TextMaps

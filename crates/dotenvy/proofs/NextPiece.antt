@@ -13,7 +13,8 @@ use Rattle.dotenvy.specs.declared.text.Quoting.TheVariants.{Unquoted, DoubleQuot
 use Rattle.dotenvy.specs.declared.value.Kind.{Kind}
 use Rattle.dotenvy.specs.declared.value.Kind.TheVariants.{Backslash, SingleQuote, DoubleQuote, Dollar, SpaceOrTab, Plain}
 use Rattle.dotenvy.specs.declared.value.Piece.TheVariants.{Text as CodeText, Name as CodeName}
-use Rattle.dotenvy.specs.declared.value.Given.{Given}
+use Rattle.dotenvy.specs.declared.value.NextPiece.{NextPiece}
+use Rattle.dotenvy.specs.declared.value.NextPiece.TheVariants.{Piece as GivesNext, End, Fault}
 use Rattle.dotenvy.specs.Characters.{single_quote, double_quote, dollar, backslash, left_brace, right_brace, hash, is_space_or_tab, is_name_character, is_empty_or_comment, begins_with}
 use Rattle.dotenvy.specs.Slices.{quoting_of, IsSpan, begins_passing}
 use Rattle.dotenvy.specs.Value.{Quoting, unquoted, double_quoted, Piece, Text, Name, is_plain, is_escape, is_left_by_name, escape_meaning}
@@ -67,18 +68,18 @@ stop_after dialect m n text left rest p a b = record {
 }
 
 -- what comes next after characters that complete no piece
-pub next_after : (dialect : Dialect) (m n : Mode) (text left : List ℕ) (result : _) → IsReadTo dialect m text [] n left → NextIs dialect n left result → NextIs dialect m text result
-next_after dialect m n text left None a h = a.reads ∙ ap (given []) h
-next_after dialect m n text left (Some (Ok next)) a h = record { pieces = h.pieces; is_read = read_on dialect m n (base (quoting_of next.quoting)) text left (chars next.rest.now) [] h.pieces a h.is_read; means = h.means }
-next_after dialect m n text left (Some (Err rest)) a h = stop_after dialect m n text left (chars rest.now) [] a h
+pub next_after : (dialect : Dialect) (m n : Mode) (text left : List ℕ) (result : NextPiece) → IsReadTo dialect m text [] n left → NextIs dialect n left result → NextIs dialect m text result
+next_after dialect m n text left End a h = a.reads ∙ ap (given []) h
+next_after dialect m n text left (GivesNext next) a h = record { pieces = h.pieces; is_read = read_on dialect m n (base (quoting_of next.quoting)) text left (chars next.rest.now) [] h.pieces a h.is_read; follows = h.follows; means = h.means }
+next_after dialect m n text left (Fault rest) a h = stop_after dialect m n text left (chars rest.now) [] a h
 
 longer : (front rest : List ℕ) (c : ℕ) → length rest < length (c ∷ (front ++ rest))
 longer front rest c = omega (arith, length-append front rest)
 
-pub shorter_after : (dialect : Dialect) (m : Mode) (c : ℕ) (cs : List ℕ) (result : _) → NextIs dialect m cs result → IsShorter (c ∷ cs) result
-shorter_after dialect m c cs None h = tt
-shorter_after dialect m c cs (Some (Ok next)) h = subst (λ t. length (chars next.rest.now) < length (c ∷ t)) (sym h.is_read.spelled) (longer h.is_read.front (chars next.rest.now) c)
-shorter_after dialect m c cs (Some (Err left)) h = tt
+pub shorter_after : (dialect : Dialect) (m : Mode) (c : ℕ) (cs : List ℕ) (result : NextPiece) → NextIs dialect m cs result → IsShorter (c ∷ cs) result
+shorter_after dialect m c cs End h = tt
+shorter_after dialect m c cs (GivesNext next) h = subst (λ t. length (chars next.rest.now) < length (c ∷ t)) (sym h.is_read.spelled) (longer h.is_read.front (chars next.rest.now) c)
+shorter_after dialect m c cs (Fault left) h = tt
 
 -- a run of characters, each of which the mode collects
 pub run : (dialect : Dialect) (mode : List ℕ → Mode) (passes : ℕ → Bool) → ((held : List ℕ) (c : ℕ) → passes c ≡ true → goes dialect (mode held) c ≡ Some (mode (held ++ c ∷ []), [])) → (held front rest : List ℕ) → list_all passes front ≡ true → IsReadTo dialect (mode held) (front ++ rest) [] (mode (held ++ front)) rest
@@ -150,6 +151,7 @@ pub gives_single : (dialect : Dialect) (text : List ℕ) (front rest : Bor (List
 gives_single dialect text front rest cut = record {
   pieces = Text (chars front.now) ∷ [];
   is_read = subst (λ t. IsReadTo dialect (in_single []) t (Text (chars front.now) ∷ []) (base unquoted) (chars rest.now)) (sym cut.spelled) (single_read dialect (chars front.now) (chars rest.now) cut.none_before);
+  follows = cut.rest_utf8;
   means = λ look_up. text_bytes look_up front.now cut.front_utf8;
 }
 
@@ -174,14 +176,16 @@ pub gives_braced : (dialect : Dialect) (q : CodeQuoting) (text : List ℕ) (name
 gives_braced dialect q text name follows rest cut none = record {
   pieces = Name (chars name.now) ∷ [];
   is_read = subst (λ t. IsReadTo dialect (bracing (quoting_of q) []) t (Name (chars name.now) ∷ []) (base (quoting_of q)) (chars rest.now)) (sym cut.spelled) (braced_read dialect (quoting_of q) (chars name.now) (chars rest.now) cut.none_before);
+  follows = cut.rest_utf8;
   means = λ look_up. name_bytes look_up (chars name.now) follows.now none;
 }
 
 -- an escape
-pub gives_escape : (dialect : Dialect) (q : CodeQuoting) (text : List ℕ) (c : ℕ) (meant rest : Bor (List ℕ)) → chars text ≡ c ∷ chars rest.now → is_escape c ≡ true → meant.now ≡ encode_utf8_all (escape_meaning c ∷ []) → GivesPiece dialect (escaping (quoting_of q)) (chars text) (record { piece = CodeText meant; rest = rest; quoting = q })
-gives_escape dialect q text c meant rest e h m = record {
+pub gives_escape : (dialect : Dialect) (q : CodeQuoting) (text : List ℕ) (c : ℕ) (meant rest : Bor (List ℕ)) → IsUtf8 rest.now → chars text ≡ c ∷ chars rest.now → is_escape c ≡ true → meant.now ≡ encode_utf8_all (escape_meaning c ∷ []) → GivesPiece dialect (escaping (quoting_of q)) (chars text) (record { piece = CodeText meant; rest = rest; quoting = q })
+gives_escape dialect q text c meant rest u e h m = record {
   pieces = Text (escape_meaning c ∷ []) ∷ [];
   is_read = subst (λ t. IsReadTo dialect (escaping (quoting_of q)) t (Text (escape_meaning c ∷ []) ∷ []) (base (quoting_of q)) (chars rest.now)) (sym e) (one dialect (escaping (quoting_of q)) (base (quoting_of q)) c (chars rest.now) (Text (escape_meaning c ∷ []) ∷ []) (if_so _ _ (is_escape c) h));
+  follows = u;
   means = λ look_up. m;
 }
 
@@ -246,18 +250,20 @@ plain_read : (dialect : Dialect) (q : Quoting) (front rest : List ℕ) → list_
 plain_read dialect q [] rest h = none_read dialect (base q) rest
 plain_read dialect q (c ∷ front) rest h = read_on dialect (base q) (base q) (base q) (c ∷ (front ++ rest)) (front ++ rest) rest (Text (c ∷ []) ∷ []) (each_text front) (one dialect (base q) (base q) c (front ++ rest) (Text (c ∷ []) ∷ []) (plain_goes dialect q c (and_left (is_plain q c) (list_all (is_plain q) front) h))) (plain_read dialect q front rest (and_right (is_plain q c) (list_all (is_plain q) front) h))
 
-pub gives_plain : (dialect : Dialect) (q : CodeQuoting) (text : List ℕ) (front rest : Bor (List ℕ)) → IsUtf8 front.now → IsSpan (is_plain (quoting_of q)) (chars text) (chars front.now) (chars rest.now) → GivesPiece dialect (base (quoting_of q)) (chars text) (record { piece = CodeText front; rest = rest; quoting = q })
-gives_plain dialect q text front rest u is = record {
+pub gives_plain : (dialect : Dialect) (q : CodeQuoting) (text : List ℕ) (front rest : Bor (List ℕ)) → IsUtf8 front.now → IsUtf8 rest.now → IsSpan (is_plain (quoting_of q)) (chars text) (chars front.now) (chars rest.now) → GivesPiece dialect (base (quoting_of q)) (chars text) (record { piece = CodeText front; rest = rest; quoting = q })
+gives_plain dialect q text front rest u v is = record {
   pieces = each_text (chars front.now);
   is_read = subst (λ t. IsReadTo dialect (base (quoting_of q)) t (each_text (chars front.now)) (base (quoting_of q)) (chars rest.now)) (sym is.spelled) (plain_read dialect (quoting_of q) (chars front.now) (chars rest.now) is.pass);
+  follows = v;
   means = λ look_up. sym (ap encode_utf8_all (meaning-each look_up (chars front.now)) ∙ encodes-chars front.now u);
 }
 
 -- a bare name, and what stands after it
-pub name_ends : (dialect : Dialect) (name follows left : Bor (List ℕ)) → left.now ≡ [] → follows.now ≡ [] → GivesPiece dialect (naming unquoted (chars name.now)) (chars left.now) (record { piece = CodeName name follows; rest = left; quoting = Unquoted })
-name_ends dialect name follows left e none = record {
+pub name_ends : (dialect : Dialect) (name follows left : Bor (List ℕ)) → IsUtf8 left.now → left.now ≡ [] → follows.now ≡ [] → GivesPiece dialect (naming unquoted (chars name.now)) (chars left.now) (record { piece = CodeName name follows; rest = left; quoting = Unquoted })
+name_ends dialect name follows left u e none = record {
   pieces = Name (chars name.now) ∷ [];
   is_read = subst (λ t. IsReadTo dialect (naming unquoted (chars name.now)) t (Name (chars name.now) ∷ []) (base unquoted) t) (sym (no_characters left.now e)) (record { front = []; spelled = refl; reads = refl; counts = refl });
+  follows = u;
   means = λ look_up. name_bytes look_up (chars name.now) follows.now none;
 }
 
@@ -279,10 +285,11 @@ left_read dialect q name cs c h k = record {
 no_name_first : (dialect : Dialect) (text cs : List ℕ) (c : ℕ) → text ≡ c ∷ cs → not (begins_passing (is_name_character dialect) text) ≡ true → is_name_character dialect c ≡ false
 no_name_first dialect text cs c e h = is_not (is_name_character dialect c) (subst (λ t. not (begins_passing (is_name_character dialect) t) ≡ true) e h)
 
-pub name_left : (dialect : Dialect) (q : CodeQuoting) (name follows left : Bor (List ℕ)) (cs : List ℕ) (c : ℕ) → chars left.now ≡ c ∷ cs → not (begins_passing (is_name_character dialect) (chars left.now)) ≡ true → is_left_by_name dialect (quoting_of q) c ≡ true → follows.now ≡ [] → GivesPiece dialect (naming (quoting_of q) (chars name.now)) (chars left.now) (record { piece = CodeName name follows; rest = left; quoting = q })
-name_left dialect q name follows left cs c e ended h none = record {
+pub name_left : (dialect : Dialect) (q : CodeQuoting) (name follows left : Bor (List ℕ)) (cs : List ℕ) (c : ℕ) → IsUtf8 left.now → chars left.now ≡ c ∷ cs → not (begins_passing (is_name_character dialect) (chars left.now)) ≡ true → is_left_by_name dialect (quoting_of q) c ≡ true → follows.now ≡ [] → GivesPiece dialect (naming (quoting_of q) (chars name.now)) (chars left.now) (record { piece = CodeName name follows; rest = left; quoting = q })
+name_left dialect q name follows left cs c u e ended h none = record {
   pieces = Name (chars name.now) ∷ [];
   is_read = subst (λ t. IsReadTo dialect (naming (quoting_of q) (chars name.now)) t (Name (chars name.now) ∷ []) (base (quoting_of q)) t) (sym e) (left_read dialect (quoting_of q) (chars name.now) cs c (no_name_first dialect (chars left.now) cs c e ended) h);
+  follows = u;
   means = λ look_up. name_bytes look_up (chars name.now) follows.now none;
 }
 
@@ -290,10 +297,11 @@ no_brace_first : (name text cs : List ℕ) (c : ℕ) → text ≡ c ∷ cs → n
 no_brace_first [] text cs c e h = is_not (c == left_brace) (subst (λ t. not (begins_with left_brace t) ≡ true) e h)
 no_brace_first (d ∷ name) text cs c e h = refl
 
-pub name_then : (dialect : Dialect) (q : CodeQuoting) (name follows left rest : Bor (List ℕ)) (c : ℕ) → chars left.now ≡ c ∷ chars rest.now → not (begins_passing (is_name_character dialect) (chars left.now)) ≡ true → not (is_empty (chars name.now) && begins_with left_brace (chars left.now)) ≡ true → is_left_by_name dialect (quoting_of q) c ≡ false → follows.now ≡ encode_utf8 c → GivesPiece dialect (naming (quoting_of q) (chars name.now)) (chars left.now) (record { piece = CodeName name follows; rest = rest; quoting = q })
-name_then dialect q name follows left rest c e ended no_brace h f = record {
+pub name_then : (dialect : Dialect) (q : CodeQuoting) (name follows left rest : Bor (List ℕ)) (c : ℕ) → IsUtf8 rest.now → chars left.now ≡ c ∷ chars rest.now → not (begins_passing (is_name_character dialect) (chars left.now)) ≡ true → not (is_empty (chars name.now) && begins_with left_brace (chars left.now)) ≡ true → is_left_by_name dialect (quoting_of q) c ≡ false → follows.now ≡ encode_utf8 c → GivesPiece dialect (naming (quoting_of q) (chars name.now)) (chars left.now) (record { piece = CodeName name follows; rest = rest; quoting = q })
+name_then dialect q name follows left rest c u e ended no_brace h f = record {
   pieces = Name (chars name.now) ∷ Text (c ∷ []) ∷ [];
   is_read = subst (λ t. IsReadTo dialect (naming (quoting_of q) (chars name.now)) t (Name (chars name.now) ∷ Text (c ∷ []) ∷ []) (base (quoting_of q)) (chars rest.now)) (sym e) (one dialect (naming (quoting_of q) (chars name.now)) (base (quoting_of q)) c (chars rest.now) (Name (chars name.now) ∷ Text (c ∷ []) ∷ []) (if_not _ _ (is_name_character dialect c) (no_name_first dialect (chars left.now) (chars rest.now) c e ended) ∙ if_not _ _ (is_left_by_name dialect (quoting_of q) c) h ∙ if_not _ _ (is_brace_first (chars name.now) c) (no_brace_first (chars name.now) (chars left.now) (chars rest.now) c e no_brace)));
+  follows = u;
   means = λ look_up. name_and_bytes look_up (chars name.now) follows.now c f;
 }
 
@@ -315,7 +323,7 @@ brace_read dialect q text cs e = subst (λ t. IsReadTo dialect (naming q []) t [
 pub first_read : (dialect : Dialect) (q : CodeQuoting) (n : Mode) (text cs : List ℕ) (c : ℕ) → text ≡ c ∷ cs → goes dialect (base (quoting_of q)) c ≡ Some (n, []) → IsReadTo dialect (base (quoting_of q)) text [] n cs
 first_read dialect q n text cs c e h = subst (λ t. IsReadTo dialect (base (quoting_of q)) t [] n cs) (sym e) (one dialect (base (quoting_of q)) n c cs [] h)
 
-pub first_shorter : (dialect : Dialect) (m : Mode) (text cs : List ℕ) (c : ℕ) (result : _) → text ≡ c ∷ cs → NextIs dialect m cs result → IsShorter text result
+pub first_shorter : (dialect : Dialect) (m : Mode) (text cs : List ℕ) (c : ℕ) (result : NextPiece) → text ≡ c ∷ cs → NextIs dialect m cs result → IsShorter text result
 first_shorter dialect m text cs c result e h = subst (λ t. IsShorter t result) (sym e) (shorter_after dialect m c cs result h)
 
 pub ends_unquoted : (dialect : Dialect) (text : List ℕ) → text ≡ [] → read dialect (chars text) (base unquoted) ≡ Some []

@@ -66,6 +66,7 @@ pub record IsCut (c : ℕ) (text front rest : List ℕ) : Type 0 where
   pub spelled : chars text ≡ chars front ++ c ∷ chars rest
   pub none_before : list_all (λ d. not (d == c)) (chars front) ≡ true
   pub front_utf8 : IsUtf8 front
+  pub rest_utf8 : IsUtf8 rest
 
 pub cut_once : (c : ℕ) (text front rest : List ℕ) (i j : ℕ) → IsUtf8 text → c < 128 → NoCharPasses (λ d. d == c) (take i text) → HasCharAt c text i j → front ≡ take i text → rest ≡ drop j text → IsCut c text front rest
 cut_once c text front rest i j u small none at f r =
@@ -79,6 +80,7 @@ cut_once c text front rest i j u small none at f r =
       spelled = ap chars parts ∙ chars-append front (drop i text) uf ∙ ap (λ t. chars front ++ t) (chars_past_char (drop i text) (drop j text) c ud at.split ∙ ap (λ t. c ∷ chars t) (sym r));
       none_before = characters_fail (λ d. d == c) front uf (subst (NoCharPasses (λ d. d == c)) (sym f) none);
       front_utf8 = uf;
+      rest_utf8 = subst IsUtf8 (sym r) (IsUtf8-past_char (drop i text) (drop j text) c ud at.split);
     }
 
 -- a text that does not begin with a character

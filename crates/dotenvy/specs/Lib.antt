@@ -22,6 +22,7 @@ pub mod Slices
 pub mod ReadValue
 pub mod ParseStatement
 pub mod NextPiece
+pub mod Names
 pub mod Laws
 pub mod FileRows
 pub mod WorkedSearches

@@ -1,7 +1,7 @@
 -- What the functions that read a value piece by piece give, by its characters.
 use Rattle.std.specs.Prelude.{ℕ, ◌≡◌, ◌+◌, ◌<◌, Bool, true, false, ◌==◌, List, [], ◌∷◌, ◌++◌, length, Option, Some, None, Result, Ok, Err, MatchOption, unwrap_or}
 use denote.Ref.{Bor}
-use Rattle.std.specs.Str.{chars, encode_utf8_all}
+use Rattle.std.specs.Str.{chars, encode_utf8_all, IsUtf8}
 use Rattle.dotenvy.specs.declared.dialect.Dialect.{Dialect}
 use Rattle.dotenvy.specs.declared.text.Quoting.{Quoting as CodeQuoting}
 use Rattle.dotenvy.specs.declared.text.Quoting.TheVariants.{Unquoted, DoubleQuoted}
@@ -10,6 +10,8 @@ use Rattle.dotenvy.specs.declared.value.Kind.TheVariants.{Backslash, SingleQuote
 use Rattle.dotenvy.specs.declared.value.Piece.{Piece as CodePiece}
 use Rattle.dotenvy.specs.declared.value.Piece.TheVariants.{Text, Name}
 use Rattle.dotenvy.specs.declared.value.Given.{Given}
+use Rattle.dotenvy.specs.declared.value.NextPiece.{NextPiece}
+use Rattle.dotenvy.specs.declared.value.NextPiece.TheVariants.{Piece as GivesNext, End, Fault}
 use Rattle.dotenvy.specs.Characters.{single_quote, double_quote, dollar, backslash, is_space_or_tab}
 use Rattle.dotenvy.specs.Value.{Quoting, unquoted, double_quoted, Piece, is_escape, escape_meaning}
 use Rattle.dotenvy.specs.Slices.{quoting_of}
@@ -66,6 +68,7 @@ pub record IsReadTo (dialect : Dialect) (m : Mode) (text : List ℕ) (pieces : L
 pub record GivesPiece (dialect : Dialect) (m : Mode) (text : List ℕ) (next : Given) : Type 0 where
   pub pieces : List Piece
   pub is_read : IsReadTo dialect m text pieces (base (quoting_of next.quoting)) (chars next.rest.now)
+  pub follows : IsUtf8 next.rest.now
   pub means : (look_up : LookUp) → piece_bytes look_up next.piece ≡ encode_utf8_all (meaning look_up pieces)
 
 -- no value goes on with what is left
@@ -76,13 +79,13 @@ pub record StopsAt (dialect : Dialect) (m : Mode) (text left : List ℕ) : Type 
   pub counts : place dialect text m ≡ length front
 
 -- the end of the value, a piece, or what is left at a fault
-abbrev pub NextIs : (dialect : Dialect) (m : Mode) (text : List ℕ) → Option (Result Given (Bor (List ℕ))) → Type 0
-NextIs dialect m text None = read dialect text m ≡ Some []
-NextIs dialect m text (Some (Ok next)) = GivesPiece dialect m text next
-NextIs dialect m text (Some (Err left)) = StopsAt dialect m text (chars left.now)
+abbrev pub NextIs : (dialect : Dialect) (m : Mode) (text : List ℕ) → NextPiece → Type 0
+NextIs dialect m text End = read dialect text m ≡ Some []
+NextIs dialect m text (GivesNext next) = GivesPiece dialect m text next
+NextIs dialect m text (Fault left) = StopsAt dialect m text (chars left.now)
 
 -- a piece leaves fewer characters
-abbrev pub IsShorter : List ℕ → Option (Result Given (Bor (List ℕ))) → Type 0
-IsShorter text None = Unit {0}
-IsShorter text (Some (Ok next)) = length (chars next.rest.now) < length text
-IsShorter text (Some (Err left)) = Unit {0}
+abbrev pub IsShorter : List ℕ → NextPiece → Type 0
+IsShorter text End = Unit {0}
+IsShorter text (GivesNext next) = length (chars next.rest.now) < length text
+IsShorter text (Fault left) = Unit {0}

@@ -5,6 +5,7 @@ mod dialect;
 mod environment;
 mod errors;
 pub mod laws;
+mod names;
 mod parse;
 mod remembered;
 mod source;

@@ -26,9 +26,14 @@ pub(crate) struct Given<'a> {
     pub(crate) quoting: Quoting,
 }
 
-// The next piece; `None` at the value's end; or what is left of the value where no value goes on, which is nothing where the
-// value lacks its end.
-type NextPiece<'a> = Option<std::result::Result<Given<'a>, &'a str>>;
+/// What comes next in a value: a piece, or its end, or what is left where no value goes on. Nothing is left where the value only
+/// lacks its end.
+#[derive(Clone, Copy)]
+pub(crate) enum NextPiece<'a> {
+    Piece(Given<'a>),
+    End,
+    Fault(&'a str),
+}
 
 // What a character begins.
 #[derive(Clone, Copy)]
@@ -93,16 +98,16 @@ fn escape(left: &str, quoting: Quoting) -> NextPiece<'_>
 {
     match split_first(left) {
         None => match quoting {
-            Quoting::Unquoted => None,
-            Quoting::DoubleQuoted => Some(Err(left)),
+            Quoting::Unquoted => NextPiece::End,
+            Quoting::DoubleQuoted => NextPiece::Fault(left),
         },
         Some((first, rest)) => match escaped(first) {
-            Some(text) => Some(Ok(Given {
+            Some(text) => NextPiece::Piece(Given {
                 piece: Piece::Text(text),
                 rest,
                 quoting,
-            })),
-            None => Some(Err(left)),
+            }),
+            None => NextPiece::Fault(left),
         },
     }
 }
@@ -112,12 +117,12 @@ fn single_quoted(left: &str) -> NextPiece<'_>
     ensures { (dialect : _) → NextIs dialect (in_single []) (chars left.now) result }
 {
     match left.split_once('\'') {
-        Some((text, rest)) => Some(Ok(Given {
+        Some((text, rest)) => NextPiece::Piece(Given {
             piece: Piece::Text(text),
             rest,
             quoting: Quoting::Unquoted,
-        })),
-        None => Some(Err("")),
+        }),
+        None => NextPiece::Fault(""),
     }
 }
 
@@ -126,12 +131,12 @@ fn braced(left: &str, quoting: Quoting) -> NextPiece<'_>
     ensures { (dialect : _) → NextIs dialect (bracing (quoting_of quoting) []) (chars left.now) result }
 {
     match left.split_once('}') {
-        Some((name, rest)) => Some(Ok(Given {
+        Some((name, rest)) => NextPiece::Piece(Given {
             piece: Piece::Name { name, after: "" },
             rest,
             quoting,
-        })),
-        None => Some(Err("")),
+        }),
+        None => NextPiece::Fault(""),
     }
 }
 
@@ -143,27 +148,27 @@ fn after_name<'a>(name: &'a str, left: &'a str, quoting: Quoting, dialect: Diale
 {
     match split_first(left) {
         None => match quoting {
-            Quoting::Unquoted => Some(Ok(Given {
+            Quoting::Unquoted => NextPiece::Piece(Given {
                 piece: Piece::Name { name, after: "" },
                 rest: left,
                 quoting,
-            })),
-            Quoting::DoubleQuoted => Some(Err(left)),
+            }),
+            Quoting::DoubleQuoted => NextPiece::Fault(left),
         },
         Some((first, rest)) => {
             if is_left_by_name(dialect, quoting, first) {
-                Some(Ok(Given {
+                NextPiece::Piece(Given {
                     piece: Piece::Name { name, after: "" },
                     rest: left,
                     quoting,
-                }))
+                })
             } else {
                 let (after, _) = left.split_at(first.len_utf8());
-                Some(Ok(Given {
+                NextPiece::Piece(Given {
                     piece: Piece::Name { name, after },
                     rest,
                     quoting,
-                }))
+                })
             }
         }
     }
@@ -194,9 +199,9 @@ fn tail(left: &str) -> NextPiece<'_>
 {
     let (_, comment) = split_while(left, Class::SpaceOrTab);
     if is_empty_or_comment(comment) {
-        None
+        NextPiece::End
     } else {
-        Some(Err(comment))
+        NextPiece::Fault(comment)
     }
 }
 
@@ -207,11 +212,11 @@ fn plain(text: &str, quoting: Quoting) -> NextPiece<'_>
     ensures shorter { IsShorter (chars text.now) result }
 {
     let (plain, rest) = split_while(text, Class::Plain(quoting));
-    Some(Ok(Given {
+    NextPiece::Piece(Given {
         piece: Piece::Text(plain),
         rest,
         quoting,
-    }))
+    })
 }
 
 // What follows a double quote.
@@ -222,11 +227,11 @@ fn double_quote(rest: &str, quoting: Quoting) -> NextPiece<'_>
         Quoting::Unquoted => Quoting::DoubleQuoted,
         Quoting::DoubleQuoted => Quoting::Unquoted,
     };
-    Some(Ok(Given {
+    NextPiece::Piece(Given {
         piece: Piece::Text(""),
         rest,
         quoting,
-    }))
+    })
 }
 
 /// The next piece of a value at this place.
@@ -236,8 +241,8 @@ pub(crate) fn next_piece(text: &str, quoting: Quoting, dialect: Dialect) -> Next
 {
     match split_first(text) {
         None => match quoting {
-            Quoting::Unquoted => None,
-            Quoting::DoubleQuoted => Some(Err(text)),
+            Quoting::Unquoted => NextPiece::End,
+            Quoting::DoubleQuoted => NextPiece::Fault(text),
         },
         Some((first, left)) => match kind_of(quoting, first) {
             Kind::Backslash => escape(left, quoting),
