@@ -1,5 +1,5 @@
 -- What names stand for, by bytes and by characters, and what the passes over a value count.
-use Rattle.std.proofs.Common.{◌≡◌, ℕ, ◌+◌, ◌≤◌, ◌<◌, List, [], ◌∷◌, ◌++◌, Option, Some, None, refl, sym, ◌∙◌, ap, subst, arith, length, length-append, unwrap_or}
+use Rattle.std.proofs.Common.{◌≡◌, ℕ, ◌+◌, ◌≤◌, ◌<◌, List, [], ◌∷◌, ◌++◌, Option, Some, None, refl, sym, ◌∙◌, ap, subst, arith, length, length-append, append_assoc, unwrap_or}
 use Rattle.std.specs.Prelude.{option_map, MatchOption, ◌^◌, ◌-◌, min, Ok}
 use denote.Ref.{Bor}
 use Rattle.std.specs.Option.{option_or, option_copied}
@@ -17,6 +17,7 @@ use Rattle.dotenvy.specs.ReadValue.{Mode, base, given, read}
 use Rattle.dotenvy.specs.NextPiece.{IsReadTo, StopsAt, piece_bytes}
 use Rattle.dotenvy.specs.Names.{by_characters, names_of, saturated, Measures, HasRoom, Appends}
 use Rattle.dotenvy.proofs.ScanValue.{meaning-append}
+use Rattle.dotenvy.proofs.Values.{given-given}
 
 -- the text that is found by bytes is the one that is found by characters
 pub looked_up : (names : Texts) (remembered : Remembered) (name text : List ℕ) → IsUtf8 name → IsUtf8 text → text ≡ unwrap_or (option_or (fin.get names name) (recalled remembered name)) [] → text ≡ encode_utf8_all (unwrap_or (names_of names remembered (chars name)) [])
@@ -60,3 +61,26 @@ counted look_up p q len more bytes h k e =
 
 pub measured : (dialect : Dialect) (look_up : LookUp) (value : List ℕ) (pieces : List Piece) (len : ℕ) → read dialect value (base unquoted) ≡ Some pieces → len ≡ saturated (byte_len (meaning look_up pieces)) → Measures dialect look_up value (Ok len)
 measured dialect look_up value pieces len h k = subst (λ r. MatchOption r ⊥ (λ p. len ≡ saturated (byte_len (meaning look_up p)))) (sym h) k
+
+-- what a value means has the pieces so far and the next one in it
+room_for : (dialect : Dialect) (look_up : LookUp) (n : Mode) (value left : List ℕ) (p q : List Piece) (len capacity : ℕ) → read dialect value (base unquoted) ≡ given (p ++ q) (read dialect left n) → HasRoom dialect look_up value len capacity → len + length (encode_utf8_all (meaning look_up p)) + length (encode_utf8_all (meaning look_up q)) ≤ capacity
+room_for dialect look_up n value left p q len capacity h room = at (read dialect left n) h
+  where
+    at : (r : Option (List Piece)) → read dialect value (base unquoted) ≡ given (p ++ q) r → len + length (encode_utf8_all (meaning look_up p)) + length (encode_utf8_all (meaning look_up q)) ≤ capacity
+    at None e = absurd (subst (λ r. MatchOption r ⊥ (λ pieces. len + byte_len (meaning look_up pieces) ≤ capacity)) e room)
+    at (Some more) e =
+        let fits : len + byte_len (meaning look_up ((p ++ q) ++ more)) ≤ capacity = subst (λ r. MatchOption r ⊥ (λ pieces. len + byte_len (meaning look_up pieces) ≤ capacity)) e room in
+        let all = ap length (one_more look_up (p ++ q) more) in
+        let front = ap length (one_more look_up p q) in
+        omega (arith, fits, all, front, length-append (encode_utf8_all (meaning look_up (p ++ q))) (encode_utf8_all (meaning look_up more)), length-append (encode_utf8_all (meaning look_up p)) (encode_utf8_all (meaning look_up q)))
+
+pub room_left : (dialect : Dialect) (look_up : LookUp) (m : Mode) (value rest left : List ℕ) (n : Mode) (p q : List Piece) (piece old new : List ℕ) (old_len len capacity now : ℕ) → HasRoom dialect look_up value old_len capacity → IsReadTo dialect (base unquoted) value p m rest → IsReadTo dialect m rest q n left → piece ≡ encode_utf8_all (meaning look_up q) → new ≡ old ++ encode_utf8_all (meaning look_up p) → old_len ≡ length old → len ≡ length new → capacity ≤ now → len + length piece ≤ now
+room_left dialect look_up m value rest left n p q piece old new old_len len capacity now room is next means appended old_is len_is grown =
+    let read_both = is.reads ∙ ap (given p) next.reads ∙ given-given p q (read dialect left n) in
+    let fits = room_for dialect look_up n value left p q old_len capacity read_both room in
+    let total = ap length appended in
+    let bytes = ap length means in
+    omega (arith, fits, total, bytes, old_is, len_is, grown, length-append old (encode_utf8_all (meaning look_up p)))
+
+pub appended_more : (look_up : LookUp) (p q : List Piece) (piece old now new : List ℕ) → now ≡ old ++ encode_utf8_all (meaning look_up p) → new ≡ now ++ piece → piece ≡ encode_utf8_all (meaning look_up q) → new ≡ old ++ encode_utf8_all (meaning look_up (p ++ q))
+appended_more look_up p q piece old now new h k means = k ∙ ap (λ t. t ++ piece) h ∙ append_assoc old (encode_utf8_all (meaning look_up p)) piece ∙ ap (λ t. old ++ t) (ap (λ t. encode_utf8_all (meaning look_up p) ++ t) means ∙ sym (one_more look_up p q))
