@@ -26,6 +26,8 @@ pub mod SearchOnce
 pub mod RememberedMaps
 pub mod Slices
 pub mod StatementParts
+pub mod NextPiece
+pub mod Meanings
 pub mod WorkedSearches
 pub mod TextMaps
 pub mod Writing

@@ -4,16 +4,22 @@ use Rattle.std.specs.Char.{encode_utf8}
 use Rattle.std.specs.List.{list_all}
 use Rattle.std.specs.Str.{chars, IsUtf8}
 use Rattle.dotenvy.specs.declared.text.Class.{Class}
-use Rattle.dotenvy.specs.declared.text.Class.TheVariants.{Key, Name, Unquoted, DoubleQuoted, SpaceOrTab}
+use Rattle.dotenvy.specs.declared.text.Class.TheVariants.{Key, Name, Plain, SpaceOrTab}
+use Rattle.dotenvy.specs.declared.text.Quoting.{Quoting as CodeQuoting}
+use Rattle.dotenvy.specs.declared.text.Quoting.TheVariants.{Unquoted, DoubleQuoted}
 use Rattle.dotenvy.specs.Characters.{continues_key, is_name_character, is_space_or_tab}
-use Rattle.dotenvy.specs.Value.{is_plain_inside, is_plain_outside}
+use Rattle.dotenvy.specs.Value.{Quoting, unquoted, double_quoted, is_plain}
+
+-- where the code stands, in the words of the format
+abbrev pub quoting_of : CodeQuoting → Quoting
+quoting_of Unquoted = unquoted
+quoting_of DoubleQuoted = double_quoted
 
 -- the character is of the class
 abbrev pub has_character : Class → ℕ → Bool
 has_character Key c = continues_key c
 has_character (Name dialect) c = is_name_character dialect c
-has_character Unquoted c = is_plain_outside c
-has_character DoubleQuoted c = is_plain_inside c
+has_character (Plain quoting) c = is_plain (quoting_of quoting) c
 has_character SpaceOrTab c = is_space_or_tab c
 
 -- the text begins with this character, and the rest follows it

@@ -8,6 +8,13 @@ ghost use Rattle.dotenvy.specs.Slices.{BeginsWith, IsSpan, has_character};
 use crate::dialect::Dialect;
 use unicode::properties::{GeneralCategory, is_alphabetic};
 
+/// Where a part of a value stands.
+#[derive(Clone, Copy)]
+pub(crate) enum Quoting {
+    Unquoted,
+    DoubleQuoted,
+}
+
 /// The classes of characters of which a text takes the longest front.
 #[derive(Clone, Copy)]
 pub(crate) enum Class {
@@ -15,10 +22,8 @@ pub(crate) enum Class {
     Key,
     /// A character of a name after a dollar without braces.
     Name(Dialect),
-    /// A character that means itself outside quotes.
-    Unquoted,
-    /// A character that means itself in double quotes.
-    DoubleQuoted,
+    /// A character of a value that means itself.
+    Plain(Quoting),
     SpaceOrTab,
 }
 
@@ -31,8 +36,8 @@ impl Class {
         match self {
             Class::Key => continues_key(c),
             Class::Name(dialect) => is_name_character(dialect, c),
-            Class::Unquoted => !matches!(c, '\\' | '\'' | '"' | '$' | ' ' | '\t'),
-            Class::DoubleQuoted => !matches!(c, '\\' | '"' | '$'),
+            Class::Plain(Quoting::Unquoted) => !matches!(c, '\\' | '\'' | '"' | '$' | ' ' | '\t'),
+            Class::Plain(Quoting::DoubleQuoted) => !matches!(c, '\\' | '"' | '$'),
             Class::SpaceOrTab => matches!(c, ' ' | '\t'),
         }
     }
