@@ -23,7 +23,7 @@ use Rattle.dotenvy.specs.ReadValue.{Mode, base, escaping, in_single, naming, bra
 use Rattle.dotenvy.specs.NextPiece.{other_quoting, is_empty, kind_of, piece_bytes, IsReadTo, GivesPiece, StopsAt, NextIs, IsShorter}
 use Rattle.dotenvy.proofs.Cuts.{and_left, and_right, both}
 use Rattle.dotenvy.proofs.Values.{given-given, read_comment, same_from, brace_not_left}
-use Rattle.dotenvy.proofs.Rows.{brace_no_name}
+use Rattle.dotenvy.proofs.NameCharacters.{brace_no_name}
 use Rattle.dotenvy.proofs.Slices.{IsCut, no_characters}
 use Rattle.dotenvy.proofs.ValuePlaces.{from-goes, after, given-nil}
 
