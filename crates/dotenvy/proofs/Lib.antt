@@ -23,11 +23,8 @@ pub mod SayLine
 pub mod NextEntries
 pub mod WorkedFiles
 pub mod SearchOnce
-pub mod WordsOnce
-pub mod CallRows
-mod RememberedMaps
 pub mod WorkedSearches
 mod TextMaps
-mod Writing
-mod Keys
 pub mod Keys
+pub mod RememberedMaps
+mod Writing
