@@ -77,3 +77,25 @@ fn main(rt: HostRuntime) -> Result<ExitCode> {
     let status = if run(&rt)? { 0 } else { 1 };
     Ok(ExitCode::from(status))
 }
+
+#[cfg(test)]
+mod tests {
+    use super::*;
+    use std::test::Fail;
+
+    #[test]
+    fn each_answer_counts(rt: HostRuntime) -> std::result::Result<(), Fail> {
+        for (answers, want) in [
+            ("P41:31\tok@41=31\tok@41=31\tok@413d2231220a", false),
+            ("P41:32\tok@41=31\tok@41=31\tok@413d2231220a", true),
+            ("P41:31\tok@\tok@41=31\tok@413d2231220a", true),
+            ("P41:31\tok@41=31\tL41:0@41=31\tok@413d2231220a", true),
+            ("P41:31\tok@41=31\tok@41=31\tok@", true),
+        ] {
+            let line = format!(in rt.alloc(); "name\tv15\t-\t413d310a\t{answers}")?;
+            let case = Case::parse(rt.alloc(), line.as_str())?;
+            assert_eq!(rt; replay(&rt, &case)?, want, "at {answers:?}");
+        }
+        Ok(())
+    }
+}
