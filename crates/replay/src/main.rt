@@ -2,6 +2,9 @@
 //! through the library, prints where an answer differs, and ends with status 1 where one does.
 #![tactic(auto)]
 
+ghost use Rattle.std.specs.Prelude.{◌≡◌, IfOk, not};
+ghost use Rattle.replay.specs.Answers.{same_answers};
+
 mod answers;
 mod case;
 mod reader;
@@ -41,7 +44,9 @@ fn differs<R: AllocGlobal + Print>(
     case: &Case,
     reading: &str,
     got: &Answers,
-) -> Result<bool> {
+) -> Result<bool>
+    ensures { IfOk result (λ told. told ≡ not (same_answers case.now.answers got.now)) }
+{
     let differences = got.differences(rt.alloc(), &case.answers)?;
     for difference in &differences {
         println!(rt; "{}, {reading}: {difference}", case.name)?;
