@@ -28,3 +28,16 @@ mod TextMaps
 pub mod Keys
 pub mod RememberedMaps
 mod Writing
+pub mod RememberedMaps
+pub mod Slices
+pub mod StatementParts
+pub mod NextPiece
+pub mod Meanings
+pub mod WorkedSearches
+pub mod TextMaps
+pub mod Writing
+pub mod Keys
+pub mod Inputs
+pub mod Nuls
+pub mod LineTexts
+pub mod LineJoins

@@ -1,9 +1,14 @@
 pub mod Characters
+pub mod Slices
 pub mod PhysicalLines
 pub mod Tokens
 pub mod LogicalLine
+pub mod LineModes
+pub mod JoinedLines
 pub mod Statement
+pub mod ParseStatement
 pub mod Value
+pub mod ReadValue
 pub mod Places
 pub mod Line
 pub mod Entries
@@ -19,6 +24,11 @@ pub mod Source
 pub mod Sent
 pub mod Environment
 pub mod Remembered
+pub mod NextPiece
+pub mod Names
+pub mod Input
+pub mod Lines
+pub mod Iter
 pub mod Laws
 pub mod WorkedFiles
 pub mod WorkedLoads

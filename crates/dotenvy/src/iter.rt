@@ -1,7 +1,10 @@
 //! The pairs of an environment file, one at a time, and the two loads.
 
-ghost use Rattle.std.specs.Prelude.{◌≡◌, ◌<◌, ◌≤◌, IfOk, IfSome, IsSome, IsTrue, chars, string_bytes};
+ghost use Rattle.std.specs.Prelude.{◌≡◌, ◌≢◌, ◌<◌, ◌≤◌, IfErr, IfOk, IfSome, IsSome, IsTrue, None, Ok, chars, string_bytes};
 ghost use Rattle.std.specs.Iterator.{at_most};
+ghost use Rattle.dotenvy.specs.declared.lines.Stage.TheVariants.{Failed, Open};
+ghost use Rattle.dotenvy.specs.Errors.{IsMemory, IsMemoryErr};
+ghost use Rattle.dotenvy.specs.Iter.{fresh, item_fuel};
 ghost use Rattle.dotenvy.specs.Environment.{KeepsNames};
 ghost use Rattle.dotenvy.specs.Statement.{is_key};
 
@@ -14,6 +17,7 @@ use crate::remembered::Remembered;
 use crate::source::Source;
 use std::alloc::{Allocator, Global};
 use std::collections::HashMap;
+use std::marker::Model;
 
 /// Reads the pairs of an environment file, one at a time, and remembers their values for those after them.
 ///
@@ -34,11 +38,24 @@ pub struct Iter<R: Source, A: Allocator = Global> {
     dialect: Dialect,
 }
 
+impl<R: Source, A: Allocator> Model for Iter<R, A> {
+    ghost use Rattle.dotenvy.specs.Iter.{IterState, iter_code};
+    ghost use Rattle.dotenvy.specs.Remembered.{remembered_of};
+
+    ghost Value = { IterState };
+
+    ghost coded = { iter_code };
+
+    ghost view = { λ s. record { lines = s.lines; remembered = remembered_of s.remembered.entries; dialect = s.dialect } };
+}
+
 impl<R: Source, A: Allocator + Clone> Iter<R, A> {
     /// A fresh iterator over a reader, in the first dialect. Nothing is read yet.
     pub fn new(alloc: A, reader: R) -> Result<Iter<R, A>, A>
     where
         R: Drop,
+        ensures ok { IfOk result (λ s. s ≡ fresh (R.ahead reader) Dialect.V15) }
+        ensures memory { IfErr result IsMemory }
     {
         Iter::with_dialect(alloc, reader, Dialect::V15)
     }
@@ -47,6 +64,8 @@ impl<R: Source, A: Allocator + Clone> Iter<R, A> {
     pub fn with_dialect(alloc: A, reader: R, dialect: Dialect) -> Result<Iter<R, A>, A>
     where
         R: Drop,
+        ensures ok { IfOk result (λ s. s ≡ fresh (R.ahead reader) dialect) }
+        ensures memory { IfErr result IsMemory }
     {
         let remembered = HashMap::new(alloc.clone()?);
         Ok(Iter {
@@ -59,7 +78,9 @@ impl<R: Source, A: Allocator + Clone> Iter<R, A> {
     /// The next pair or fault. A name that a value mentions means its value in `env`, else the last one remembered,
     /// else the empty text; `env` may be another at each call (docs/GRAMMAR.md, "What a name means").
     pub fn next_item(&mut self, env: &Environment<A>) -> Option<Result<(String<A>, String<A>), A>>
-        ensures falls { IsSome result → self.new.lines.fuel < self.old.lines.fuel }
+        ensures shut { self.old.lines.stage ≢ Open → (result ≡ None) × (self.new ≡ self.old) }
+        ensures falls { IsSome result → item_fuel self.new < item_fuel self.old }
+        ensures memory { IfSome result (λ item. IsMemoryErr item → self.new.lines.stage ≡ Failed) }
         ensures key { IfSome result (λ item. IfOk item (λ pair. IsTrue (is_key (chars (string_bytes pair.0))))) }
     {
         'lines: while let Some(line) = self.lines.next_line() {
@@ -88,7 +109,8 @@ impl<R: Source, A: Allocator + Clone> Iter<R, A> {
         line: Result<String<A>, A>,
         env: &Environment<A>,
     ) -> Option<Result<Pair<A>, A>>
-        ensures falls { self.new.lines.fuel ≤ self.old.lines.fuel }
+        ensures falls { item_fuel self.new ≤ item_fuel self.old }
+        ensures memory { IfSome result (λ item. IsMemoryErr item → self.new.lines.stage ≡ Failed) }
         ensures key { IfSome result (λ item. IfOk item (λ pair. IsTrue (is_key (chars (string_bytes pair.0))))) }
     {
         let said = self.said_by(line, env);
@@ -125,6 +147,7 @@ impl<R: Source + Drop, A: Allocator + Clone> Iter<R, A> {
     /// Iter::new(alloc, Bytes::new(b"A=1\nA=2\n"))?.load(&mut env)?;    // A is 1, or what it was before
     /// ```
     pub fn load(mut self, env: &mut Environment<A>) -> Result<(), A>
+        ensures shut { self.lines.stage ≢ Open → (result ≡ Ok tt) × (env.new ≡ env.old) }
         ensures keeps { KeepsNames env.old.names env.new.names }
         ensures mark { env.new.loaded ≡ env.old.loaded }
     {
@@ -144,6 +167,7 @@ impl<R: Source + Drop, A: Allocator + Clone> Iter<R, A> {
     /// Iter::new(alloc, Bytes::new(b"A=1\nA=2\n"))?.load_override(&mut env)?;    // A is 2
     /// ```
     pub fn load_override(mut self, env: &mut Environment<A>) -> Result<(), A>
+        ensures shut { self.lines.stage ≢ Open → (result ≡ Ok tt) × (env.new ≡ env.old) }
         ensures mark { env.new.loaded ≡ env.old.loaded }
     {
         self.lines.drop_mark()?;
@@ -165,7 +189,7 @@ pub struct Items<'a, R: Source, A: Allocator = Global> {
 impl<'a, R: Source, A: Allocator + Clone> Iterator for Items<'a, R, A> {
     type Item = Result<(String<A>, String<A>), A>;
 
-    ghost remaining = { λ s. at_most s.file.now.lines.fuel };
+    ghost remaining = { λ s. at_most (item_fuel s.file.now) };
 
     fn next(&mut self) -> Option<Result<(String<A>, String<A>), A>> {
         self.file.next_item(self.env)
@@ -199,6 +223,9 @@ pub fn from_read_override<R: Source + Drop, A: Allocator + Clone>(
 pub fn from_read_iter<R: Source + Drop, A: Allocator + Clone>(
     alloc: A,
     reader: R,
-) -> Result<Iter<R, A>, A> {
+) -> Result<Iter<R, A>, A>
+    ensures ok { IfOk result (λ s. s ≡ fresh (R.ahead reader) Dialect.V15) }
+    ensures memory { IfErr result IsMemory }
+{
     Iter::new(alloc, reader)
 }

@@ -8,6 +8,7 @@ mod input;
 mod iter;
 pub mod laws;
 mod lines;
+mod names;
 mod parse;
 mod remembered;
 mod source;

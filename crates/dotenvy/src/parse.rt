@@ -2,63 +2,15 @@
 use crate::dialect::Dialect;
 use crate::environment::Environment;
 use crate::errors::{Error, Result};
-use crate::remembered::{Remembered, recall, remember};
+use crate::names::Names;
+use crate::remembered::{Remembered, remember};
 use crate::statement::split_statement;
 use crate::text::is_empty_or_comment;
-use crate::value::{Piece, Pieces};
 use std::alloc::Allocator;
 
 pub(crate) type Pair<A> = (String<A>, String<A>);
 
 pub(crate) type ParsedLine<A> = Result<Option<Pair<A>>, A>;
-
-// What the names of a line stand for.
-#[derive(Drop)]
-struct Names<'a, A: Allocator> {
-    environment: &'a Environment<A>,
-    remembered: &'a Remembered<A>,
-}
-
-impl<'a, A: Allocator> Names<'a, A> {
-    // The environment's value, else the remembered text, else the empty text.
-    fn look_up(&self, name: &str) -> &'a str {
-        match self.environment.get(name) {
-            Some(value) => value,
-            None => recall(self.remembered, name).unwrap_or(""),
-        }
-    }
-
-    // How many bytes the value means, or the greatest `usize` where that is less; or what is left of the value at its fault.
-    fn measure<'b>(&self, value: &'b str, dialect: Dialect) -> std::result::Result<usize, &'b str> {
-        let mut len: usize = 0;
-        let mut pieces = Pieces::new(value, dialect);
-        while let Some(piece) = pieces.next() {
-            len = match piece? {
-                Piece::Text(text) => len.saturating_add(text.len()),
-                Piece::Name { name, after } => len
-                    .saturating_add(self.look_up(name).len())
-                    .saturating_add(after.len()),
-            };
-        }
-        Ok(len)
-    }
-
-    // The meaning of a value that was measured.
-    fn expand(&self, alloc: A, value: Value<'_>, dialect: Dialect) -> Result<String<A>, A> {
-        let mut meaning = String::with_capacity(alloc, value.len)?;
-        let mut pieces = Pieces::new(value.text, dialect);
-        while let Some(Ok(piece)) = pieces.next() {
-            match piece {
-                Piece::Text(text) => meaning.push_str(text)?,
-                Piece::Name { name, after } => {
-                    meaning.push_str(self.look_up(name))?;
-                    meaning.push_str(after)?;
-                }
-            }
-        }
-        Ok(meaning)
-    }
-}
 
 // A value as it is written, and how many bytes its meaning takes.
 #[derive(Clone, Copy)]
@@ -151,7 +103,11 @@ pub(crate) fn parse_line<A: Allocator + Clone>(
         Err(fault) => return Err(fault.error(alloc)),
     };
     let value = match declaration.value {
-        Some(value) => names.expand(alloc.clone()?, value, dialect)?,
+        Some(value) => {
+            let mut meaning = String::with_capacity(alloc.clone()?, value.len)?;
+            names.append_meaning(&mut meaning, value.text, dialect);
+            meaning
+        }
         None => String::new(alloc.clone()?),
     };
     let remembered_value = match declaration.value {

@@ -8,4 +8,4 @@ pub set-requires : goal.set-requires
 set-requires g c = name_ok-key _ (IsUtf8-string_bytes c.in_ok-key.key) (rw c.in_ok-key.was at c.in-Some.ensures.key)
 
 pub items-preserved-in-Continue-branch-3 : goal.items-preserved-in-Continue-branch-3
-items-preserved-in-Continue-branch-3 g c = rw c.in_ok-set.ensures.ok (keeps_insert _ _ _ _ c.items.invariant.0 (search rules), c.items.invariant.1)
+items-preserved-in-Continue-branch-3 g c = rw c.in_ok-set.ensures.ok (keeps_insert _ _ _ _ c.items.invariant.0 (search rules), c.items.invariant.1, λ shut. absurd (search rules))
