@@ -23,6 +23,11 @@ pub mod SayLine
 pub mod NextEntries
 pub mod WorkedFiles
 pub mod SearchOnce
+pub mod WorkedSearches
+mod TextMaps
+pub mod Keys
+pub mod RememberedMaps
+mod Writing
 pub mod RememberedMaps
 pub mod Slices
 pub mod StatementParts

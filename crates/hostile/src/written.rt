@@ -1,7 +1,7 @@
 //! Output that is built while memory is refused: then none of it is written.
 
 use crate::refusals::{is_done, refuse_in_turn};
-use dotenvy::{Bytes, Plain};
+use dotenvy::{Bytes, Plain, is_key};
 use std::test::Fail;
 
 #[test]
@@ -26,7 +26,9 @@ fn list(rt: HostRuntime) -> Result<(), Fail> {
 fn write_pair(rt: HostRuntime) -> Result<(), Fail> {
     refuse_in_turn(&rt, rt.alloc(), |ration| {
         let mut writer = Plain::new(Vec::new(rt.alloc()));
-        let answer = dotenvy::write_pair(ration, &mut writer, "K", "a\"b$c\\d");
+        let key = "K";
+        assert!(rt; is_key(key));
+        let answer = dotenvy::write_pair(ration, &mut writer, key, "a\"b$c\\d");
         let output: Vec<u8> = writer.into_inner();
         let is_done = is_done(&rt, ration, &answer);
         let want = if is_done {

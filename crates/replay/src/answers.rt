@@ -5,6 +5,9 @@
 //! `-` stands for none. A load is `<answer>@<environment>` and a list `<answer>@<output>`, where the
 //! answer is `ok` or a fault.
 
+ghost use Rattle.std.specs.Prelude.{◌≡◌, ◌+◌, OnOk, IfOk, vec_len, if◌then◌else◌, nat_eq};
+ghost use Rattle.replay.specs.Answers.{same_text};
+
 use crate::case::Case;
 use anyhow::{Result, bail};
 use dotenvy::{Environment, Error, Iter, Plain, Source};
@@ -20,6 +23,8 @@ pub struct Answers {
 }
 
 impl Answers {
+    ghost use Rattle.replay.specs.Answers.{same_answers};
+
     /// Runs the case over readers that `read` makes of its bytes.
     pub fn of<'a, R: Source + Drop, F: Fn(&'a [u8]) -> R>(
         alloc: Global,
@@ -41,7 +46,9 @@ impl Answers {
         &self,
         alloc: Global,
         wanted: &Answers,
-    ) -> std::result::Result<Vec<String>, AllocError> {
+    ) -> std::result::Result<Vec<String>, AllocError>
+        ensures { IfOk result (λ texts. nat_eq (vec_len texts) 0 ≡ same_answers wanted.now self.now) }
+    {
         let mut found = Vec::new(alloc);
         push_difference(&mut found, "items", &wanted.items, &self.items)?;
         push_difference(&mut found, "load", &wanted.load, &self.load)?;
@@ -56,12 +63,15 @@ impl Answers {
     }
 }
 
+/// Adds a text where the answer is not the wanted one.
 fn push_difference(
     found: &mut Vec<String>,
     answer: &str,
     wanted: &String,
     got: &String,
-) -> std::result::Result<(), AllocError> {
+) -> std::result::Result<(), AllocError>
+    ensures { OnOk result (vec_len found.new ≡ vec_len found.old + (if same_text wanted.now got.now then 0 else 1)) }
+{
     if wanted != got {
         let alloc = *found.allocator();
         found.push(format!(in alloc; "{answer}: wanted {wanted}, got {got}")?)?;

@@ -95,3 +95,33 @@ fn parse_bytes(alloc: Global, field: &str) -> Result<Vec<u8>> {
         _ => Ok(hex::decode(alloc, field)?),
     }
 }
+
+#[cfg(test)]
+mod tests {
+    use super::*;
+    use std::test::Fail;
+
+    #[test]
+    fn lines_that_are_no_case(rt: HostRuntime) -> std::result::Result<(), Fail> {
+        for (line, want) in [
+            ("", "1 fields in place of 8"),
+            ("name\tv15\t-\t-\t-\tok@\tok@", "7 fields in place of 8"),
+            ("name\tv16\t-\t-\t-\tok@\tok@\tok@", "unknown dialect v16"),
+            (
+                "name\tv15\t41\t-\t-\tok@\tok@\tok@",
+                "environment: a pair without `=`: 41",
+            ),
+            (
+                "name\tv15\t-\t4\t-\tok@\tok@\tok@",
+                "bytes: Odd number of digits",
+            ),
+        ] {
+            let text = match Case::parse(rt.alloc(), line) {
+                Ok(_) => String::from_str(rt.alloc(), "a case")?,
+                Err(error) => format!(in rt.alloc(); "{error:#}")?,
+            };
+            assert_eq!(rt; text.as_str(), want, "at {line:?}");
+        }
+        Ok(())
+    }
+}

@@ -2,6 +2,9 @@
 //! through the library, prints where an answer differs, and ends with status 1 where one does.
 #![tactic(auto)]
 
+ghost use Rattle.std.specs.Prelude.{◌≡◌, IfOk, not};
+ghost use Rattle.replay.specs.Answers.{same_answers};
+
 mod answers;
 mod case;
 mod reader;
@@ -41,7 +44,9 @@ fn differs<R: AllocGlobal + Print>(
     case: &Case,
     reading: &str,
     got: &Answers,
-) -> Result<bool> {
+) -> Result<bool>
+    ensures { IfOk result (λ told. told ≡ not (same_answers case.now.answers got.now)) }
+{
     let differences = got.differences(rt.alloc(), &case.answers)?;
     for difference in &differences {
         println!(rt; "{}, {reading}: {difference}", case.name)?;
@@ -76,4 +81,26 @@ fn run<R: AllocGlobal + Env + Files + Print>(rt: &R) -> Result<bool> {
 fn main(rt: HostRuntime) -> Result<ExitCode> {
     let status = if run(&rt)? { 0 } else { 1 };
     Ok(ExitCode::from(status))
+}
+
+#[cfg(test)]
+mod tests {
+    use super::*;
+    use std::test::Fail;
+
+    #[test]
+    fn each_answer_counts(rt: HostRuntime) -> std::result::Result<(), Fail> {
+        for (answers, want) in [
+            ("P41:31\tok@41=31\tok@41=31\tok@413d2231220a", false),
+            ("P41:32\tok@41=31\tok@41=31\tok@413d2231220a", true),
+            ("P41:31\tok@\tok@41=31\tok@413d2231220a", true),
+            ("P41:31\tok@41=31\tL41:0@41=31\tok@413d2231220a", true),
+            ("P41:31\tok@41=31\tok@41=31\tok@", true),
+        ] {
+            let line = format!(in rt.alloc(); "name\tv15\t-\t413d310a\t{answers}")?;
+            let case = Case::parse(rt.alloc(), line.as_str())?;
+            assert_eq!(rt; replay(&rt, &case)?, want, "at {answers:?}");
+        }
+        Ok(())
+    }
 }

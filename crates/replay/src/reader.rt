@@ -1,5 +1,7 @@
 //! A reader that gives its bytes one at a time.
 
+ghost use Rattle.std.specs.Prelude.{◌≡◌, Some, None};
+
 use dotenvy::Source;
 use std::io;
 
@@ -10,12 +12,17 @@ pub struct OneByteReads<'a> {
 }
 
 impl<'a> OneByteReads<'a> {
-    pub fn new(bytes: &'a [u8]) -> OneByteReads<'a> {
+    /// A reader of all these bytes.
+    pub fn new(bytes: &'a [u8]) -> OneByteReads<'a>
+        ensures { result.rest.now ≡ bytes.now }
+    {
         OneByteReads { rest: bytes }
     }
 }
 
 impl<'a> Source for OneByteReads<'a> {
+    ghost ahead = { λ s. Some (record { bytes = s.rest.now; fault = None }) };
+
     fn read_some(&mut self, buf: &mut [u8]) -> io::Result<usize> {
         match (self.rest.split_first(), buf.first_mut()) {
             (Some((byte, rest)), Some(place)) => {

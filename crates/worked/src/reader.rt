@@ -1,5 +1,7 @@
 //! A reader whose reads are as short as a test wants them, and that may fail.
 
+ghost use Rattle.std.specs.Prelude.{◌≡◌, ◌<◌, Some, None};
+
 use dotenvy::Source;
 use std::io;
 use std::io::ErrorKind;
@@ -10,6 +12,7 @@ pub struct CutReader<'a> {
     rest: &'a [u8],
     most: usize,
     fault: Option<ErrorKind>,
+    ghost gives_some: { 0 < most },
 }
 
 impl<'a> CutReader<'a> {
@@ -42,6 +45,8 @@ impl<'a> CutReader<'a> {
 }
 
 impl<'a> Source for CutReader<'a> {
+    ghost ahead = { λ s. Some (record { bytes = s.rest.now; fault = s.fault }) };
+
     fn read_some(&mut self, buf: &mut [u8]) -> io::Result<usize> {
         let count = self.rest.len().min(buf.len()).min(self.most);
         if self.rest.is_empty()

@@ -49,7 +49,7 @@ pub fn environment(
     Ok(Environment::from_pairs(alloc, list)?)
 }
 
-/// The items of a reader, as `A=1; fault at 2: x y; io InvalidData`.
+/// The items of a reader, as `A=1; fault at 2: x y; io InvalidData`. After them there must be none.
 pub fn items_of<R: Source + Drop>(
     alloc: Global,
     environment: &Environment,
@@ -64,6 +64,9 @@ pub fn items_of<R: Source + Drop>(
             Err(error) => fault(alloc, &error)?,
         };
         shown.push(text)?;
+    }
+    if entries.next_item(environment).is_some() {
+        shown.push(String::from_str(alloc, "an item after the end")?)?;
     }
     Ok(shown.join(alloc, "; ")?)
 }

@@ -2,7 +2,7 @@
 
 use crate::reader::CutReader;
 use crate::shown::items;
-use dotenvy::Plain;
+use dotenvy::{Plain, is_key};
 use std::alloc::Global;
 use std::test::Fail;
 
@@ -22,8 +22,10 @@ fn pairs_are_written_and_read_back(rt: HostRuntime) -> Result<(), Fail> {
         ("${A}", "K=\"\\${A}\"\n"),
     ] {
         let alloc = rt.alloc();
+        let key = "K";
+        assert!(rt; is_key(key));
         let mut writer = Plain::new(Vec::new(alloc));
-        dotenvy::write_pair(alloc, &mut writer, "K", text)?;
+        dotenvy::write_pair(alloc, &mut writer, key, text)?;
         let output: Vec<u8> = writer.into_inner();
         assert_eq!(rt; output.as_slice(), want.as_bytes(), "at {text:?}");
         let pair = format!(in alloc; "K={text}")?;
