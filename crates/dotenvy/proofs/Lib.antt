@@ -1,13 +1,14 @@
+pub mod Basics
 pub mod Cuts
 pub mod LoadLaws
 pub mod LoadsTwice
 pub mod ReadBack
 pub mod ReadBackLines
+pub mod WrittenTexts
 pub mod Scans
-pub mod Rows
+pub mod NameCharacters
 pub mod Values
 pub mod ValuePlaces
-mod ValueRows
 pub mod Statements
 pub mod StatementPlaces
 pub mod Outcomes
@@ -20,12 +21,23 @@ pub mod ParseLine
 pub mod ScanValue
 pub mod SayLine
 pub mod NextEntries
-pub mod RawLines
-pub mod FileRows
+pub mod WorkedFiles
 pub mod SearchOnce
-pub mod WordsOnce
-pub mod CallRows
+pub mod WorkedSearches
+mod TextMaps
+pub mod Keys
+pub mod RememberedMaps
+mod Writing
+pub mod RememberedMaps
+pub mod Slices
+pub mod StatementParts
+pub mod NextPiece
+pub mod Meanings
+pub mod WorkedSearches
+pub mod TextMaps
+pub mod Writing
+pub mod Keys
 pub mod Inputs
+pub mod Nuls
 pub mod LineTexts
 pub mod LineJoins
-mod TextMaps

@@ -1,0 +1,354 @@
+-- How the pieces that the code reads follow from the reader of values.
+use Rattle.std.proofs.Common.{◌≡◌, ◌≢◌, ℕ, suc, ◌+◌, ◌<◌, ◌≤◌, Bool, true, false, not, ◌&&◌, ◌||◌, List, [], ◌∷◌, ◌++◌, Option, Some, None, Ok, Err, refl, sym, ◌∙◌, ap, subst, arith, length, length-append, append_assoc, map, unwrap_or}
+use Rattle.std.specs.Prelude.{◌==◌}
+use Rattle.std.specs.List.{list_all}
+use denote.Ref.{Bor}
+use Rattle.std.specs.Char.{encode_utf8}
+use Rattle.std.specs.Str.{chars, encode_utf8_all, IsUtf8}
+use Rattle.std.proofs.lemmas.List.{append-nil}
+use Rattle.std.proofs.lemmas.Str.{encodes-chars, encodes-append}
+use Rattle.dotenvy.specs.declared.dialect.Dialect.{Dialect}
+use Rattle.dotenvy.specs.declared.text.Quoting.{Quoting as CodeQuoting}
+use Rattle.dotenvy.specs.declared.text.Quoting.TheVariants.{Unquoted, DoubleQuoted}
+use Rattle.dotenvy.specs.declared.value.Kind.{Kind}
+use Rattle.dotenvy.specs.declared.value.Kind.TheVariants.{Backslash, SingleQuote, DoubleQuote, Dollar, SpaceOrTab, Plain}
+use Rattle.dotenvy.specs.declared.value.Piece.TheVariants.{Text as CodeText, Name as CodeName}
+use Rattle.dotenvy.specs.declared.value.NextPiece.{NextPiece}
+use Rattle.dotenvy.specs.declared.value.NextPiece.TheVariants.{Piece as GivesNext, End, Fault}
+use Rattle.dotenvy.specs.Characters.{single_quote, double_quote, dollar, backslash, left_brace, right_brace, hash, is_space_or_tab, is_name_character, is_empty_or_comment, begins_with}
+use Rattle.dotenvy.specs.Slices.{quoting_of, IsSpan, begins_passing}
+use Rattle.dotenvy.specs.Value.{Quoting, unquoted, double_quoted, Piece, Text, Name, is_plain, is_escape, is_left_by_name, escape_meaning}
+use Rattle.dotenvy.specs.Items.{LookUp, meaning}
+use Rattle.dotenvy.specs.ReadValue.{Mode, base, escaping, in_single, naming, bracing, in_tail, in_comment, Reading, given, is_brace_first, from_base, from, at_end, read, goes_base, with_pieces, goes, place_after, place}
+use Rattle.dotenvy.specs.NextPiece.{other_quoting, is_empty, kind_of, piece_bytes, IsReadTo, GivesPiece, StopsAt, NextIs, IsShorter}
+use Rattle.dotenvy.proofs.Cuts.{and_left, and_right, both}
+use Rattle.dotenvy.proofs.Values.{given-given, read_comment, same_from, brace_not_left}
+use Rattle.dotenvy.proofs.NameCharacters.{brace_no_name}
+use Rattle.dotenvy.proofs.Slices.{IsCut, no_characters}
+use Rattle.dotenvy.proofs.ValuePlaces.{from-goes, after, given-nil}
+
+-- one character
+pub one : (dialect : Dialect) (m n : Mode) (c : ℕ) (cs : List ℕ) (pieces : List Piece) → goes dialect m c ≡ Some (n, pieces) → IsReadTo dialect m (c ∷ cs) pieces n cs
+one dialect m n c cs pieces h = record {
+  front = c ∷ [];
+  spelled = refl;
+  reads = from-goes dialect m c (λ k. read dialect cs k) ∙ ap (λ g. after g (λ k. read dialect cs k)) h;
+  counts = ap (λ g. place_after g (λ k. place dialect cs k)) h ∙ omega arith;
+}
+
+-- a character that no value goes on with
+pub stop : (dialect : Dialect) (m : Mode) (c : ℕ) (cs : List ℕ) → goes dialect m c ≡ None → StopsAt dialect m (c ∷ cs) (c ∷ cs)
+stop dialect m c cs h = record {
+  front = [];
+  spelled = refl;
+  reads = from-goes dialect m c (λ k. read dialect cs k) ∙ ap (λ g. after g (λ k. read dialect cs k)) h;
+  counts = ap (λ g. place_after g (λ k. place dialect cs k)) h;
+}
+
+-- nothing read yet
+pub none_read : (dialect : Dialect) (m : Mode) (text : List ℕ) → IsReadTo dialect m text [] m text
+none_read dialect m text = record { front = []; spelled = refl; reads = given-nil (read dialect text m); counts = omega arith }
+
+-- one after another
+pub read_on : (dialect : Dialect) (m n k : Mode) (text left rest : List ℕ) (p q : List Piece) → IsReadTo dialect m text p n left → IsReadTo dialect n left q k rest → IsReadTo dialect m text (p ++ q) k rest
+read_on dialect m n k text left rest p q a b = record {
+  front = a.front ++ b.front;
+  spelled = a.spelled ∙ ap (λ t. a.front ++ t) b.spelled ∙ sym (append_assoc a.front b.front rest);
+  reads = a.reads ∙ ap (given p) b.reads ∙ given-given p q (read dialect rest k);
+  counts = a.counts ∙ ap (λ n. length a.front + n) b.counts ∙ omega (arith, length-append a.front b.front);
+}
+
+-- a fault after what was read
+pub stop_after : (dialect : Dialect) (m n : Mode) (text left rest : List ℕ) (p : List Piece) → IsReadTo dialect m text p n left → StopsAt dialect n left rest → StopsAt dialect m text rest
+stop_after dialect m n text left rest p a b = record {
+  front = a.front ++ b.front;
+  spelled = a.spelled ∙ ap (λ t. a.front ++ t) b.spelled ∙ sym (append_assoc a.front b.front rest);
+  reads = a.reads ∙ ap (given p) b.reads;
+  counts = a.counts ∙ ap (λ n. length a.front + n) b.counts ∙ omega (arith, length-append a.front b.front);
+}
+
+-- what comes next after characters that complete no piece
+pub next_after : (dialect : Dialect) (m n : Mode) (text left : List ℕ) (result : NextPiece) → IsReadTo dialect m text [] n left → NextIs dialect n left result → NextIs dialect m text result
+next_after dialect m n text left End a h = a.reads ∙ ap (given []) h
+next_after dialect m n text left (GivesNext next) a h = record { pieces = h.pieces; is_read = read_on dialect m n (base (quoting_of next.quoting)) text left (chars next.rest.now) [] h.pieces a h.is_read; follows = h.follows; means = h.means }
+next_after dialect m n text left (Fault rest) a h = stop_after dialect m n text left (chars rest.now) [] a h
+
+longer : (front rest : List ℕ) (c : ℕ) → length rest < length (c ∷ (front ++ rest))
+longer front rest c = omega (arith, length-append front rest)
+
+pub shorter_after : (dialect : Dialect) (m : Mode) (c : ℕ) (cs : List ℕ) (result : NextPiece) → NextIs dialect m cs result → IsShorter (c ∷ cs) result
+shorter_after dialect m c cs End h = tt
+shorter_after dialect m c cs (GivesNext next) h = subst (λ t. length (chars next.rest.now) < length (c ∷ t)) (sym h.is_read.spelled) (longer h.is_read.front (chars next.rest.now) c)
+shorter_after dialect m c cs (Fault left) h = tt
+
+-- a run of characters, each of which the mode collects
+pub run : (dialect : Dialect) (mode : List ℕ → Mode) (passes : ℕ → Bool) → ((held : List ℕ) (c : ℕ) → passes c ≡ true → goes dialect (mode held) c ≡ Some (mode (held ++ c ∷ []), [])) → (held front rest : List ℕ) → list_all passes front ≡ true → IsReadTo dialect (mode held) (front ++ rest) [] (mode (held ++ front)) rest
+run dialect mode passes step held [] rest h = subst (λ t. IsReadTo dialect (mode held) rest [] (mode t) rest) (sym (append-nil held)) (none_read dialect (mode held) rest)
+run dialect mode passes step held (c ∷ front) rest h =
+    let here = one dialect (mode held) (mode (held ++ c ∷ [])) c (front ++ rest) [] (step held c (and_left (passes c) (list_all passes front) h)) in
+    let later = run dialect mode passes step (held ++ c ∷ []) front rest (and_right (passes c) (list_all passes front) h) in
+    subst (λ t. IsReadTo dialect (mode held) (c ∷ (front ++ rest)) [] (mode t) rest) (append_assoc held (c ∷ []) front) (read_on dialect (mode held) (mode (held ++ c ∷ [])) (mode ((held ++ c ∷ []) ++ front)) (c ∷ (front ++ rest)) (front ++ rest) rest [] [] here later)
+
+-- what a test decides
+if_so : {A : Type 0} (x y : A) (b : Bool) → b ≡ true → elim b [ true ↦ x | false ↦ y ] ≡ x
+if_so x y true h = refl
+if_so x y false h = cc
+
+if_not : {A : Type 0} (x y : A) (b : Bool) → b ≡ false → elim b [ true ↦ x | false ↦ y ] ≡ y
+if_not x y true h = cc
+if_not x y false h = refl
+
+pub is_not : (b : Bool) → not b ≡ true → b ≡ false
+is_not false h = refl
+is_not true h = cc
+
+-- where the first character leads, by what it begins
+abbrev goes_kind : Kind → Quoting → ℕ → Option (Mode × List Piece)
+goes_kind Backslash q c = Some (escaping q, [])
+goes_kind SingleQuote q c = Some (in_single [], [])
+goes_kind DoubleQuote q c = Some (base (other_quoting q), [])
+goes_kind Dollar q c = Some (naming q [], [])
+goes_kind SpaceOrTab q c = Some (in_tail, [])
+goes_kind Plain q c = Some (base q, Text (c ∷ []) ∷ [])
+
+pub kind_goes : (q : CodeQuoting) (c : ℕ) → goes_base (quoting_of q) c ≡ goes_kind (kind_of q c) (quoting_of q) c
+kind_goes Unquoted c = at (c == backslash) (c == single_quote) (c == double_quote) (c == dollar) (is_space_or_tab c)
+  where
+    at : (b s d o t : Bool) → elim b as (λ _. Option (Mode × List Piece)) [ true ↦ Some (escaping unquoted, []) | false ↦ elim s [ true ↦ Some (in_single [], []) | false ↦ elim d [ true ↦ Some (base double_quoted, []) | false ↦ elim o [ true ↦ Some (naming unquoted [], []) | false ↦ elim t [ true ↦ Some (in_tail, []) | false ↦ Some (base unquoted, Text (c ∷ []) ∷ []) ] ] ] ] ] ≡ goes_kind (elim b [ true ↦ Backslash | false ↦ elim s [ true ↦ SingleQuote | false ↦ elim d [ true ↦ DoubleQuote | false ↦ elim o [ true ↦ Dollar | false ↦ elim t [ true ↦ SpaceOrTab | false ↦ Plain ] ] ] ] ]) unquoted c
+    at true s d o t = refl
+    at false true d o t = refl
+    at false false true o t = refl
+    at false false false true t = refl
+    at false false false false true = refl
+    at false false false false false = refl
+kind_goes DoubleQuoted c = at (c == backslash) (c == double_quote) (c == dollar)
+  where
+    at : (b d o : Bool) → elim b as (λ _. Option (Mode × List Piece)) [ true ↦ Some (escaping double_quoted, []) | false ↦ elim d [ true ↦ Some (base unquoted, []) | false ↦ elim o [ true ↦ Some (naming double_quoted [], []) | false ↦ Some (base double_quoted, Text (c ∷ []) ∷ []) ] ] ] ≡ goes_kind (elim b [ true ↦ Backslash | false ↦ elim d [ true ↦ DoubleQuote | false ↦ elim o [ true ↦ Dollar | false ↦ Plain ] ] ]) double_quoted c
+    at true d o = refl
+    at false true o = refl
+    at false false true = refl
+    at false false false = refl
+
+-- a character of this kind leads there
+pub goes_as : (dialect : Dialect) (q : CodeQuoting) (c : ℕ) (kind : Kind) → kind ≡ kind_of q c → goes dialect (base (quoting_of q)) c ≡ goes_kind kind (quoting_of q) c
+goes_as dialect q c kind h = kind_goes q c ∙ ap (λ k. goes_kind k (quoting_of q) c) (sym h)
+
+-- the bytes of a text that stands for itself
+pub text_bytes : (look_up : LookUp) (text : List ℕ) → IsUtf8 text → text ≡ encode_utf8_all (meaning look_up (Text (chars text) ∷ []))
+text_bytes look_up text u = sym (ap encode_utf8_all (append-nil (chars text)) ∙ encodes-chars text u)
+
+-- a single-quoted text, and one that lacks its end
+collects_single : (dialect : Dialect) (held : List ℕ) (c : ℕ) → not (c == single_quote) ≡ true → goes dialect (in_single held) c ≡ Some (in_single (held ++ c ∷ []), [])
+collects_single dialect held c h = if_not _ _ (c == single_quote) (is_not (c == single_quote) h)
+
+single_read : (dialect : Dialect) (inner rest : List ℕ) → list_all (λ c. not (c == single_quote)) inner ≡ true → IsReadTo dialect (in_single []) (inner ++ single_quote ∷ rest) (Text inner ∷ []) (base unquoted) rest
+single_read dialect inner rest h = read_on dialect (in_single []) (in_single inner) (base unquoted) (inner ++ single_quote ∷ rest) (single_quote ∷ rest) rest [] (Text inner ∷ []) (run dialect in_single (λ c. not (c == single_quote)) (collects_single dialect) [] inner (single_quote ∷ rest) h) (one dialect (in_single inner) (base unquoted) single_quote rest (Text inner ∷ []) refl)
+
+pub single_open : (dialect : Dialect) (inner : List ℕ) → list_all (λ c. not (c == single_quote)) inner ≡ true → StopsAt dialect (in_single []) inner []
+single_open dialect inner h = subst (λ t. StopsAt dialect (in_single []) t []) (append-nil inner) (stop_after dialect (in_single []) (in_single inner) (inner ++ []) [] [] [] (run dialect in_single (λ c. not (c == single_quote)) (collects_single dialect) [] inner [] h) (record { front = []; spelled = refl; reads = refl; counts = refl }))
+
+pub gives_single : (dialect : Dialect) (text : List ℕ) (front rest : Bor (List ℕ)) → IsCut single_quote text front.now rest.now → GivesPiece dialect (in_single []) (chars text) (record { piece = CodeText front; rest = rest; quoting = Unquoted })
+gives_single dialect text front rest cut = record {
+  pieces = Text (chars front.now) ∷ [];
+  is_read = subst (λ t. IsReadTo dialect (in_single []) t (Text (chars front.now) ∷ []) (base unquoted) (chars rest.now)) (sym cut.spelled) (single_read dialect (chars front.now) (chars rest.now) cut.none_before);
+  follows = cut.rest_utf8;
+  means = λ look_up. text_bytes look_up front.now cut.front_utf8;
+}
+
+-- a braced name, and one that lacks its end
+collects_braced : (dialect : Dialect) (q : Quoting) (held : List ℕ) (c : ℕ) → not (c == right_brace) ≡ true → goes dialect (bracing q held) c ≡ Some (bracing q (held ++ c ∷ []), [])
+collects_braced dialect q held c h = if_not _ _ (c == right_brace) (is_not (c == right_brace) h)
+
+braced_read : (dialect : Dialect) (q : Quoting) (name rest : List ℕ) → list_all (λ c. not (c == right_brace)) name ≡ true → IsReadTo dialect (bracing q []) (name ++ right_brace ∷ rest) (Name name ∷ []) (base q) rest
+braced_read dialect q name rest h = read_on dialect (bracing q []) (bracing q name) (base q) (name ++ right_brace ∷ rest) (right_brace ∷ rest) rest [] (Name name ∷ []) (run dialect (bracing q) (λ c. not (c == right_brace)) (collects_braced dialect q) [] name (right_brace ∷ rest) h) (one dialect (bracing q name) (base q) right_brace rest (Name name ∷ []) refl)
+
+pub braced_open : (dialect : Dialect) (q : Quoting) (name : List ℕ) → list_all (λ c. not (c == right_brace)) name ≡ true → StopsAt dialect (bracing q []) name []
+braced_open dialect q name h = subst (λ t. StopsAt dialect (bracing q []) t []) (append-nil name) (stop_after dialect (bracing q []) (bracing q name) (name ++ []) [] [] [] (run dialect (bracing q) (λ c. not (c == right_brace)) (collects_braced dialect q) [] name [] h) (record { front = []; spelled = refl; reads = refl; counts = refl }))
+
+-- the bytes of what a name stands for, and of a character after it
+name_bytes : (look_up : LookUp) (name follows : List ℕ) → follows ≡ [] → encode_utf8_all (unwrap_or (look_up name) []) ++ follows ≡ encode_utf8_all (meaning look_up (Name name ∷ []))
+name_bytes look_up name follows h = ap (λ t. encode_utf8_all (unwrap_or (look_up name) []) ++ t) h ∙ append-nil (encode_utf8_all (unwrap_or (look_up name) [])) ∙ ap encode_utf8_all (sym (append-nil (unwrap_or (look_up name) [])))
+
+name_and_bytes : (look_up : LookUp) (name follows : List ℕ) (c : ℕ) → follows ≡ encode_utf8 c → encode_utf8_all (unwrap_or (look_up name) []) ++ follows ≡ encode_utf8_all (meaning look_up (Name name ∷ Text (c ∷ []) ∷ []))
+name_and_bytes look_up name follows c h = ap (λ t. encode_utf8_all (unwrap_or (look_up name) []) ++ t) (h ∙ sym (append-nil (encode_utf8 c))) ∙ sym (encodes-append (unwrap_or (look_up name) []) (c ∷ []))
+
+pub gives_braced : (dialect : Dialect) (q : CodeQuoting) (text : List ℕ) (name follows rest : Bor (List ℕ)) → IsCut right_brace text name.now rest.now → follows.now ≡ [] → GivesPiece dialect (bracing (quoting_of q) []) (chars text) (record { piece = CodeName name follows; rest = rest; quoting = q })
+gives_braced dialect q text name follows rest cut none = record {
+  pieces = Name (chars name.now) ∷ [];
+  is_read = subst (λ t. IsReadTo dialect (bracing (quoting_of q) []) t (Name (chars name.now) ∷ []) (base (quoting_of q)) (chars rest.now)) (sym cut.spelled) (braced_read dialect (quoting_of q) (chars name.now) (chars rest.now) cut.none_before);
+  follows = cut.rest_utf8;
+  means = λ look_up. name_bytes look_up (chars name.now) follows.now none;
+}
+
+-- an escape
+pub gives_escape : (dialect : Dialect) (q : CodeQuoting) (text : List ℕ) (c : ℕ) (meant rest : Bor (List ℕ)) → IsUtf8 rest.now → chars text ≡ c ∷ chars rest.now → is_escape c ≡ true → meant.now ≡ encode_utf8_all (escape_meaning c ∷ []) → GivesPiece dialect (escaping (quoting_of q)) (chars text) (record { piece = CodeText meant; rest = rest; quoting = q })
+gives_escape dialect q text c meant rest u e h m = record {
+  pieces = Text (escape_meaning c ∷ []) ∷ [];
+  is_read = subst (λ t. IsReadTo dialect (escaping (quoting_of q)) t (Text (escape_meaning c ∷ []) ∷ []) (base (quoting_of q)) (chars rest.now)) (sym e) (one dialect (escaping (quoting_of q)) (base (quoting_of q)) c (chars rest.now) (Text (escape_meaning c ∷ []) ∷ []) (if_so _ _ (is_escape c) h));
+  follows = u;
+  means = λ look_up. m;
+}
+
+pub no_escape : (dialect : Dialect) (q : Quoting) (text rest : List ℕ) (c : ℕ) → text ≡ c ∷ rest → is_escape c ≡ false → StopsAt dialect (escaping q) text text
+no_escape dialect q text rest c e h = subst (λ t. StopsAt dialect (escaping q) t t) (sym e) (stop dialect (escaping q) c rest (if_not _ _ (is_escape c) h))
+
+pub escape_ends : (dialect : Dialect) (text : List ℕ) → text ≡ [] → read dialect (chars text) (escaping unquoted) ≡ Some []
+escape_ends dialect text e = ap (λ t. read dialect t (escaping unquoted)) (no_characters text e)
+
+pub escape_open : (dialect : Dialect) (text : List ℕ) → text ≡ [] → StopsAt dialect (escaping double_quoted) (chars text) (chars text)
+escape_open dialect text e = subst (λ t. StopsAt dialect (escaping double_quoted) t t) (sym (no_characters text e)) (record { front = []; spelled = refl; reads = refl; counts = refl })
+
+-- a space or tab, and what may follow it
+collects_blanks : (dialect : Dialect) (held : List ℕ) (c : ℕ) → is_space_or_tab c ≡ true → goes dialect in_tail c ≡ Some (in_tail, [])
+collects_blanks dialect held c h = if_so _ _ (is_space_or_tab c) h
+
+comment_read : (dialect : Dialect) (comment : List ℕ) → is_empty_or_comment comment ≡ true → read dialect comment in_tail ≡ Some []
+comment_read dialect [] h = refl
+comment_read dialect (c ∷ comment) h = subst (λ d. read dialect (d ∷ comment) in_tail ≡ Some []) (sym (same_from c hash h)) (read_comment dialect comment)
+
+tail_stops : (dialect : Dialect) (comment : List ℕ) → not (begins_passing is_space_or_tab comment) ≡ true → is_empty_or_comment comment ≡ false → StopsAt dialect in_tail comment comment
+tail_stops dialect [] h k = cc
+tail_stops dialect (c ∷ comment) h k = stop dialect in_tail c comment (if_not _ _ (is_space_or_tab c) (is_not (is_space_or_tab c) h) ∙ if_not _ _ (c == hash) k)
+
+tail_run : (dialect : Dialect) (text blanks comment : List ℕ) → IsSpan is_space_or_tab text blanks comment → IsReadTo dialect in_tail text [] in_tail comment
+tail_run dialect text blanks comment is = subst (λ t. IsReadTo dialect in_tail t [] in_tail comment) (sym is.spelled) (run dialect (λ _. in_tail) is_space_or_tab (collects_blanks dialect) [] blanks comment is.pass)
+
+pub tail_ends : (dialect : Dialect) (text blanks comment : List ℕ) → IsSpan is_space_or_tab text blanks comment → is_empty_or_comment comment ≡ true → read dialect text in_tail ≡ Some []
+tail_ends dialect text blanks comment is h = (tail_run dialect text blanks comment is).reads ∙ ap (given []) (comment_read dialect comment h)
+
+pub tail_fault : (dialect : Dialect) (text blanks comment : List ℕ) → IsSpan is_space_or_tab text blanks comment → is_empty_or_comment comment ≡ false → StopsAt dialect in_tail text comment
+tail_fault dialect text blanks comment is h = stop_after dialect in_tail in_tail text comment comment [] (tail_run dialect text blanks comment is) (tail_stops dialect comment is.longest h)
+
+-- characters that mean themselves
+abbrev each_text : List ℕ → List Piece
+each_text [] = []
+each_text (c ∷ cs) = Text (c ∷ []) ∷ each_text cs
+
+meaning-each : (look_up : LookUp) (cs : List ℕ) → meaning look_up (each_text cs) ≡ cs
+meaning-each look_up [] = refl
+meaning-each look_up (c ∷ cs) = ap (λ t. c ∷ t) (meaning-each look_up cs)
+
+plain_goes : (dialect : Dialect) (q : Quoting) (c : ℕ) → is_plain q c ≡ true → goes dialect (base q) c ≡ Some (base q, Text (c ∷ []) ∷ [])
+plain_goes dialect double_quoted c h = inside (c == backslash) (c == double_quote) (c == dollar) h
+  where
+    inside : (b d o : Bool) → not ((b || d) || o) ≡ true → elim b as (λ _. Option (Mode × List Piece)) [ true ↦ Some (escaping double_quoted, []) | false ↦ elim d [ true ↦ Some (base unquoted, []) | false ↦ elim o [ true ↦ Some (naming double_quoted [], []) | false ↦ Some (base double_quoted, Text (c ∷ []) ∷ []) ] ] ] ≡ Some (base double_quoted, Text (c ∷ []) ∷ [])
+    inside false false false h = refl
+    inside true d o h = cc
+    inside false true o h = cc
+    inside false false true h = cc
+plain_goes dialect unquoted c h = outside (c == backslash) (c == single_quote) (c == double_quote) (c == dollar) (is_space_or_tab c) h
+  where
+    outside : (b s d o t : Bool) → not ((((b || s) || d) || o) || t) ≡ true → elim b as (λ _. Option (Mode × List Piece)) [ true ↦ Some (escaping unquoted, []) | false ↦ elim s [ true ↦ Some (in_single [], []) | false ↦ elim d [ true ↦ Some (base double_quoted, []) | false ↦ elim o [ true ↦ Some (naming unquoted [], []) | false ↦ elim t [ true ↦ Some (in_tail, []) | false ↦ Some (base unquoted, Text (c ∷ []) ∷ []) ] ] ] ] ] ≡ Some (base unquoted, Text (c ∷ []) ∷ [])
+    outside false false false false false h = refl
+    outside true s d o t h = cc
+    outside false true d o t h = cc
+    outside false false true o t h = cc
+    outside false false false true t h = cc
+    outside false false false false true h = cc
+
+plain_read : (dialect : Dialect) (q : Quoting) (front rest : List ℕ) → list_all (is_plain q) front ≡ true → IsReadTo dialect (base q) (front ++ rest) (each_text front) (base q) rest
+plain_read dialect q [] rest h = none_read dialect (base q) rest
+plain_read dialect q (c ∷ front) rest h = read_on dialect (base q) (base q) (base q) (c ∷ (front ++ rest)) (front ++ rest) rest (Text (c ∷ []) ∷ []) (each_text front) (one dialect (base q) (base q) c (front ++ rest) (Text (c ∷ []) ∷ []) (plain_goes dialect q c (and_left (is_plain q c) (list_all (is_plain q) front) h))) (plain_read dialect q front rest (and_right (is_plain q c) (list_all (is_plain q) front) h))
+
+pub gives_plain : (dialect : Dialect) (q : CodeQuoting) (text : List ℕ) (front rest : Bor (List ℕ)) → IsUtf8 front.now → IsUtf8 rest.now → IsSpan (is_plain (quoting_of q)) (chars text) (chars front.now) (chars rest.now) → GivesPiece dialect (base (quoting_of q)) (chars text) (record { piece = CodeText front; rest = rest; quoting = q })
+gives_plain dialect q text front rest u v is = record {
+  pieces = each_text (chars front.now);
+  is_read = subst (λ t. IsReadTo dialect (base (quoting_of q)) t (each_text (chars front.now)) (base (quoting_of q)) (chars rest.now)) (sym is.spelled) (plain_read dialect (quoting_of q) (chars front.now) (chars rest.now) is.pass);
+  follows = v;
+  means = λ look_up. sym (ap encode_utf8_all (meaning-each look_up (chars front.now)) ∙ encodes-chars front.now u);
+}
+
+-- a bare name, and what stands after it
+pub name_ends : (dialect : Dialect) (name follows left : Bor (List ℕ)) → IsUtf8 left.now → left.now ≡ [] → follows.now ≡ [] → GivesPiece dialect (naming unquoted (chars name.now)) (chars left.now) (record { piece = CodeName name follows; rest = left; quoting = Unquoted })
+name_ends dialect name follows left u e none = record {
+  pieces = Name (chars name.now) ∷ [];
+  is_read = subst (λ t. IsReadTo dialect (naming unquoted (chars name.now)) t (Name (chars name.now) ∷ []) (base unquoted) t) (sym (no_characters left.now e)) (record { front = []; spelled = refl; reads = refl; counts = refl });
+  follows = u;
+  means = λ look_up. name_bytes look_up (chars name.now) follows.now none;
+}
+
+pub name_open : (dialect : Dialect) (name left : List ℕ) → left ≡ [] → StopsAt dialect (naming double_quoted name) (chars left) (chars left)
+name_open dialect name left e = subst (λ t. StopsAt dialect (naming double_quoted name) t t) (sym (no_characters left e)) (record { front = []; spelled = refl; reads = refl; counts = refl })
+
+place_with : (pieces : List Piece) (g : Option (Mode × List Piece)) (next : Mode → ℕ) → place_after (with_pieces pieces g) next ≡ place_after g next
+place_with pieces None next = refl
+place_with pieces (Some (m, more)) next = refl
+
+left_read : (dialect : Dialect) (q : Quoting) (name cs : List ℕ) (c : ℕ) → is_name_character dialect c ≡ false → is_left_by_name dialect q c ≡ true → IsReadTo dialect (naming q name) (c ∷ cs) (Name name ∷ []) (base q) (c ∷ cs)
+left_read dialect q name cs c h k = record {
+  front = [];
+  spelled = refl;
+  reads = if_not _ _ (is_name_character dialect c) h ∙ if_so _ _ (is_left_by_name dialect q c) k;
+  counts = ap (λ g. place_after g (λ n. place dialect cs n)) (if_not _ _ (is_name_character dialect c) h ∙ if_so _ _ (is_left_by_name dialect q c) k) ∙ place_with (Name name ∷ []) (goes_base q c) (λ n. place dialect cs n) ∙ omega arith;
+}
+
+no_name_first : (dialect : Dialect) (text cs : List ℕ) (c : ℕ) → text ≡ c ∷ cs → not (begins_passing (is_name_character dialect) text) ≡ true → is_name_character dialect c ≡ false
+no_name_first dialect text cs c e h = is_not (is_name_character dialect c) (subst (λ t. not (begins_passing (is_name_character dialect) t) ≡ true) e h)
+
+pub name_left : (dialect : Dialect) (q : CodeQuoting) (name follows left : Bor (List ℕ)) (cs : List ℕ) (c : ℕ) → IsUtf8 left.now → chars left.now ≡ c ∷ cs → not (begins_passing (is_name_character dialect) (chars left.now)) ≡ true → is_left_by_name dialect (quoting_of q) c ≡ true → follows.now ≡ [] → GivesPiece dialect (naming (quoting_of q) (chars name.now)) (chars left.now) (record { piece = CodeName name follows; rest = left; quoting = q })
+name_left dialect q name follows left cs c u e ended h none = record {
+  pieces = Name (chars name.now) ∷ [];
+  is_read = subst (λ t. IsReadTo dialect (naming (quoting_of q) (chars name.now)) t (Name (chars name.now) ∷ []) (base (quoting_of q)) t) (sym e) (left_read dialect (quoting_of q) (chars name.now) cs c (no_name_first dialect (chars left.now) cs c e ended) h);
+  follows = u;
+  means = λ look_up. name_bytes look_up (chars name.now) follows.now none;
+}
+
+no_brace_first : (name text cs : List ℕ) (c : ℕ) → text ≡ c ∷ cs → not (is_empty name && begins_with left_brace text) ≡ true → is_brace_first name c ≡ false
+no_brace_first [] text cs c e h = is_not (c == left_brace) (subst (λ t. not (begins_with left_brace t) ≡ true) e h)
+no_brace_first (d ∷ name) text cs c e h = refl
+
+pub name_then : (dialect : Dialect) (q : CodeQuoting) (name follows left rest : Bor (List ℕ)) (c : ℕ) → IsUtf8 rest.now → chars left.now ≡ c ∷ chars rest.now → not (begins_passing (is_name_character dialect) (chars left.now)) ≡ true → not (is_empty (chars name.now) && begins_with left_brace (chars left.now)) ≡ true → is_left_by_name dialect (quoting_of q) c ≡ false → follows.now ≡ encode_utf8 c → GivesPiece dialect (naming (quoting_of q) (chars name.now)) (chars left.now) (record { piece = CodeName name follows; rest = rest; quoting = q })
+name_then dialect q name follows left rest c u e ended no_brace h f = record {
+  pieces = Name (chars name.now) ∷ Text (c ∷ []) ∷ [];
+  is_read = subst (λ t. IsReadTo dialect (naming (quoting_of q) (chars name.now)) t (Name (chars name.now) ∷ Text (c ∷ []) ∷ []) (base (quoting_of q)) (chars rest.now)) (sym e) (one dialect (naming (quoting_of q) (chars name.now)) (base (quoting_of q)) c (chars rest.now) (Name (chars name.now) ∷ Text (c ∷ []) ∷ []) (if_not _ _ (is_name_character dialect c) (no_name_first dialect (chars left.now) (chars rest.now) c e ended) ∙ if_not _ _ (is_left_by_name dialect (quoting_of q) c) h ∙ if_not _ _ (is_brace_first (chars name.now) c) (no_brace_first (chars name.now) (chars left.now) (chars rest.now) c e no_brace)));
+  follows = u;
+  means = λ look_up. name_and_bytes look_up (chars name.now) follows.now c f;
+}
+
+collects_name : (dialect : Dialect) (q : Quoting) (held : List ℕ) (c : ℕ) → is_name_character dialect c ≡ true → goes dialect (naming q held) c ≡ Some (naming q (held ++ c ∷ []), [])
+collects_name dialect q held c h = if_so _ _ (is_name_character dialect c) h
+
+pub name_run : (dialect : Dialect) (q : Quoting) (text name rest : List ℕ) → IsSpan (is_name_character dialect) text name rest → IsReadTo dialect (naming q []) text [] (naming q name) rest
+name_run dialect q text name rest is = subst (λ t. IsReadTo dialect (naming q []) t [] (naming q name) rest) (sym is.spelled) (run dialect (naming q) (is_name_character dialect) (collects_name dialect q) [] name rest is.pass)
+
+pub no_brace_after : (dialect : Dialect) (text name rest : List ℕ) → IsSpan (is_name_character dialect) text name rest → not (begins_with left_brace text) ≡ true → not (is_empty name && begins_with left_brace rest) ≡ true
+no_brace_after dialect text [] rest is h = subst (λ t. not (begins_with left_brace t) ≡ true) is.spelled h
+no_brace_after dialect text (c ∷ name) rest is h = refl
+
+-- a brace begins a braced name
+pub brace_read : (dialect : Dialect) (q : Quoting) (text cs : List ℕ) → text ≡ left_brace ∷ cs → IsReadTo dialect (naming q []) text [] (bracing q []) cs
+brace_read dialect q text cs e = subst (λ t. IsReadTo dialect (naming q []) t [] (bracing q []) cs) (sym e) (one dialect (naming q []) (bracing q []) left_brace cs [] (if_not _ _ (is_name_character dialect left_brace) (brace_no_name dialect) ∙ if_not _ _ (is_left_by_name dialect q left_brace) (brace_not_left dialect q)))
+
+-- what the first character begins
+pub first_read : (dialect : Dialect) (q : CodeQuoting) (n : Mode) (text cs : List ℕ) (c : ℕ) → text ≡ c ∷ cs → goes dialect (base (quoting_of q)) c ≡ Some (n, []) → IsReadTo dialect (base (quoting_of q)) text [] n cs
+first_read dialect q n text cs c e h = subst (λ t. IsReadTo dialect (base (quoting_of q)) t [] n cs) (sym e) (one dialect (base (quoting_of q)) n c cs [] h)
+
+pub first_shorter : (dialect : Dialect) (m : Mode) (text cs : List ℕ) (c : ℕ) (result : NextPiece) → text ≡ c ∷ cs → NextIs dialect m cs result → IsShorter text result
+first_shorter dialect m text cs c result e h = subst (λ t. IsShorter t result) (sym e) (shorter_after dialect m c cs result h)
+
+pub ends_unquoted : (dialect : Dialect) (text : List ℕ) → text ≡ [] → read dialect (chars text) (base unquoted) ≡ Some []
+ends_unquoted dialect text e = ap (λ t. read dialect t (base unquoted)) (no_characters text e)
+
+pub open_double : (dialect : Dialect) (text : List ℕ) → text ≡ [] → StopsAt dialect (base double_quoted) (chars text) (chars text)
+open_double dialect text e = subst (λ t. StopsAt dialect (base double_quoted) t t) (sym (no_characters text e)) (record { front = []; spelled = refl; reads = refl; counts = refl })
+
+kind_plain : (q : CodeQuoting) (c : ℕ) → Plain ≡ kind_of q c → is_plain (quoting_of q) c ≡ true
+kind_plain Unquoted c = at (c == backslash) (c == single_quote) (c == double_quote) (c == dollar) (is_space_or_tab c)
+  where
+    at : (b s d o t : Bool) → Plain ≡ elim b [ true ↦ Backslash | false ↦ elim s [ true ↦ SingleQuote | false ↦ elim d [ true ↦ DoubleQuote | false ↦ elim o [ true ↦ Dollar | false ↦ elim t [ true ↦ SpaceOrTab | false ↦ Plain ] ] ] ] ] → not ((((b || s) || d) || o) || t) ≡ true
+    at false false false false false h = refl
+    at true s d o t h = cc
+    at false true d o t h = cc
+    at false false true o t h = cc
+    at false false false true t h = cc
+    at false false false false true h = cc
+kind_plain DoubleQuoted c = at (c == backslash) (c == double_quote) (c == dollar)
+  where
+    at : (b d o : Bool) → Plain ≡ elim b [ true ↦ Backslash | false ↦ elim d [ true ↦ DoubleQuote | false ↦ elim o [ true ↦ Dollar | false ↦ Plain ] ] ] → not ((b || d) || o) ≡ true
+    at false false false h = refl
+    at true d o h = cc
+    at false true o h = cc
+    at false false true h = cc
+
+pub begins_plain : (q : CodeQuoting) (text cs : List ℕ) (c : ℕ) → text ≡ c ∷ cs → Plain ≡ kind_of q c → begins_passing (is_plain (quoting_of q)) text ≡ true
+begins_plain q text cs c e h = ap (begins_passing (is_plain (quoting_of q))) e ∙ kind_plain q c h

@@ -1,0 +1,17 @@
+use Rattle.std.proofs.Common.{◌≡◌}
+use Rattle.std.specs.Str.{chars}
+use Rattle.dotenvy.specs.Slices.{quoting_of}
+use Rattle.dotenvy.proofs.NextPiece.{gives_escape, no_escape, escape_ends, escape_open}
+use Rattle.dotenvy.proofs.value.escape.Goals as goal
+
+pub returns-in-Unquoted : goal.returns-in-Unquoted
+returns-in-Unquoted c = λ dialect. rw c.in-Unquoted.is (escape_ends dialect c.args.left.now c.in-None.ensures)
+
+pub returns-in-DoubleQuoted : goal.returns-in-DoubleQuoted
+returns-in-DoubleQuoted c = λ dialect. rw c.in-DoubleQuoted.is (escape_open dialect c.args.left.now c.in-None.ensures)
+
+pub returns-in-Some-escaped : goal.returns-in-Some-escaped
+returns-in-Some-escaped c = λ dialect. gives_escape dialect c.args.quoting c.args.left.now c.in-Some.first _ c.in-Some.rest c.in-Some.ensures.follows c.in-Some.ensures.characters c.in-Some-escaped.ensures.0 c.in-Some-escaped.ensures.1
+
+pub returns-in-None-escaped : goal.returns-in-None-escaped
+returns-in-None-escaped c = λ dialect. no_escape dialect (quoting_of c.args.quoting) (chars c.args.left.now) (chars c.in-Some.rest.now) c.in-Some.first c.in-Some.ensures.characters c.in-None-escaped.ensures

@@ -1,0 +1,2 @@
+pub mod WordsOnce
+pub mod WorkedWords
