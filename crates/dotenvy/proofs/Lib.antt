@@ -36,3 +36,4 @@ pub mod Inputs
 pub mod Nuls
 pub mod LineTexts
 pub mod LineJoins
+pub mod LineEntries
