@@ -1,8 +1,8 @@
 // The bytes of a source, as they are read: a physical line at a time.
-ghost use Rattle.std.specs.Prelude.{[], ◌≡◌, ◌≤◌, ◌<◌, ◌+◌, ◌*◌, ◌==◌, ◌⊎◌, ◌&&◌, ℕ, true, false, Some, None, IfOk, IfErr, IfSome, IfNone, OnOk, MatchOption, MatchBool, position, nat_eq, length, take, drop, vec_len};
+ghost use Rattle.std.specs.Prelude.{[], ◌≡◌, ◌≤◌, ◌<◌, ◌+◌, ◌==◌, ◌⊎◌, true, false, Some, None, IfOk, IfErr, IsTrue, ◌↔◌, OnOk, MatchOption, MatchBool, position, nat_eq, length, take, drop, vec_len};
 ghost use Rattle.std.specs.IoError.{error_kind};
 ghost use Rattle.dotenvy.specs.Source.{Ahead};
-ghost use Rattle.dotenvy.specs.Input.{InputState, IsTold, ReadsOnce, IsAllRead, used_up, supply, ReadsMore, no_line_feed, MovesLine, ReadsLine, begins_mark, DropsMark};
+ghost use Rattle.dotenvy.specs.Input.{IsTold, ReadsOnce, IsAllRead, used_up, supply, ReadsMore, no_line_feed, MovesLine, ReadsLine, begins_mark, DropsMark};
 ghost use Rattle.std.specs.List.{starts_with};
 ghost use Rattle.dotenvy.specs.PhysicalLines.{is_whole_line};
 ghost use Rattle.dotenvy.specs.Marks.{byte_order_mark};
@@ -62,6 +62,7 @@ impl<R: Source, A: Allocator> Input<R, A> {
 
     // Nothing is left, and the end was read.
     pub(crate) fn is_used_up(&self) -> bool
+        ensures value { IsTrue result ↔ ((self.now.at_end ≡ true) × (self.now.unread ≡ 0)) }
         ensures told { (a : Ahead) → self.now.left ≡ Some a → result ≡ true → (a.bytes ≡ []) × (a.fault ≡ None) }
     {
         self.at_end && self.used == self.held.len()
@@ -117,6 +118,7 @@ fn forget_used<A: Allocator>(held: &mut Vec<u8, A>, used: usize) -> usize
     ensures within { result ≤ vec_len held.new }
     ensures unread { drop result held.new.items ≡ drop used held.old.items }
     ensures size { vec_len held.new + used ≡ vec_len held.old + result }
+    ensures forgets { used ≡ vec_len held.old → vec_len held.new ≡ 0 }
 {
     if used < held.len() {
         return used;

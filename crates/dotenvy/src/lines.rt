@@ -1,5 +1,5 @@
 // The logical lines of a source: physical lines, joined where quotes stand open.
-ghost use Rattle.std.specs.Prelude.{◌≡◌, ◌≢◌, ◌≤◌, ◌<◌, ◌++◌, ◌⊎◌, [], Some, None, Ok, IfOk, IfErr, OnOk, OnErr, IfSome, IfNone, IsSome, false, IsTrue, ◌↔◌, ◌^◌, string_bytes};
+ghost use Rattle.std.specs.Prelude.{◌≡◌, ◌≢◌, ◌≤◌, ◌<◌, ◌++◌, [], None, Ok, IfOk, IfErr, OnOk, OnErr, IfSome, IsSome, false, IsTrue, ◌↔◌, ◌^◌, string_bytes};
 ghost use Rattle.std.specs.Str.{chars, skip_leading_whitespace};
 ghost use Rattle.dotenvy.specs.Source.{Ahead};
 ghost use Rattle.dotenvy.specs.Characters.{begins_with, hash};
@@ -8,7 +8,7 @@ ghost use Rattle.dotenvy.specs.LogicalLine.{without_carriage_return};
 ghost use Rattle.dotenvy.specs.LineModes.{leads_outside, leads, kept};
 ghost use Rattle.dotenvy.specs.Errors.{IsMemory, IsMemoryErr};
 ghost use Rattle.dotenvy.specs.Input.{IsTold, DropsMark};
-ghost use Rattle.dotenvy.specs.Lines.{LinesState, fuel_of, NextIs};
+ghost use Rattle.dotenvy.specs.Lines.{fuel_of, NextIs};
 ghost use Rattle.dotenvy.specs.JoinedLines.{WalksLine, joined_at_end, JoinsNext, UsesSome, stage_after, Answers};
 
 use crate::errors::{Error, Result};
