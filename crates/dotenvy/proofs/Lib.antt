@@ -24,19 +24,14 @@ pub mod NextEntries
 pub mod WorkedFiles
 pub mod SearchOnce
 pub mod WorkedSearches
-mod TextMaps
+pub mod TextMaps
 pub mod Keys
 pub mod RememberedMaps
-mod Writing
-pub mod RememberedMaps
+pub mod Writing
 pub mod Slices
 pub mod StatementParts
 pub mod NextPiece
 pub mod Meanings
-pub mod WorkedSearches
-pub mod TextMaps
-pub mod Writing
-pub mod Keys
 pub mod Inputs
 pub mod Nuls
 pub mod LineTexts
