@@ -21,7 +21,7 @@ use Rattle.dotenvy.specs.Marks.{byte_order_mark, without_mark}
 use Rattle.dotenvy.specs.Source.{Ahead}
 use Rattle.dotenvy.proofs.Cuts.{and_left, and_right}
 use Rattle.dotenvy.specs.Errors.{IsMemory, IsIoOf}
-use Rattle.dotenvy.specs.Input.{InputState, left_of, IsTold, IsAllRead, ReadsFit, BoundIsMet, IsFinal, FaultIsNext, Takes, end_reads, no_line_feed, drop_left, used_up, MovesLine, TakesLine, begins_mark}
+use Rattle.dotenvy.specs.Input.{InputState, left_of, IsTold, IsAllRead, ReadsFit, BoundIsMet, IsReadFault, IsFinal, FaultIsNext, Takes, end_reads, no_line_feed, drop_left, used_up, MovesLine, TakesLine, begins_mark}
 
 abbrev is_lf : ℕ → Bool
 is_lf b = b == 10
@@ -108,10 +108,10 @@ nil_of xs [] h = refl
 nil_of xs (y ∷ ys) h = absurd (omega (arith, h, length-append xs (y ∷ ys)))
 
 -- a read that fails
-pub read_more_fails : {A : Type 0} (s : InputState) (e : Bool) (o : Option Ahead) (unread : List ℕ) (a : Ahead) (x : Error A) → e ≡ false → length unread ≡ s.unread → IsTold (left_of e o unread) a → ((b : Ahead) → IsTold o b → IsMemory x ⊎ IsIoOf (FaultIsNext b) x) → IsFinal a s (length a.bytes ≡ s.unread) x
-read_more_fails s e o unread a x h n told once =
+pub read_more_fails : {A : Type 0} (s v : InputState) (e : Bool) (o : Option Ahead) (unread : List ℕ) (a : Ahead) (x : Error A) → e ≡ false → length unread ≡ s.unread → IsTold (left_of e o unread) a → ((b : Ahead) → IsTold o b → IsMemory x ⊎ IsIoOf (FaultIsNext b) x) → IsFinal a s (length a.bytes ≡ s.unread) x v
+read_more_fails s v e o unread a x h n told once =
     let b = told_next e o unread a h told in
-    io_weaker (FaultIsNext b.next) (λ y. ((a.fault ≡ Some (error_kind y)) × (length a.bytes ≡ s.unread)) ⊎ BoundIsMet a s y) x
+    io_weaker (FaultIsNext b.next) (IsReadFault a s (length a.bytes ≡ s.unread) v) x
     (λ y f. inl (b.fault ∙ f.1, ap length (b.bytes ∙ ap (λ l. unread ++ l) f.0 ∙ append-nil unread) ∙ n))
     (once b.next b.is_told)
 
@@ -217,14 +217,14 @@ reading_more a s t v line told r more =
     let m = more (ahead_of r.left a.fault) (reading_told a s t line told r) in
     record { left = r.left; joins = r.joins; is_left = m.0; none = r.none; reads = fits_more a (ahead_of r.left a.fault) (ahead_of r.left a.fault) s t v r.reads m.1 }
 
-pub bound_before : (a b : Ahead) (s t : InputState) (x : IoError) → ReadsFit a s b t → BoundIsMet b t x → BoundIsMet a s x
-bound_before a b s t x fits met = (met.0, let m = met.1 in omega (arith, fits, m))
+pub bound_before : (a b : Ahead) (s t v : InputState) (x : IoError) → ReadsFit a s b t → BoundIsMet b t v x → BoundIsMet a s v x
+bound_before a b s t v x fits met = (met.0, met.1, let m = met.2 in omega (arith, fits, m))
 
-pub reading_fails : {A : Type 0} (a : Ahead) (s t : InputState) (line : List ℕ) (e : Error A) → IsTold s.left a → Reading a s line t → t.unread ≡ 0 → ((b : Ahead) → IsTold t.left b → IsFinal b t (length b.bytes ≡ t.unread) e) → IsFinal a s (no_line_feed a.bytes ≡ true) e
-reading_fails a s t line e told r zero fails =
+pub reading_fails : {A : Type 0} (a : Ahead) (s t v : InputState) (line : List ℕ) (e : Error A) → IsTold s.left a → Reading a s line t → t.unread ≡ 0 → ((b : Ahead) → IsTold t.left b → IsFinal b t (length b.bytes ≡ t.unread) e v) → IsFinal a s (no_line_feed a.bytes ≡ true) e v
+reading_fails a s t v line e told r zero fails =
     let b = ahead_of r.left a.fault in
-    io_weaker (λ x. ((b.fault ≡ Some (error_kind x)) × (length b.bytes ≡ t.unread)) ⊎ BoundIsMet b t x) (λ x. ((a.fault ≡ Some (error_kind x)) × (no_line_feed a.bytes ≡ true)) ⊎ BoundIsMet a s x) e
-    (λ x h. elim h [ inl f ↦ inl (f.0, ap no_line_feed (r.joins ∙ ap (λ l. line ++ l) (empty_of r.left (f.1 ∙ zero)) ∙ append-nil line) ∙ r.none) | inr m ↦ inr (bound_before a b s t x r.reads m) ])
+    io_weaker (IsReadFault b t (length b.bytes ≡ t.unread) v) (IsReadFault a s (no_line_feed a.bytes ≡ true) v) e
+    (λ x h. elim h [ inl f ↦ inl (f.0, ap no_line_feed (r.joins ∙ ap (λ l. line ++ l) (empty_of r.left (f.1 ∙ zero)) ∙ append-nil line) ∙ r.none) | inr m ↦ inr (bound_before a b s t v x r.reads m) ])
     (fails b (reading_told a s t line told r))
 
 -- a move of unread bytes
@@ -277,10 +277,10 @@ mark_decided (b ∷ c ∷ []) later h = let k : ((b == 0xEF) && ((c == 0xBB) && 
     two false u h = refl
 mark_decided (b ∷ c ∷ d ∷ unread) later h = refl
 
-pub deciding_fails : {A : Type 0} (a : Ahead) (s t : InputState) (e : Error A) → ReadsFit a s a t → begins_mark (take t.unread a.bytes) ≡ true → IsFinal a t (length a.bytes ≡ t.unread) e → IsFinal a s (begins_mark a.bytes ≡ true) e
-deciding_fails a s t e fits begins fails =
-    io_weaker (λ x. ((a.fault ≡ Some (error_kind x)) × (length a.bytes ≡ t.unread)) ⊎ BoundIsMet a t x) (λ x. ((a.fault ≡ Some (error_kind x)) × (begins_mark a.bytes ≡ true)) ⊎ BoundIsMet a s x) e
-    (λ x h. elim h [ inl f ↦ inl (f.0, ap begins_mark (sym (take_all t.unread a.bytes (let l = f.1 in omega (arith, l)))) ∙ begins) | inr m ↦ inr (bound_before a a s t x fits m) ])
+pub deciding_fails : {A : Type 0} (a : Ahead) (s t v : InputState) (e : Error A) → ReadsFit a s a t → begins_mark (take t.unread a.bytes) ≡ true → IsFinal a t (length a.bytes ≡ t.unread) e v → IsFinal a s (begins_mark a.bytes ≡ true) e v
+deciding_fails a s t v e fits begins fails =
+    io_weaker (IsReadFault a t (length a.bytes ≡ t.unread) v) (IsReadFault a s (begins_mark a.bytes ≡ true) v) e
+    (λ x h. elim h [ inl f ↦ inl (f.0, ap begins_mark (sym (take_all t.unread a.bytes (let l = f.1 in omega (arith, l)))) ∙ begins) | inr m ↦ inr (bound_before a a s t v x fits m) ])
     fails
 
 mark_test : (unread : ℕ) (a : Ahead) → IsAllRead a unread ⊎ (begins_mark (take unread a.bytes) ≡ false) → starts_with nat_eq a.bytes byte_order_mark ≡ starts_with nat_eq (take unread a.bytes) byte_order_mark

@@ -25,7 +25,7 @@ use Rattle.dotenvy.specs.Decided.{before_some, up_to_last_line_feed}
 use Rattle.dotenvy.specs.LogicalLine.{Skip, Text, Open, Broken, IsNext, IsSkipped, IsOneLine, IsWhole, input_end}
 use Rattle.dotenvy.specs.LineModes.{walk, going, ended}
 use Rattle.dotenvy.specs.Source.{Ahead}
-use Rattle.dotenvy.specs.Input.{InputState, IsTold, ReadsFit, BoundIsMet, IsFinal, no_line_feed, TakesLine}
+use Rattle.dotenvy.specs.Input.{InputState, IsTold, ReadsFit, IsReadFault, IsFinal, no_line_feed, TakesLine}
 use Rattle.dotenvy.specs.Lines.{whole_before, whole_lines, IsOpen, TakesNext, IsUndecided, GoesOn, NextIs}
 use Rattle.dotenvy.specs.JoinedLines.{joined_at_end, TakesJoined, stage_after, Answers}
 use Rattle.dotenvy.proofs.Scans as scans
@@ -35,7 +35,7 @@ use Rattle.dotenvy.proofs.NextLine.{whole_line, last_line, ends_line, whole_ends
 use Rattle.dotenvy.proofs.EntriesOnce.{cut_line_texts, whole_chars, one_last}
 use Rattle.dotenvy.proofs.DecidedFront.{tokens_end}
 use Rattle.dotenvy.proofs.Splitting.{IsGoing, going_start, IsWalked, walk-is}
-use Rattle.dotenvy.proofs.SplitLines.{line_is_one, at_input_end, at_end, reads_all, next-skip, next-text, next-open, next-broken}
+use Rattle.dotenvy.proofs.SplitLines.{left_after, left_after_broken, line_is_one, at_input_end, at_end, reads_all, next-skip, next-text, next-open, next-broken}
 use Rattle.dotenvy.proofs.Inputs.{io_weaker, fits_more, bound_before}
 
 abbrev Lines : Type 0
@@ -250,6 +250,7 @@ joining_ends a s t v seen line text m some u comment walks j k =
       open_at_end = λ h. absurd h;
       left = k.left;
       rest = p.rest ∙ ap (λ i. drop i (physical_lines a.bytes)) (sym (length_more j.taken (chars line)));
+      later = sym (ap (drop (length all)) e ∙ left_after all ls);
       is_left = k.is_left;
       reads = fits_more a (ahead_of j.left a.fault) (ahead_of k.left a.fault) s t v j.reads k.reads;
     }
@@ -266,6 +267,7 @@ joining_skips a s t v seen line m some u empty comment j k =
       open_at_end = λ h. absurd h;
       left = k.left;
       rest = p.rest ∙ ap (λ ts. drop (suc (length ts)) (physical_lines a.bytes)) (j.first empty);
+      later = sym (ap (drop 1) e);
       is_left = k.is_left;
       reads = fits_more a (ahead_of j.left a.fault) (ahead_of k.left a.fault) s t v j.reads k.reads;
     }
@@ -284,6 +286,7 @@ joining_breaks a s t v seen line m some broken j k =
       open_at_end = λ h. absurd h;
       left = k.left;
       rest = n.rest;
+      later = sym (ap (drop (suc (length j.taken))) e ∙ left_after_broken j.taken ls);
       is_left = k.is_left;
       reads = fits_more a (ahead_of j.left a.fault) (ahead_of k.left a.fault) s t v j.reads k.reads;
     }
@@ -313,6 +316,7 @@ joining_end a s t v seen m begun j k =
       open_at_end = λ h. n.2;
       left = k.left;
       rest = ap physical_lines (n.1 ∙ sym n.0) ∙ j.rest;
+      later = ap (λ l. line_texts (whole_before a.fault l)) n.1 ∙ no_texts a.fault ∙ sym (ap (drop (length j.taken)) (e ∙ sym (append-nil (map Some j.taken))) ∙ left_after j.taken []);
       is_left = k.is_left;
       reads = fits_more a (ahead_of j.left a.fault) (ahead_of k.left a.fault) s t v j.reads k.reads;
     }
@@ -361,11 +365,11 @@ undecided a s t seen m kind j fault none count next some is = at j.ends
     at (inr (inl h)) = absurd (some (e ∙ ap (map Some) h))
     at (inr (inr h)) = open_next (not_outside seen m j.is_going h)
 
-pub joining_fails : {A : Type 0} (a : Ahead) (s t : InputState) (seen : List ℕ) (m : LineMode) (e : Error A) → (j : Joining a s seen m t) → IsFinal (record { bytes = j.left; fault = a.fault }) t (no_line_feed j.left ≡ true) e → IsFinal a s (IsUndecided a) e
-joining_fails a s t seen m e j fails =
+pub joining_fails : {A : Type 0} (a : Ahead) (s t v : InputState) (seen : List ℕ) (m : LineMode) (e : Error A) → (j : Joining a s seen m t) → IsFinal (record { bytes = j.left; fault = a.fault }) t (no_line_feed j.left ≡ true) e v → IsFinal a s (IsUndecided a) e v
+joining_fails a s t v seen m e j fails =
     let b = ahead_of j.left a.fault in
-    io_weaker (λ x. ((b.fault ≡ Some (error_kind x)) × (no_line_feed j.left ≡ true)) ⊎ BoundIsMet b t x) (λ x. ((a.fault ≡ Some (error_kind x)) × IsUndecided a) ⊎ BoundIsMet a s x) e
-    (λ x h. elim h [ inl f ↦ inl (f.0, undecided a s t seen m (error_kind x) j f.0 f.1) | inr met ↦ inr (bound_before a b s t x j.reads met) ])
+    io_weaker (IsReadFault b t (no_line_feed j.left ≡ true) v) (IsReadFault a s (IsUndecided a) v) e
+    (λ x h. elim h [ inl f ↦ inl (f.0, undecided a s t seen m (error_kind x) j f.0 f.1) | inr met ↦ inr (bound_before a b s t v x j.reads met) ])
     fails
 
 begun_chars : {A : Type 0} (text : String A) → string_bytes text ≢ [] → chars (string_bytes text) ≢ []

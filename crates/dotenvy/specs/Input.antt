@@ -57,13 +57,17 @@ end_reads at_end = if at_end then 1 else 0
 abbrev pub ReadsFit : Ahead → InputState → Ahead → InputState → Type 0
 ReadsFit a s b t = s.reads + s.unread + length b.bytes + end_reads s.at_end ≤ t.reads + t.unread + length a.bytes + end_reads t.at_end
 
--- the bound on reads was met: each of them gave a byte at least
-abbrev pub BoundIsMet : Ahead → InputState → IoError → Type 0
-BoundIsMet a s e = (error_kind e ≡ Other) × (s.reads + s.unread + end_reads s.at_end ≤ length a.bytes)
+-- the bound on reads was met on the way from s to t: none is left, and each gave a byte at least
+abbrev pub BoundIsMet : Ahead → InputState → InputState → IoError → Type 0
+BoundIsMet a s t e = (error_kind e ≡ Other) × (t.reads ≡ 0) × (s.reads + s.unread + end_reads s.at_end ≤ length a.bytes)
 
--- a final fault: memory was refused, or the fault that is told was met where P holds, or the bound on reads
-abbrev pub IsFinal : {A : Type 0} → Ahead → InputState → Type 0 → Error A → Type 0
-IsFinal a s P e = IsMemory e ⊎ IsIoOf (λ x. ((a.fault ≡ Some (error_kind x)) × P) ⊎ BoundIsMet a s x) e
+-- a fault of reading: the one that is told, met where P holds, or the bound on reads
+abbrev pub IsReadFault : Ahead → InputState → Type 0 → InputState → IoError → Type 0
+IsReadFault a s P t e = ((a.fault ≡ Some (error_kind e)) × P) ⊎ BoundIsMet a s t e
+
+-- a final fault: memory was refused, or a fault of reading
+abbrev pub IsFinal : {A : Type 0} → Ahead → InputState → Type 0 → Error A → InputState → Type 0
+IsFinal a s P e t = IsMemory e ⊎ IsIoOf (IsReadFault a s P t) e
 
 -- the source answers this fault next
 abbrev pub FaultIsNext : Ahead → IoError → Type 0
@@ -87,7 +91,7 @@ ReadsOnce a old (Err e) after new = IsMemory e ⊎ IsIoOf (FaultIsNext a) e
 -- one read: something more was read, or the end
 abbrev pub ReadsMore : {A : Type 0} → Ahead → InputState → Result (Unit {0}) (Error A) → InputState → Type 0
 ReadsMore a s (Ok _) t = (t.left ≡ Some a) × ReadsFit a s a t
-ReadsMore a s (Err e) t = IsFinal a s (length a.bytes ≡ s.unread) e
+ReadsMore a s (Err e) t = IsFinal a s (length a.bytes ≡ s.unread) e t
 
 abbrev pub no_line_feed : List ℕ → Bool
 no_line_feed bytes = list_all (λ b. not (b == line_feed)) bytes
@@ -115,7 +119,7 @@ pub record TakesLine (a : Ahead) (s : InputState) (line : List ℕ) (t : InputSt
 -- a physical line was read, or a fault that is told came before a line feed
 abbrev pub ReadsLine : {A : Type 0} → Ahead → InputState → Result (Unit {0}) (Error A) → List ℕ → InputState → Type 0
 ReadsLine a s (Ok _) line t = TakesLine a s line t
-ReadsLine a s (Err e) line t = IsFinal a s (no_line_feed a.bytes ≡ true) e
+ReadsLine a s (Err e) line t = IsFinal a s (no_line_feed a.bytes ≡ true) e t
 
 -- the front of a byte order mark, and not all of it
 abbrev pub begins_mark : List ℕ → Bool
@@ -124,4 +128,4 @@ begins_mark bytes = nat_lt (length bytes) 3 && starts_with nat_eq byte_order_mar
 -- a byte order mark that stood next was dropped, and nothing else, or a fault that is told came before that was decided
 abbrev pub DropsMark : {A : Type 0} → Ahead → InputState → Result (Unit {0}) (Error A) → InputState → Type 0
 DropsMark a s (Ok _) t = (t.left ≡ Some (record { bytes = without_mark a.bytes; fault = a.fault })) × ReadsFit a s (record { bytes = without_mark a.bytes; fault = a.fault }) t
-DropsMark a s (Err e) t = IsFinal a s (begins_mark a.bytes ≡ true) e
+DropsMark a s (Err e) t = IsFinal a s (begins_mark a.bytes ≡ true) e t

@@ -50,7 +50,7 @@ stage_fuel Failed n = 0
 abbrev pub fuel_of : LinesState → ℕ
 fuel_of s = stage_fuel s.stage (supply s.input)
 
--- from s with a left the next logical line was taken, as long as it is whole: an open end is one at the end alone
+-- from s with a left the next logical line was taken; an open end is one at the end of input alone. What follows its physical lines is left
 pub record TakesNext (a : Ahead) (s : InputState) (next : Logical) (t : InputState) : Type 0 where
   pub count : ℕ
   pub some : whole_lines a ≢ []
@@ -58,6 +58,7 @@ pub record TakesNext (a : Ahead) (s : InputState) (next : Logical) (t : InputSta
   pub open_at_end : IsOpen next → a.fault ≡ None
   pub left : List ℕ
   pub rest : physical_lines left ≡ drop count (physical_lines a.bytes)
+  pub later : whole_lines (record { bytes = left; fault = a.fault }) ≡ drop count (whole_lines a)
   pub is_left : t.left ≡ Some (record { bytes = left; fault = a.fault })
   pub reads : ReadsFit a s (record { bytes = left; fault = a.fault }) t
 
@@ -88,7 +89,7 @@ GoesOn t = (t.stage ≡ stage_open) ⊎ ((t.stage ≡ Ended) × (t.input.left �
 -- the iterator has failed by a fault that is final: in what is told, no logical line comes whole before it
 abbrev pub FailsFor : {T A : Type 0} → Ahead → InputState → Result T (Error A) → Type 0 → LinesState → Type 0
 FailsFor a s (Ok x) P t = ⊥
-FailsFor a s (Err e) P t = (t.stage ≡ Failed) × IsFinal a s P e
+FailsFor a s (Err e) P t = (t.stage ≡ Failed) × IsFinal a s P e t.input
 
 -- an answer of an open iterator with a left
 abbrev pub NextIs : {A : Type 0} → Ahead → InputState → Option (Result (String A) (Error A)) → LinesState → Type 0

@@ -23,7 +23,7 @@ returns-in_err-read_line-clause-told g c = λ a told.
     let j = c.joining.invariant.2 a told in
     let seen = chars (string_bytes c.joining.text) in
     let next : Ahead = record { bytes = j.left; fault = a.fault } in
-    rw (p.1, p.2) (joining_fails a c.args.input.now c.joining.input seen c.joining.mode c.in_err-read_line.field-0.0 j (c.in_err-read_line.ensures.told next (joining_told a c.args.input.now c.joining.input seen c.joining.mode told j)))
+    rw (p.1, p.2) (joining_fails a c.args.input.now c.joining.input c.read_line.new.self seen c.joining.mode c.in_err-read_line.field-0.0 j (c.in_err-read_line.ensures.told next (joining_told a c.args.input.now c.joining.input seen c.joining.mode told j)))
 
 pub returns-then-is_empty-clause-told : goal.returns-then-is_empty-clause-told
 returns-then-is_empty-clause-told g c = λ a told.

@@ -18,7 +18,7 @@ pub returns-in_err-read_more-clause-told : goal.returns-in_err-read_more-clause-
 returns-in_err-read_more-clause-told g c = λ a told.
     let p = err_from_is_err_and c.from_residual.result c.from_residual.ensures.1 in
     let i = c.deciding.invariant.1 a told in
-    rw (p.1, p.2) (deciding_fails a c.args.self.now c.deciding.self c.in_err-read_more.field-0.0 i.1 (c.deciding-test.ensures.told a i.0).1 (c.in_err-read_more.ensures.told a (i.0, told.1)))
+    rw (p.1, p.2) (deciding_fails a c.args.self.now c.deciding.self c.read_more.new.self c.in_err-read_more.field-0.0 i.1 (c.deciding-test.ensures.told a i.0).1 (c.in_err-read_more.ensures.told a (i.0, told.1)))
 
 pub returns-clause-told : goal.returns-clause-told
 returns-clause-told g c = λ a told.

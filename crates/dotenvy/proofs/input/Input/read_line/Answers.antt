@@ -35,4 +35,4 @@ pub returns-in_err-read_more-clause-told : goal.returns-in_err-read_more-clause-
 returns-in_err-read_more-clause-told g c = λ a told.
     let p = err_from_is_err_and c.from_residual-in_err-read_more.result c.from_residual-in_err-read_more.ensures.1 in
     let m = reading_moves a c.args.self.now c.reading.self c.move_to_line.new.self c.reading.line.items c.move_to_line.new.line.items c.in_ok-move_to_line.field-0 c.if-branch.false (c.reading.invariant.1 a told) c.in_ok-move_to_line.ensures.told in
-    rw (p.1, p.2) (reading_fails a c.args.self.now c.move_to_line.new.self c.move_to_line.new.line.items c.in_err-read_more.field-0.0 told m.0 m.1 (λ b t. c.in_err-read_more.ensures.told b t))
+    rw (p.1, p.2) (reading_fails a c.args.self.now c.move_to_line.new.self c.read_more.new.self c.move_to_line.new.line.items c.in_err-read_more.field-0.0 told m.0 m.1 (λ b t. c.in_err-read_more.ensures.told b t))

@@ -10,7 +10,8 @@ returns-in_err-self-inside-clause-told g c = λ a told.
     let items = drop c.self.inside.used c.self.inside.held.items in
     let long : length c.self.inside.held.items ≡ vec_len c.self.inside.held = search rules in
     let unread = ap (λ (v : InputState). v.unread) c.self.view_is in
-    rw (p.1, p.2) (read_more_fails c.args.self.now c.self.inside.at_end (g.R.Source.ahead c.self.inside.reader) items a c.in_err-self-inside.field-0.0
+    let after : InputState = record { left = left_of c.self.inside.at_end (g.R.Source.ahead c.read_once.new.reader) (drop c.forget_used-self-inside.result c.read_once.new.held.items); unread = vec_len c.read_once.new.held - c.forget_used-self-inside.result; reads = c.self.inside.reads_left - 1; at_end = c.self.inside.at_end } in
+    rw (p.1, p.2) (read_more_fails c.args.self.now after c.self.inside.at_end (g.R.Source.ahead c.self.inside.reader) items a c.in_err-self-inside.field-0.0
     (ap (λ (v : InputState). v.at_end) c.self.view_is ∙ c.requires)
     (omega (arith, long, unread, length-drop c.self.inside.used c.self.inside.held.items))
     (ap (λ (v : InputState). v.left) c.self.view_is ∙ told.0, told.1)
