@@ -28,5 +28,6 @@ pub mod Slices
 pub mod StatementParts
 pub mod NextPiece
 pub mod Meanings
+pub mod LinePasses
 pub mod WorkedSearches
 mod TextMaps

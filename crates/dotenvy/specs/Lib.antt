@@ -23,6 +23,8 @@ pub mod ReadValue
 pub mod ParseStatement
 pub mod NextPiece
 pub mod Names
+pub mod ScanLine
+pub mod ParsedLine
 pub mod Laws
 pub mod FileRows
 pub mod WorkedSearches
