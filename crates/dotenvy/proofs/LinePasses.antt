@@ -1,25 +1,33 @@
 -- What the first pass over a line finds, in the words of the format.
 use Rattle.std.proofs.Common.{◌≡◌, ◌≢◌, ℕ, suc, ◌+◌, ◌<◌, ◌≤◌, Bool, true, false, not, List, [], ◌∷◌, ◌++◌, Option, Some, None, Ok, Err, refl, sym, ◌∙◌, ap, subst, arith, length, length-append, inl, inr, cond}
-use Rattle.std.specs.Prelude.{◌-◌, ◌==◌, MatchOption, IsTrue}
+use Rattle.std.specs.Prelude.{◌-◌, ◌==◌, MatchOption, IsTrue, is_some, if◌then◌else◌, string_bytes, option_map, ◌⊎◌}
 use denote.Ref.{Bor}
 use Rattle.std.specs.Str.{chars, encode_utf8_all, IsUtf8, drop_trailing_whitespace, skip_leading_whitespace}
 use Rattle.std.proofs.lemmas.Bool.Decides.{nat_tests}
 use Rattle.std.proofs.lemmas.List.{append-nil}
-use Rattle.std.proofs.lemmas.Str.{encodes-chars, encodes-append, chars-nil}
+use Rattle.std.proofs.lemmas.Str.{encodes-chars, encodes-append, chars-nil, chars_from_encodes, IsUtf8-string_bytes}
 use Rattle.dotenvy.specs.declared.dialect.Dialect.{Dialect}
 use Rattle.dotenvy.specs.declared.parse.Declaration.{Declaration}
 use Rattle.dotenvy.specs.declared.parse.Value.{Value}
 use Rattle.dotenvy.specs.declared.parse.Fault.{Fault}
+use Rattle.dotenvy.specs.declared.parse.Copies.{Copies}
+use Rattle.std.specs.FinMap as fin
+use Rattle.dotenvy.specs.declared.errors.Error.{Error}
+use Rattle.dotenvy.specs.Errors.{IsMemory, IsLineParseOf}
+use Rattle.dotenvy.specs.Remembered.{Remembered}
+use Rattle.dotenvy.specs.ParsedLine.{IsLineAnswer}
 use Rattle.dotenvy.specs.Characters.{byte_len, is_empty_or_comment}
 use Rattle.dotenvy.specs.Value.{Piece, IsValue, unquoted}
 use Rattle.dotenvy.specs.Places.{BeginsValue, IsPlace}
-use Rattle.dotenvy.specs.Line.{Nothing, Pair, Fault as SaysFault, Says, is_nothing, value_index}
+use Rattle.dotenvy.specs.Line.{Outcome, Nothing, Pair, Fault as SaysFault, Says, is_nothing, value_index, Assigns}
 use Rattle.dotenvy.specs.Items.{LookUp, meaning}
 use Rattle.dotenvy.specs.ReadValue.{base, read, place}
 use Rattle.dotenvy.specs.NextPiece.{StopsAt}
-use Rattle.dotenvy.specs.Names.{saturated, MeansBytes}
+use Rattle.dotenvy.specs.Names.{saturated, MeansBytes, Appends}
+use Rattle.dotenvy.specs.Statement.{IsStatement}
+use Rattle.dotenvy.proofs.NextPiece.{is_not}
 use Rattle.dotenvy.specs.ParseStatement.{assigns, fails, parse}
-use Rattle.dotenvy.specs.ScanLine.{IsAssigned, StopsAtIndex, ScansAssigned, IsDeclared, Scans}
+use Rattle.dotenvy.specs.ScanLine.{IsAssigned, StopsAtIndex, ScansAssigned, IsDeclared, Scans, AreCopiesOf}
 use Rattle.dotenvy.proofs.Values.{value-read, read-value}
 use Rattle.dotenvy.proofs.ValuePlaces.{value_place}
 use Rattle.dotenvy.proofs.ScanValue.{no_value}
@@ -129,3 +137,49 @@ pub assigned_bytes : (dialect : Dialect) (look_up : LookUp) (rest : List ℕ) (p
 assigned_bytes dialect look_up rest pieces value written e is =
     let some = subst (IsAssigned dialect look_up rest pieces) e is in
     subst (λ r. MatchOption r ⊥ (λ p. written.len ≡ saturated (byte_len (meaning look_up p)))) (sym (ap (λ t. read dialect t (base unquoted)) some.1 ∙ read-value dialect rest pieces some.2)) some.3
+
+-- and what was appended is the meaning of its pieces
+pub assigned_meaning : (dialect : Dialect) (look_up : LookUp) (rest : List ℕ) (pieces : List Piece) (value : Option Value) (written : Value) (bytes : List ℕ) → value ≡ Some written → IsAssigned dialect look_up rest pieces value → Appends dialect look_up (chars written.text.now) [] bytes → bytes ≡ encode_utf8_all (meaning look_up pieces)
+assigned_meaning dialect look_up rest pieces value written bytes e is h =
+    let some = subst (IsAssigned dialect look_up rest pieces) e is in
+    subst (λ r. MatchOption r ⊥ (λ p. bytes ≡ [] ++ encode_utf8_all (meaning look_up p))) (ap (λ t. read dialect t (base unquoted)) some.1 ∙ read-value dialect rest pieces some.2) h
+
+-- the characters of a text that was spelled from characters
+pub chars-spelled : (text spelled : List ℕ) → IsUtf8 text → text ≡ encode_utf8_all spelled → chars text ≡ spelled
+chars-spelled text spelled u h = sym (chars_from_encodes spelled text u (sym h))
+
+-- what is declared is what the line says
+pub says_declared : (dialect : Dialect) (look_up : LookUp) (line key : List ℕ) (declaration : Declaration) (is : IsDeclared dialect look_up line declaration) → chars declaration.key.now ≡ key → Says dialect line (Pair key is.pieces)
+says_declared dialect look_up line key declaration is e = (is.some, is.rest, subst (λ k. IsStatement (drop_trailing_whitespace line) k is.rest) e is.statement, at declaration.value is.is_assigned)
+  where
+    at : (value : Option Value) → IsAssigned dialect look_up is.rest is.pieces value → Assigns dialect is.rest is.pieces
+    at None h = inl h
+    at (Some written) h = inr (h.0, h.2)
+
+-- no value is remembered where none is assigned
+pub remembered_as : (dialect : Dialect) (look_up : LookUp) (rest : List ℕ) (pieces : List Piece) (value : Option Value) (text : List ℕ) → IsAssigned dialect look_up rest pieces value → (if is_some value then Some text else None) ≡ (if is_empty_or_comment rest then None else Some text)
+remembered_as dialect look_up rest pieces None text is = sym (ap (λ b. cond b None (Some text)) is.0)
+remembered_as dialect look_up rest pieces (Some written) text is = sym (ap (λ b. cond b None (Some text)) (is_not (is_empty_or_comment rest) is.0))
+
+-- the answer of a pair
+pub pair_answer : {A : Type 0} (dialect : Dialect) (look_up : LookUp) (line : List ℕ) (declaration : Declaration) (copies : Copies A) (is : IsDeclared dialect look_up line declaration) → AreCopiesOf look_up declaration is.pieces copies → (outcome : Outcome) × Says dialect line outcome × IsLineAnswer {A = A} look_up outcome (Ok (Some (copies.key, copies.value)))
+pair_answer dialect look_up line declaration copies is are = (
+  Pair (chars (string_bytes copies.key)) is.pieces,
+  says_declared dialect look_up line (chars (string_bytes copies.key)) declaration is (ap chars (sym are.key)),
+  (refl, chars-spelled (string_bytes copies.value) (meaning look_up is.pieces) (IsUtf8-string_bytes copies.value) are.value),
+)
+
+pub pair_statement : {A : Type 0} (dialect : Dialect) (look_up : LookUp) (line : List ℕ) (declaration : Declaration) (copies : Copies A) (is : IsDeclared dialect look_up line declaration) → AreCopiesOf look_up declaration is.pieces copies → IsStatement (drop_trailing_whitespace line) (chars (string_bytes copies.key)) is.rest
+pair_statement dialect look_up line declaration copies is are = subst (λ k. IsStatement (drop_trailing_whitespace line) (chars k) is.rest) (sym are.key) is.statement
+
+-- what is remembered of a pair
+pub pair_remembered : {A : Type 0} (dialect : Dialect) (look_up : LookUp) (line : List ℕ) (declaration : Declaration) (copies : Copies A) (is : IsDeclared dialect look_up line declaration) → AreCopiesOf look_up declaration is.pieces copies → (old new : Remembered) → new ≡ fin.insert old (string_bytes copies.remembered_key) (option_map string_bytes copies.remembered_value) → new ≡ fin.insert old (string_bytes copies.key) (if is_empty_or_comment is.rest then None else Some (string_bytes copies.value))
+pair_remembered dialect look_up line declaration copies is are old new h =
+    h
+    ∙ ap (λ k. fin.insert old k (option_map string_bytes copies.remembered_value)) (are.remembered_key ∙ sym are.key)
+    ∙ ap (λ v. fin.insert old (string_bytes copies.key) v) (are.remembered_value ∙ remembered_as dialect look_up is.rest is.pieces declaration.value (string_bytes copies.value) is.is_assigned)
+
+-- the answer of a fault
+pub fault_answer : {A : Type 0} (dialect : Dialect) (look_up : LookUp) (line text : List ℕ) (index : ℕ) (e : Error A) → Says dialect line (SaysFault text index) → IsMemory e ⊎ IsLineParseOf text index e → IsMemory e ⊎ ((outcome : Outcome) × Says dialect line outcome × IsLineAnswer look_up outcome (Err e))
+fault_answer dialect look_up line text index e says (inl refused) = inl refused
+fault_answer dialect look_up line text index e says (inr is) = inr (SaysFault text index, says, is)
