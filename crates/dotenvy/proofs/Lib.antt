@@ -36,3 +36,6 @@ pub mod Inputs
 pub mod Nuls
 pub mod LineTexts
 pub mod LineJoins
+pub mod LinePasses
+pub mod WorkedSearches
+mod TextMaps

@@ -29,6 +29,8 @@ pub mod Names
 pub mod Input
 pub mod Lines
 pub mod Iter
+pub mod ScanLine
+pub mod ParsedLine
 pub mod Laws
 pub mod WorkedFiles
 pub mod WorkedLoads
