@@ -37,5 +37,3 @@ pub mod Nuls
 pub mod LineTexts
 pub mod LineJoins
 pub mod LinePasses
-pub mod WorkedSearches
-mod TextMaps

@@ -24,13 +24,13 @@ pub mod Source
 pub mod Sent
 pub mod Environment
 pub mod Remembered
+pub mod ScanLine
+pub mod ParsedLine
 pub mod NextPiece
 pub mod Names
 pub mod Input
 pub mod Lines
 pub mod Iter
-pub mod ScanLine
-pub mod ParsedLine
 pub mod Laws
 pub mod WorkedFiles
 pub mod WorkedLoads
