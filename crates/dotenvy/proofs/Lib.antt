@@ -37,3 +37,4 @@ pub mod Nuls
 pub mod LineTexts
 pub mod LineJoins
 pub mod LineEntries
+pub mod LinePasses

@@ -24,6 +24,8 @@ pub mod Source
 pub mod Sent
 pub mod Environment
 pub mod Remembered
+pub mod ScanLine
+pub mod ParsedLine
 pub mod NextPiece
 pub mod Names
 pub mod Input

@@ -28,9 +28,13 @@ look_up_of names = names_of names.environment.now.names (remembered_of names.rem
 abbrev pub saturated : ℕ → ℕ
 saturated n = min n (2 ^ 64 - 1)
 
+-- the text is a value, and means so many bytes, or more than a `usize` counts
+abbrev pub MeansBytes : (dialect : Dialect) → LookUp → List ℕ → ℕ → Type 0
+MeansBytes dialect look_up value len = MatchOption (read dialect value (base unquoted)) ⊥ (λ pieces. len ≡ saturated (byte_len (meaning look_up pieces)))
+
 -- the byte length of what the value means; or what is left where no value goes on
 abbrev pub Measures : (dialect : Dialect) → LookUp → List ℕ → Result ℕ (Bor (List ℕ)) → Type 0
-Measures dialect look_up value (Ok len) = MatchOption (read dialect value (base unquoted)) ⊥ (λ pieces. len ≡ saturated (byte_len (meaning look_up pieces)))
+Measures dialect look_up value (Ok len) = MeansBytes dialect look_up value len
 Measures dialect look_up value (Err left) = StopsAt dialect (base unquoted) value (chars left.now)
 
 -- the text is a value, and what it means fits after so many bytes

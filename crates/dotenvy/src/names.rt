@@ -1,12 +1,14 @@
 // What the names of a line stand for, and what a value means by them.
-ghost use Rattle.std.specs.Prelude.{◌≡◌, ◌≤◌, ◌+◌, ◌++◌, [], length, unwrap_or, string_bytes, string_len};
+ghost use Rattle.std.specs.Prelude.{◌≡◌, ◌≤◌, ◌+◌, ◌++◌, [], length, unwrap_or, string_bytes, string_len, MatchResult};
+ghost use Rattle.dotenvy.specs.Errors.{IsMemory};
 ghost use Rattle.std.specs.String.{string_capacity};
 ghost use Rattle.std.specs.Str.{chars, encode_utf8_all};
 ghost use Rattle.dotenvy.specs.NextPiece.{piece_bytes};
-ghost use Rattle.dotenvy.specs.Names.{look_up_of, saturated, Measures, HasRoom, Appends};
+ghost use Rattle.dotenvy.specs.Names.{look_up_of, saturated, Measures, MeansBytes, HasRoom, Appends};
 
 use crate::dialect::Dialect;
 use crate::environment::Environment;
+use crate::errors::Result;
 use crate::remembered::{Remembered, recall};
 use crate::text::Quoting;
 use crate::value::{NextPiece, Piece, next_piece};
@@ -91,5 +93,21 @@ impl<'a, A: Allocator> Names<'a, A> {
             rest = given.rest;
             quoting = given.quoting;
         }
+    }
+
+    /// The meaning of a value that was measured: one growth, by that length.
+    pub(crate) fn expand(
+        &self,
+        alloc: A,
+        value: &str,
+        len: usize,
+        dialect: Dialect,
+    ) -> Result<String<A>, A>
+        requires { MeansBytes dialect (look_up_of self.now) (chars value.now) len }
+        ensures { MatchResult result (λ text. Appends dialect (look_up_of self.now) (chars value.now) [] (string_bytes text)) IsMemory }
+    {
+        let mut meaning = String::with_capacity(alloc, len)?;
+        self.append_meaning(&mut meaning, value, dialect);
+        Ok(meaning)
     }
 }

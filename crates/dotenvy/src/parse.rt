@@ -1,18 +1,29 @@
 // What one logical line says.
+ghost use Rattle.std.specs.Prelude.{◌≡◌, ◌⊎◌, ◌<◌, ◌++◌, not, length, List, ℕ, IfOk, IfErr};
+ghost use Rattle.std.specs.Str.{chars};
+ghost use Rattle.dotenvy.specs.Characters.{byte_len};
+ghost use Rattle.dotenvy.specs.Line.{Outcome, Says, value_index};
+ghost use Rattle.dotenvy.specs.Errors.{IsMemory, IsMemoryErr, IsLineParseOf};
+ghost use Rattle.dotenvy.specs.Remembered.{remembered_of};
+ghost use Rattle.dotenvy.specs.Names.{look_up_of, names_of};
+ghost use Rattle.dotenvy.specs.Value.{Piece};
+ghost use Rattle.dotenvy.specs.ScanLine.{IsAssigned, ScansAssigned, Scans, AreCopiesOf};
+ghost use Rattle.dotenvy.specs.ParsedLine.{IsLineAnswer, Remembers, HasKey};
+
 use crate::dialect::Dialect;
 use crate::environment::Environment;
 use crate::errors::{Error, Result};
 use crate::names::Names;
 use crate::remembered::{Remembered, remember};
 use crate::statement::split_statement;
-use crate::text::is_empty_or_comment;
+use crate::text::{char_count, is_empty_or_comment};
 use std::alloc::Allocator;
 
 pub(crate) type Pair<A> = (String<A>, String<A>);
 
 pub(crate) type ParsedLine<A> = Result<Option<Pair<A>>, A>;
 
-// A value as it is written, and how many bytes its meaning takes.
+// A value as it is written, and how many bytes it means.
 #[derive(Clone, Copy)]
 struct Value<'a> {
     text: &'a str,
@@ -33,66 +44,138 @@ struct Fault<'a> {
     index: usize,
 }
 
-impl<'a> Fault<'a> {
-    fn error<A: Allocator>(self, alloc: A) -> Error<A> {
-        match String::from_str(alloc, self.text) {
-            Ok(text) => Error::LineParse(text, self.index),
-            Err(refused) => Error::Memory(refused),
-        }
+// The texts of a declaration: those that are answered, and those that are remembered.
+#[derive(Drop)]
+struct Copies<A: Allocator> {
+    key: String<A>,
+    value: String<A>,
+    remembered_key: String<A>,
+    remembered_value: Option<String<A>>,
+}
+
+fn fault_error<A: Allocator>(alloc: A, text: &str, index: usize) -> Error<A>
+    ensures { IsMemory result ⊎ IsLineParseOf (chars text.now) index result }
+{
+    match String::from_str(alloc, text) {
+        Ok(text) => Error::LineParse(text, index),
+        Err(refused) => Error::Memory(refused),
     }
 }
 
-// In characters, but for a value that lacks its end.
-fn value_index(value: &str, left: &str) -> usize {
+// How many bytes of the text stand before what is left of it.
+fn front_len(text: &str, left: &str) -> usize
+    requires { (front : List ℕ) × (chars text.now ≡ front ++ chars left.now) }
+    ensures { (front : List ℕ) → chars text.now ≡ front ++ chars left.now → result ≡ byte_len front }
+{
+    text.len() - left.len()
+}
+
+// The index of a fault in a value: in characters, but in bytes for a value that only lacks its end.
+fn fault_index(value: &str, left: &str) -> usize
+    requires cut { (front : List ℕ) × (chars value.now ≡ front ++ chars left.now) }
+    requires nonempty { 0 < length value.now }
+    ensures { (front : List ℕ) → chars value.now ≡ front ++ chars left.now → result ≡ value_index (chars value.now) (length front) }
+{
     if left.is_empty() {
         value.len() - 1
     } else {
-        value.chars().count() - left.chars().count()
+        char_count(value) - char_count(left)
     }
 }
 
+// The declaration of what is assigned to a key, or the fault in it.
+fn scan_assigned<'a, A: Allocator>(
+    key: &'a str,
+    text: &'a str,
+    names: &Names<'_, A>,
+    dialect: Dialect,
+) -> std::result::Result<Declaration<'a>, Fault<'a>>
+    ensures { ScansAssigned dialect (look_up_of names.now) (chars key.now) (chars text.now) result }
+{
+    if is_empty_or_comment(text) {
+        return Ok(Declaration { key, value: None });
+    }
+    match names.measure(text, dialect) {
+        Ok(len) => Ok(Declaration {
+            key,
+            value: Some(Value { text, len }),
+        }),
+        Err(left) => Err(Fault {
+            text,
+            index: fault_index(text, left),
+        }),
+    }
+}
+
+// The first pass, which takes no memory: nothing, a declaration with the length of its value's meaning, or the fault.
 fn scan_line<'a, A: Allocator>(
     line: &'a str,
     names: &Names<'_, A>,
     dialect: Dialect,
-) -> std::result::Result<Option<Declaration<'a>>, Fault<'a>> {
+) -> std::result::Result<Option<Declaration<'a>>, Fault<'a>>
+    ensures { Scans dialect (look_up_of names.now) (chars line.now) result }
+{
     let trimmed = line.trim_end();
     if is_empty_or_comment(trimmed.trim_start()) {
         return Ok(None);
     }
     match split_statement(trimmed) {
-        Ok(statement) => {
-            let key = statement.key;
-            let text = statement.rest;
-            if is_empty_or_comment(text) {
-                return Ok(Some(Declaration { key, value: None }));
-            }
-            match names.measure(text, dialect) {
-                Ok(len) => Ok(Some(Declaration {
-                    key,
-                    value: Some(Value { text, len }),
-                })),
-                Err(left) => Err(Fault {
-                    text,
-                    index: value_index(text, left),
-                }),
-            }
-        }
+        Ok(statement) => match scan_assigned(statement.key, statement.rest, names, dialect) {
+            Ok(declaration) => Ok(Some(declaration)),
+            Err(fault) => Err(fault),
+        },
         Err(left) => Err(Fault {
             text: line,
-            index: trimmed.len() - left.len(),
+            index: front_len(trimmed, left),
         }),
     }
 }
 
-/// What one logical line says: nothing, a pair, or a fault. A pair is remembered.
+// The second pass: all memory that a declaration takes but for that of the map.
+fn copies_of<A: Allocator + Clone>(
+    alloc: A,
+    declaration: Declaration<'_>,
+    names: &Names<'_, A>,
+    dialect: Dialect,
+) -> Result<Copies<A>, A>
+    requires { (rest : List ℕ) × (pieces : List Piece) × IsAssigned dialect (look_up_of names.now) rest pieces declaration.value }
+    ensures copies { (rest : List ℕ) (pieces : List Piece) → IsAssigned dialect (look_up_of names.now) rest pieces declaration.entry.value → IfOk result (AreCopiesOf (look_up_of names.now) declaration.entry pieces) }
+    ensures refused { IfErr result IsMemory }
+{
+    let key = String::from_str(alloc.clone()?, declaration.key)?;
+    let remembered_key = String::from_str(alloc.clone()?, declaration.key)?;
+    match declaration.value {
+        None => Ok(Copies {
+            key,
+            value: String::new(alloc),
+            remembered_key,
+            remembered_value: None,
+        }),
+        Some(written) => {
+            let value = names.expand(alloc.clone()?, written.text, written.len, dialect)?;
+            let remembered_value = Some(String::from_str(alloc, value.as_str())?);
+            Ok(Copies {
+                key,
+                value,
+                remembered_key,
+                remembered_value,
+            })
+        }
+    }
+}
+
+/// What one logical line says: nothing, a key and its value, or a fault. A pair is remembered.
 pub(crate) fn parse_line<A: Allocator + Clone>(
     alloc: A,
     line: &str,
     remembered: &mut Remembered<A>,
     environment: &Environment<A>,
     dialect: Dialect,
-) -> ParsedLine<A> {
+) -> ParsedLine<A>
+    ensures answer { IsMemoryErr result ⊎ ((outcome : Outcome) × Says dialect (chars line.now) outcome × IsLineAnswer (names_of environment.now.names (remembered_of remembered.old.entries)) outcome result) }
+    ensures remembers { Remembers (chars line.now) remembered.old.entries remembered.new.entries result }
+    ensures key { IfOk result HasKey }
+{
     let names = Names {
         environment,
         remembered: &*remembered,
@@ -100,22 +183,15 @@ pub(crate) fn parse_line<A: Allocator + Clone>(
     let declaration = match scan_line(line, &names, dialect) {
         Ok(Some(declaration)) => declaration,
         Ok(None) => return Ok(None),
-        Err(fault) => return Err(fault.error(alloc)),
+        Err(fault) => return Err(fault_error(alloc, fault.text, fault.index)),
     };
-    let value = match declaration.value {
-        Some(value) => {
-            let mut meaning = String::with_capacity(alloc.clone()?, value.len)?;
-            names.append_meaning(&mut meaning, value.text, dialect);
-            meaning
-        }
-        None => String::new(alloc.clone()?),
-    };
-    let remembered_value = match declaration.value {
-        Some(_) => Some(value.clone()?),
-        None => None,
-    };
-    let key = String::from_str(alloc.clone()?, declaration.key)?;
-    let remembered_key = String::from_str(alloc, declaration.key)?;
+    let copies = copies_of(alloc, declaration, &names, dialect)?;
+    let Copies {
+        key,
+        value,
+        remembered_key,
+        remembered_value,
+    } = copies;
     remember(remembered, remembered_key, remembered_value)?;
     Ok(Some((key, value)))
 }

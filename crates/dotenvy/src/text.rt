@@ -1,5 +1,5 @@
 // Texts cut at characters, and the classes of characters.
-ghost use Rattle.std.specs.Prelude.{◌≡◌, ◌++◌, [], MatchOption};
+ghost use Rattle.std.specs.Prelude.{◌≡◌, ◌++◌, [], length, MatchOption};
 ghost use Rattle.std.specs.Str.{chars, IsUtf8};
 ghost use Rattle.unicode.specs.GeneralCategory.{general_category, general_category_number};
 ghost use Rattle.dotenvy.specs.Characters.{begins_key, continues_key, is_number_category, allows_underscore, is_name_character, is_empty_or_comment};
@@ -90,6 +90,12 @@ pub(crate) fn split_first(text: &str) -> Option<(char, &str)>
     let mut chars = text.chars();
     let first = chars.next()?;
     Some((first, chars.as_str()))
+}
+
+pub(crate) fn char_count(text: &str) -> usize
+    ensures { result ≡ length (chars text.now) }
+{
+    text.chars().count()
 }
 
 pub(crate) fn is_empty_or_comment(text: &str) -> bool
