@@ -1,13 +1,14 @@
+pub mod Basics
 pub mod Cuts
 pub mod LoadLaws
 pub mod LoadsTwice
 pub mod ReadBack
 pub mod ReadBackLines
+pub mod WrittenTexts
 pub mod Scans
-pub mod Rows
+pub mod NameCharacters
 pub mod Values
 pub mod ValuePlaces
-mod ValueRows
 pub mod Statements
 pub mod StatementPlaces
 pub mod Outcomes
@@ -20,8 +21,7 @@ pub mod ParseLine
 pub mod ScanValue
 pub mod SayLine
 pub mod NextEntries
-pub mod RawLines
-pub mod FileRows
+pub mod WorkedFiles
 pub mod SearchOnce
 mod RememberedMaps
 pub mod Slices
@@ -31,3 +31,4 @@ pub mod Meanings
 pub mod LinePasses
 pub mod WorkedSearches
 mod TextMaps
+pub mod Keys

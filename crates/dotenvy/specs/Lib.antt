@@ -7,12 +7,12 @@ pub mod Value
 pub mod Places
 pub mod Line
 pub mod Entries
-pub mod Decided
 pub mod Items
 pub mod Run
 pub mod Loads
 pub mod Marks
 pub mod Written
+pub mod Decided
 pub mod Search
 pub mod Errors
 pub mod Source
@@ -26,5 +26,6 @@ pub mod Names
 pub mod ScanLine
 pub mod ParsedLine
 pub mod Laws
-pub mod FileRows
+pub mod WorkedFiles
+pub mod WorkedLoads
 pub mod WorkedSearches

@@ -14,6 +14,6 @@ mod text;
 mod value;
 
 pub use dialect::Dialect;
-pub use environment::{Environment, is_name};
+pub use environment::{Environment, is_key, is_name};
 pub use errors::{Error, Result, VarError};
 pub use source::{Bytes, Plain, Sink, Source};

@@ -1,11 +1,11 @@
 -- Worked words of the command line.
 use Rattle.std.proofs.Common.{◌≡◌, ℕ, List, Result, refl}
-use Rattle.dotenvy_run.specs.Words.{CommandLine, Usage, usage, HasUsage}
+use Rattle.dotenvy_run.specs.Words.{CommandLine, Usage, answer_to, HasUsage}
 use Rattle.dotenvy_run.specs.WorkedWords.{HaveUsages}
 use Rattle.dotenvy_run.proofs.WordsOnce.{read, words-read}
 
-words_row : (words : List (List ℕ)) (answer : Result CommandLine Usage) → answer ≡ usage (read words).0 (read words).1 → HasUsage words answer
+words_row : (words : List (List ℕ)) (answer : Result CommandLine Usage) → answer ≡ answer_to (read words).0 (read words).1 → HasUsage words answer
 words_row words answer h = ((read words).0, (read words).1, words-read words, h)
 
 pub usages : HaveUsages
-usages = (words_row _ _ refl, words_row _ _ refl, words_row _ _ refl, words_row _ _ refl, words_row _ _ refl, words_row _ _ refl)
+usages = (words_row _ _ refl, words_row _ _ refl, words_row _ _ refl, words_row _ _ refl, words_row _ _ refl, words_row _ _ refl, words_row _ _ refl, words_row _ _ refl)

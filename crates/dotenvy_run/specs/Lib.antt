@@ -1,3 +1,5 @@
 pub mod Words
 pub mod Laws
 pub mod WorkedWords
+pub mod Failures
+pub mod Asks

@@ -1,4 +1,4 @@
-use Rattle.std.proofs.Common.{rules, ◌≡◌, sym, ap, subst, ◌∙◌, arith}
+use Rattle.std.proofs.Common.{rules}
 use Rattle.dotenvy.proofs.TextMaps.{get-strings}
 use Rattle.dotenvy.proofs.environment.Environment.contains.Goals as goal
 

@@ -1,4 +1,4 @@
-use Rattle.std.proofs.Common.{rules, ◌≡◌, sym, false, ap, subst, ◌∙◌, arith}
+use Rattle.std.proofs.Common.{false}
 use Rattle.dotenvy.proofs.TextMaps.{good-empty}
 use Rattle.dotenvy.proofs.environment.Environment.new.Goals as goal
 

@@ -1,4 +1,4 @@
-use Rattle.std.proofs.Common.{rules, ◌≡◌, sym, ap, subst, ◌∙◌, arith}
+use Rattle.std.proofs.Common.{rules, ap}
 use Rattle.std.specs.Prelude.{string_bytes}
 use Rattle.std.specs.FinMap.{insert}
 use Rattle.dotenvy.proofs.TextMaps.{of_strings, insert-strings, good-insert}

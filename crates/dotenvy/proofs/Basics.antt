@@ -1,0 +1,40 @@
+-- Facts on tests, options and codes that many proofs use.
+use Rattle.std.proofs.Common.{◌≡◌, ℕ, Bool, true, false, ◌&&◌, ◌||◌, not, Option, Some, refl, arith}
+use Rattle.std.specs.Prelude.{◌==◌}
+use Rattle.std.proofs.lemmas.Bool.Decides.{nat_tests}
+
+pub and_left : (a b : Bool) → (a && b) ≡ true → a ≡ true
+and_left true b h = refl
+and_left false b h = cc
+
+pub and_right : (a b : Bool) → (a && b) ≡ true → b ≡ true
+and_right true b h = h
+and_right false b h = cc
+
+pub both : (a b : Bool) → a ≡ true → b ≡ true → (a && b) ≡ true
+both true b h k = k
+both false b h k = cc
+
+pub not_is : (a : Bool) → not a ≡ true → a ≡ false
+not_is true h = cc
+not_is false h = refl
+
+pub not_or : (a b : Bool) → not (a || b) ≡ true → (a ≡ false) × (b ≡ false)
+not_or false false h = (refl, refl)
+not_or true b h = cc
+not_or false true h = cc
+
+pub when_true : {A : Type 0} (x y : A) (b : Bool) → b ≡ true → elim b [ true ↦ x | false ↦ y ] ≡ x
+when_true x y true h = refl
+when_true x y false h = cc
+
+pub when_false : {A : Type 0} (x y : A) (b : Bool) → b ≡ false → elim b [ true ↦ x | false ↦ y ] ≡ y
+when_false x y true h = cc
+when_false x y false h = refl
+
+pub some_same : {A : Type 0} (x y : A) → ◌≡◌ {A = Option A} (Some x) (Some y) → x ≡ y
+some_same x y h = cc
+
+-- equal codes, by the test
+pub same_from : (c d : ℕ) → (c == d) ≡ true → c ≡ d
+same_from c d h = grind (arith, nat_tests, h)
