@@ -25,7 +25,7 @@ use Rattle.dotenvy.specs.ReadValue.{base, read, place}
 use Rattle.dotenvy.specs.NextPiece.{StopsAt}
 use Rattle.dotenvy.specs.Names.{saturated, MeansBytes, Appends}
 use Rattle.dotenvy.specs.Statement.{IsStatement}
-use Rattle.dotenvy.proofs.NextPiece.{is_not}
+use Rattle.dotenvy.proofs.Basics.{not_is}
 use Rattle.dotenvy.specs.ParseStatement.{assigns, fails, parse}
 use Rattle.dotenvy.specs.ScanLine.{IsAssigned, StopsAtIndex, ScansAssigned, IsDeclared, Scans, AreCopiesOf}
 use Rattle.dotenvy.proofs.Values.{value-read, read-value}
@@ -159,7 +159,7 @@ says_declared dialect look_up line key declaration is e = (is.some, is.rest, sub
 -- no value is remembered where none is assigned
 pub remembered_as : (dialect : Dialect) (look_up : LookUp) (rest : List ℕ) (pieces : List Piece) (value : Option Value) (text : List ℕ) → IsAssigned dialect look_up rest pieces value → (if is_some value then Some text else None) ≡ (if is_empty_or_comment rest then None else Some text)
 remembered_as dialect look_up rest pieces None text is = sym (ap (λ b. cond b None (Some text)) is.0)
-remembered_as dialect look_up rest pieces (Some written) text is = sym (ap (λ b. cond b None (Some text)) (is_not (is_empty_or_comment rest) is.0))
+remembered_as dialect look_up rest pieces (Some written) text is = sym (ap (λ b. cond b None (Some text)) (not_is (is_empty_or_comment rest) is.0))
 
 -- the answer of a pair
 pub pair_answer : {A : Type 0} (dialect : Dialect) (look_up : LookUp) (line : List ℕ) (declaration : Declaration) (copies : Copies A) (is : IsDeclared dialect look_up line declaration) → AreCopiesOf look_up declaration is.pieces copies → (outcome : Outcome) × Says dialect line outcome × IsLineAnswer {A = A} look_up outcome (Ok (Some (copies.key, copies.value)))

@@ -21,8 +21,13 @@ use Rattle.dotenvy.specs.Value.{Quoting, unquoted, double_quoted, Piece, Text, N
 use Rattle.dotenvy.specs.Items.{LookUp, meaning}
 use Rattle.dotenvy.specs.ReadValue.{Mode, base, escaping, in_single, naming, bracing, in_tail, in_comment, Reading, given, is_brace_first, from_base, from, at_end, read, goes_base, with_pieces, goes, place_after, place}
 use Rattle.dotenvy.specs.NextPiece.{other_quoting, is_empty, kind_of, piece_bytes, IsReadTo, GivesPiece, StopsAt, NextIs, IsShorter}
+<<<<<<< HEAD
 use Rattle.dotenvy.proofs.Cuts.{and_left, and_right, both}
 use Rattle.dotenvy.proofs.Values.{given-given, read_comment, same_from, brace_not_left}
+=======
+use Rattle.dotenvy.proofs.Basics.{and_left, and_right, not_is, when_true, when_false, same_from}
+use Rattle.dotenvy.proofs.Values.{given-given, read_comment, brace_not_left}
+>>>>>>> 0e4067ead795db4dec96b2275a4f7ac1f72f35a0
 use Rattle.dotenvy.proofs.NameCharacters.{brace_no_name}
 use Rattle.dotenvy.proofs.Slices.{IsCut, no_characters}
 use Rattle.dotenvy.proofs.ValuePlaces.{from-goes, after, given-nil}
@@ -89,19 +94,6 @@ run dialect mode passes step held (c ∷ front) rest h =
     let later = run dialect mode passes step (held ++ c ∷ []) front rest (and_right (passes c) (list_all passes front) h) in
     subst (λ t. IsReadTo dialect (mode held) (c ∷ (front ++ rest)) [] (mode t) rest) (append_assoc held (c ∷ []) front) (read_on dialect (mode held) (mode (held ++ c ∷ [])) (mode ((held ++ c ∷ []) ++ front)) (c ∷ (front ++ rest)) (front ++ rest) rest [] [] here later)
 
--- what a test decides
-if_so : {A : Type 0} (x y : A) (b : Bool) → b ≡ true → elim b [ true ↦ x | false ↦ y ] ≡ x
-if_so x y true h = refl
-if_so x y false h = cc
-
-if_not : {A : Type 0} (x y : A) (b : Bool) → b ≡ false → elim b [ true ↦ x | false ↦ y ] ≡ y
-if_not x y true h = cc
-if_not x y false h = refl
-
-pub is_not : (b : Bool) → not b ≡ true → b ≡ false
-is_not false h = refl
-is_not true h = cc
-
 -- where the first character leads, by what it begins
 abbrev goes_kind : Kind → Quoting → ℕ → Option (Mode × List Piece)
 goes_kind Backslash q c = Some (escaping q, [])
@@ -139,7 +131,7 @@ text_bytes look_up text u = sym (ap encode_utf8_all (append-nil (chars text)) �
 
 -- a single-quoted text, and one that lacks its end
 collects_single : (dialect : Dialect) (held : List ℕ) (c : ℕ) → not (c == single_quote) ≡ true → goes dialect (in_single held) c ≡ Some (in_single (held ++ c ∷ []), [])
-collects_single dialect held c h = if_not _ _ (c == single_quote) (is_not (c == single_quote) h)
+collects_single dialect held c h = when_false _ _ (c == single_quote) (not_is (c == single_quote) h)
 
 single_read : (dialect : Dialect) (inner rest : List ℕ) → list_all (λ c. not (c == single_quote)) inner ≡ true → IsReadTo dialect (in_single []) (inner ++ single_quote ∷ rest) (Text inner ∷ []) (base unquoted) rest
 single_read dialect inner rest h = read_on dialect (in_single []) (in_single inner) (base unquoted) (inner ++ single_quote ∷ rest) (single_quote ∷ rest) rest [] (Text inner ∷ []) (run dialect in_single (λ c. not (c == single_quote)) (collects_single dialect) [] inner (single_quote ∷ rest) h) (one dialect (in_single inner) (base unquoted) single_quote rest (Text inner ∷ []) refl)
@@ -157,7 +149,7 @@ gives_single dialect text front rest cut = record {
 
 -- a braced name, and one that lacks its end
 collects_braced : (dialect : Dialect) (q : Quoting) (held : List ℕ) (c : ℕ) → not (c == right_brace) ≡ true → goes dialect (bracing q held) c ≡ Some (bracing q (held ++ c ∷ []), [])
-collects_braced dialect q held c h = if_not _ _ (c == right_brace) (is_not (c == right_brace) h)
+collects_braced dialect q held c h = when_false _ _ (c == right_brace) (not_is (c == right_brace) h)
 
 braced_read : (dialect : Dialect) (q : Quoting) (name rest : List ℕ) → list_all (λ c. not (c == right_brace)) name ≡ true → IsReadTo dialect (bracing q []) (name ++ right_brace ∷ rest) (Name name ∷ []) (base q) rest
 braced_read dialect q name rest h = read_on dialect (bracing q []) (bracing q name) (base q) (name ++ right_brace ∷ rest) (right_brace ∷ rest) rest [] (Name name ∷ []) (run dialect (bracing q) (λ c. not (c == right_brace)) (collects_braced dialect q) [] name (right_brace ∷ rest) h) (one dialect (bracing q name) (base q) right_brace rest (Name name ∷ []) refl)
@@ -184,13 +176,13 @@ gives_braced dialect q text name follows rest cut none = record {
 pub gives_escape : (dialect : Dialect) (q : CodeQuoting) (text : List ℕ) (c : ℕ) (meant rest : Bor (List ℕ)) → IsUtf8 rest.now → chars text ≡ c ∷ chars rest.now → is_escape c ≡ true → meant.now ≡ encode_utf8_all (escape_meaning c ∷ []) → GivesPiece dialect (escaping (quoting_of q)) (chars text) (record { piece = CodeText meant; rest = rest; quoting = q })
 gives_escape dialect q text c meant rest u e h m = record {
   pieces = Text (escape_meaning c ∷ []) ∷ [];
-  is_read = subst (λ t. IsReadTo dialect (escaping (quoting_of q)) t (Text (escape_meaning c ∷ []) ∷ []) (base (quoting_of q)) (chars rest.now)) (sym e) (one dialect (escaping (quoting_of q)) (base (quoting_of q)) c (chars rest.now) (Text (escape_meaning c ∷ []) ∷ []) (if_so _ _ (is_escape c) h));
+  is_read = subst (λ t. IsReadTo dialect (escaping (quoting_of q)) t (Text (escape_meaning c ∷ []) ∷ []) (base (quoting_of q)) (chars rest.now)) (sym e) (one dialect (escaping (quoting_of q)) (base (quoting_of q)) c (chars rest.now) (Text (escape_meaning c ∷ []) ∷ []) (when_true _ _ (is_escape c) h));
   follows = u;
   means = λ look_up. m;
 }
 
 pub no_escape : (dialect : Dialect) (q : Quoting) (text rest : List ℕ) (c : ℕ) → text ≡ c ∷ rest → is_escape c ≡ false → StopsAt dialect (escaping q) text text
-no_escape dialect q text rest c e h = subst (λ t. StopsAt dialect (escaping q) t t) (sym e) (stop dialect (escaping q) c rest (if_not _ _ (is_escape c) h))
+no_escape dialect q text rest c e h = subst (λ t. StopsAt dialect (escaping q) t t) (sym e) (stop dialect (escaping q) c rest (when_false _ _ (is_escape c) h))
 
 pub escape_ends : (dialect : Dialect) (text : List ℕ) → text ≡ [] → read dialect (chars text) (escaping unquoted) ≡ Some []
 escape_ends dialect text e = ap (λ t. read dialect t (escaping unquoted)) (no_characters text e)
@@ -200,7 +192,7 @@ escape_open dialect text e = subst (λ t. StopsAt dialect (escaping double_quote
 
 -- a space or tab, and what may follow it
 collects_blanks : (dialect : Dialect) (held : List ℕ) (c : ℕ) → is_space_or_tab c ≡ true → goes dialect in_tail c ≡ Some (in_tail, [])
-collects_blanks dialect held c h = if_so _ _ (is_space_or_tab c) h
+collects_blanks dialect held c h = when_true _ _ (is_space_or_tab c) h
 
 comment_read : (dialect : Dialect) (comment : List ℕ) → is_empty_or_comment comment ≡ true → read dialect comment in_tail ≡ Some []
 comment_read dialect [] h = refl
@@ -208,7 +200,7 @@ comment_read dialect (c ∷ comment) h = subst (λ d. read dialect (d ∷ commen
 
 tail_stops : (dialect : Dialect) (comment : List ℕ) → not (begins_passing is_space_or_tab comment) ≡ true → is_empty_or_comment comment ≡ false → StopsAt dialect in_tail comment comment
 tail_stops dialect [] h k = cc
-tail_stops dialect (c ∷ comment) h k = stop dialect in_tail c comment (if_not _ _ (is_space_or_tab c) (is_not (is_space_or_tab c) h) ∙ if_not _ _ (c == hash) k)
+tail_stops dialect (c ∷ comment) h k = stop dialect in_tail c comment (when_false _ _ (is_space_or_tab c) (not_is (is_space_or_tab c) h) ∙ when_false _ _ (c == hash) k)
 
 tail_run : (dialect : Dialect) (text blanks comment : List ℕ) → IsSpan is_space_or_tab text blanks comment → IsReadTo dialect in_tail text [] in_tail comment
 tail_run dialect text blanks comment is = subst (λ t. IsReadTo dialect in_tail t [] in_tail comment) (sym is.spelled) (run dialect (λ _. in_tail) is_space_or_tab (collects_blanks dialect) [] blanks comment is.pass)
@@ -278,12 +270,12 @@ left_read : (dialect : Dialect) (q : Quoting) (name cs : List ℕ) (c : ℕ) →
 left_read dialect q name cs c h k = record {
   front = [];
   spelled = refl;
-  reads = if_not _ _ (is_name_character dialect c) h ∙ if_so _ _ (is_left_by_name dialect q c) k;
-  counts = ap (λ g. place_after g (λ n. place dialect cs n)) (if_not _ _ (is_name_character dialect c) h ∙ if_so _ _ (is_left_by_name dialect q c) k) ∙ place_with (Name name ∷ []) (goes_base q c) (λ n. place dialect cs n) ∙ omega arith;
+  reads = when_false _ _ (is_name_character dialect c) h ∙ when_true _ _ (is_left_by_name dialect q c) k;
+  counts = ap (λ g. place_after g (λ n. place dialect cs n)) (when_false _ _ (is_name_character dialect c) h ∙ when_true _ _ (is_left_by_name dialect q c) k) ∙ place_with (Name name ∷ []) (goes_base q c) (λ n. place dialect cs n) ∙ omega arith;
 }
 
 no_name_first : (dialect : Dialect) (text cs : List ℕ) (c : ℕ) → text ≡ c ∷ cs → not (begins_passing (is_name_character dialect) text) ≡ true → is_name_character dialect c ≡ false
-no_name_first dialect text cs c e h = is_not (is_name_character dialect c) (subst (λ t. not (begins_passing (is_name_character dialect) t) ≡ true) e h)
+no_name_first dialect text cs c e h = not_is (is_name_character dialect c) (subst (λ t. not (begins_passing (is_name_character dialect) t) ≡ true) e h)
 
 pub name_left : (dialect : Dialect) (q : CodeQuoting) (name follows left : Bor (List ℕ)) (cs : List ℕ) (c : ℕ) → IsUtf8 left.now → chars left.now ≡ c ∷ cs → not (begins_passing (is_name_character dialect) (chars left.now)) ≡ true → is_left_by_name dialect (quoting_of q) c ≡ true → follows.now ≡ [] → GivesPiece dialect (naming (quoting_of q) (chars name.now)) (chars left.now) (record { piece = CodeName name follows; rest = left; quoting = q })
 name_left dialect q name follows left cs c u e ended h none = record {
@@ -294,19 +286,19 @@ name_left dialect q name follows left cs c u e ended h none = record {
 }
 
 no_brace_first : (name text cs : List ℕ) (c : ℕ) → text ≡ c ∷ cs → not (is_empty name && begins_with left_brace text) ≡ true → is_brace_first name c ≡ false
-no_brace_first [] text cs c e h = is_not (c == left_brace) (subst (λ t. not (begins_with left_brace t) ≡ true) e h)
+no_brace_first [] text cs c e h = not_is (c == left_brace) (subst (λ t. not (begins_with left_brace t) ≡ true) e h)
 no_brace_first (d ∷ name) text cs c e h = refl
 
 pub name_then : (dialect : Dialect) (q : CodeQuoting) (name follows left rest : Bor (List ℕ)) (c : ℕ) → IsUtf8 rest.now → chars left.now ≡ c ∷ chars rest.now → not (begins_passing (is_name_character dialect) (chars left.now)) ≡ true → not (is_empty (chars name.now) && begins_with left_brace (chars left.now)) ≡ true → is_left_by_name dialect (quoting_of q) c ≡ false → follows.now ≡ encode_utf8 c → GivesPiece dialect (naming (quoting_of q) (chars name.now)) (chars left.now) (record { piece = CodeName name follows; rest = rest; quoting = q })
 name_then dialect q name follows left rest c u e ended no_brace h f = record {
   pieces = Name (chars name.now) ∷ Text (c ∷ []) ∷ [];
-  is_read = subst (λ t. IsReadTo dialect (naming (quoting_of q) (chars name.now)) t (Name (chars name.now) ∷ Text (c ∷ []) ∷ []) (base (quoting_of q)) (chars rest.now)) (sym e) (one dialect (naming (quoting_of q) (chars name.now)) (base (quoting_of q)) c (chars rest.now) (Name (chars name.now) ∷ Text (c ∷ []) ∷ []) (if_not _ _ (is_name_character dialect c) (no_name_first dialect (chars left.now) (chars rest.now) c e ended) ∙ if_not _ _ (is_left_by_name dialect (quoting_of q) c) h ∙ if_not _ _ (is_brace_first (chars name.now) c) (no_brace_first (chars name.now) (chars left.now) (chars rest.now) c e no_brace)));
+  is_read = subst (λ t. IsReadTo dialect (naming (quoting_of q) (chars name.now)) t (Name (chars name.now) ∷ Text (c ∷ []) ∷ []) (base (quoting_of q)) (chars rest.now)) (sym e) (one dialect (naming (quoting_of q) (chars name.now)) (base (quoting_of q)) c (chars rest.now) (Name (chars name.now) ∷ Text (c ∷ []) ∷ []) (when_false _ _ (is_name_character dialect c) (no_name_first dialect (chars left.now) (chars rest.now) c e ended) ∙ when_false _ _ (is_left_by_name dialect (quoting_of q) c) h ∙ when_false _ _ (is_brace_first (chars name.now) c) (no_brace_first (chars name.now) (chars left.now) (chars rest.now) c e no_brace)));
   follows = u;
   means = λ look_up. name_and_bytes look_up (chars name.now) follows.now c f;
 }
 
 collects_name : (dialect : Dialect) (q : Quoting) (held : List ℕ) (c : ℕ) → is_name_character dialect c ≡ true → goes dialect (naming q held) c ≡ Some (naming q (held ++ c ∷ []), [])
-collects_name dialect q held c h = if_so _ _ (is_name_character dialect c) h
+collects_name dialect q held c h = when_true _ _ (is_name_character dialect c) h
 
 pub name_run : (dialect : Dialect) (q : Quoting) (text name rest : List ℕ) → IsSpan (is_name_character dialect) text name rest → IsReadTo dialect (naming q []) text [] (naming q name) rest
 name_run dialect q text name rest is = subst (λ t. IsReadTo dialect (naming q []) t [] (naming q name) rest) (sym is.spelled) (run dialect (naming q) (is_name_character dialect) (collects_name dialect q) [] name rest is.pass)
@@ -317,7 +309,7 @@ no_brace_after dialect text (c ∷ name) rest is h = refl
 
 -- a brace begins a braced name
 pub brace_read : (dialect : Dialect) (q : Quoting) (text cs : List ℕ) → text ≡ left_brace ∷ cs → IsReadTo dialect (naming q []) text [] (bracing q []) cs
-brace_read dialect q text cs e = subst (λ t. IsReadTo dialect (naming q []) t [] (bracing q []) cs) (sym e) (one dialect (naming q []) (bracing q []) left_brace cs [] (if_not _ _ (is_name_character dialect left_brace) (brace_no_name dialect) ∙ if_not _ _ (is_left_by_name dialect q left_brace) (brace_not_left dialect q)))
+brace_read dialect q text cs e = subst (λ t. IsReadTo dialect (naming q []) t [] (bracing q []) cs) (sym e) (one dialect (naming q []) (bracing q []) left_brace cs [] (when_false _ _ (is_name_character dialect left_brace) (brace_no_name dialect) ∙ when_false _ _ (is_left_by_name dialect q left_brace) (brace_not_left dialect q)))
 
 -- what the first character begins
 pub first_read : (dialect : Dialect) (q : CodeQuoting) (n : Mode) (text cs : List ℕ) (c : ℕ) → text ≡ c ∷ cs → goes dialect (base (quoting_of q)) c ≡ Some (n, []) → IsReadTo dialect (base (quoting_of q)) text [] n cs

@@ -10,8 +10,7 @@ use Rattle.std.proofs.lemmas.Str.{chars-nil, chars_past_char, chars-append, char
 use Rattle.std.proofs.lemmas.List.{take-append-drop, append-nil}
 use Rattle.std.proofs.Common.{length-drop}
 use Rattle.dotenvy.specs.Characters.{begins_with}
-use Rattle.dotenvy.proofs.Cuts.{both}
-use Rattle.dotenvy.proofs.Values.{same_from}
+use Rattle.dotenvy.proofs.Basics.{both, same_from}
 use Rattle.dotenvy.specs.Slices.{BeginsWith, IsSpan, begins_passing}
 
 pub begins_with_first : (text rest : List ℕ) (c : ℕ) → IsUtf8 text → text ≡ encode_utf8 c ++ rest → BeginsWith text c rest

@@ -7,7 +7,7 @@ use Rattle.std.specs.List.{list_all}
 use Rattle.std.specs.Str.{chars, IsUtf8, trim_start, trim_end, skip_leading_whitespace, drop_trailing_whitespace, encode_utf8_all, all_scalars}
 use Rattle.std.proofs.lemmas.Str.{chars-encodes, scalars-chars, encodes-chars}
 use Rattle.std.proofs.lemmas.Bool.Decides.{nat_tests}
-use Rattle.dotenvy.proofs.Cuts.{and_left, and_right, both}
+use Rattle.dotenvy.proofs.Basics.{and_left, and_right, both, not_is}
 use Rattle.dotenvy.specs.Characters.{begins_key, continues_key, equals_sign}
 use lib.Utf8.{scalar, encode}
 use Rattle.dotenvy.specs.Slices.{IsSpan, begins_passing}
@@ -25,14 +25,10 @@ not_same c d h = grind (arith, nat_tests, h)
 pub same : (c d : ℕ) → c ≡ d → (c == d) ≡ true
 same c d h = grind (arith, nat_tests, h)
 
-is_not : (b : Bool) → not b ≡ true → b ≡ false
-is_not false h = refl
-is_not true h = cc
-
 -- the longest front of a key's characters
 run_of : (front rest : List ℕ) → list_all continues_key front ≡ true → not (begins_passing continues_key rest) ≡ true → (key_run (front ++ rest) ≡ front) × (key_left (front ++ rest) ≡ rest)
 run_of [] [] h l = (refl, refl)
-run_of [] (c ∷ cs) h l = (choose_false (c ∷ key_run cs) [] (continues_key c) (is_not (continues_key c) l), choose_false (key_left cs) (c ∷ cs) (continues_key c) (is_not (continues_key c) l))
+run_of [] (c ∷ cs) h l = (choose_false (c ∷ key_run cs) [] (continues_key c) (not_is (continues_key c) l), choose_false (key_left cs) (c ∷ cs) (continues_key c) (not_is (continues_key c) l))
 run_of (c ∷ front) rest h l =
     let here = and_left (continues_key c) (list_all continues_key front) h in
     let later = run_of front rest (and_right (continues_key c) (list_all continues_key front) h) l in

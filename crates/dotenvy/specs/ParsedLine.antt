@@ -1,13 +1,13 @@
 -- What the code answers for one logical line, and what it remembers.
 use Rattle.std.specs.Prelude.{ℕ, ◌≡◌, List, [], Option, Some, None, Result, Ok, Err, string_bytes, IsTrue, if◌then◌else◌}
-use Rattle.std.specs.Str.{chars, drop_trailing_whitespace}
+use Rattle.std.specs.Str.{chars}
 use Rattle.std.specs.FinMap as fin
 use Rattle.std.specs.declared.string.String.{String}
 use Rattle.dotenvy.specs.declared.errors.Error.{Error}
 use Rattle.dotenvy.specs.Errors.{IsLineParseOf}
 use Rattle.dotenvy.specs.Characters.{is_empty_or_comment}
 use Rattle.dotenvy.specs.Statement.{is_key, IsStatement}
-use Rattle.dotenvy.specs.Line.{Outcome, Nothing, Pair, Fault}
+use Rattle.dotenvy.specs.Line.{Outcome, Nothing, Pair, Fault, trimmed}
 use Rattle.dotenvy.specs.Items.{LookUp, meaning}
 use Rattle.dotenvy.specs.Remembered.{remembered_of}
 
@@ -25,7 +25,7 @@ IsLineAnswer look_up (Fault text index) (Err e) = IsLineParseOf text index e
 -- a pair is remembered, with no value where nothing or a comment is assigned; else all stays
 abbrev pub Remembers : {A : Type 0} → List ℕ → List (String A × Option (String A)) → List (String A × Option (String A)) → Result (Option (String A × String A)) (Error A) → Type 0
 Remembers line old new (Ok None) = new ≡ old
-Remembers line old new (Ok (Some pair)) = (rest : List ℕ) × IsStatement (drop_trailing_whitespace line) (chars (string_bytes pair.0)) rest × (remembered_of new ≡ fin.insert (remembered_of old) (string_bytes pair.0) (if is_empty_or_comment rest then None else Some (string_bytes pair.1)))
+Remembers line old new (Ok (Some pair)) = (rest : List ℕ) × IsStatement (trimmed line) (chars (string_bytes pair.0)) rest × (remembered_of new ≡ fin.insert (remembered_of old) (string_bytes pair.0) (if is_empty_or_comment rest then None else Some (string_bytes pair.1)))
 Remembers line old new (Err e) = new ≡ old
 
 -- the key of a pair is one

@@ -1,6 +1,6 @@
 -- What the first pass over a line says, in the words of the format.
 use Rattle.std.specs.Prelude.{ℕ, ◌≡◌, not, List, [], IsTrue, Option, Some, None, is_some, option_map, Result, Ok, Err, string_bytes, if◌then◌else◌}
-use Rattle.std.specs.Str.{chars, encode_utf8_all, drop_trailing_whitespace}
+use Rattle.std.specs.Str.{chars, encode_utf8_all}
 use Rattle.dotenvy.specs.declared.dialect.Dialect.{Dialect}
 use Rattle.dotenvy.specs.declared.parse.Declaration.{Declaration}
 use Rattle.dotenvy.specs.declared.parse.Value.{Value}
@@ -10,7 +10,7 @@ use Rattle.dotenvy.specs.Characters.{byte_len, is_empty_or_comment}
 use Rattle.dotenvy.specs.Statement.{IsStatement}
 use Rattle.dotenvy.specs.Value.{Piece, IsValue}
 use Rattle.dotenvy.specs.Places.{BeginsValue, IsPlace}
-use Rattle.dotenvy.specs.Line.{Nothing, Fault as SaysFault, Says, is_nothing, value_index}
+use Rattle.dotenvy.specs.Line.{Nothing, Fault as SaysFault, Says, trimmed, is_nothing, value_index}
 use Rattle.dotenvy.specs.Items.{LookUp, meaning}
 use Rattle.dotenvy.specs.Names.{saturated}
 
@@ -34,9 +34,9 @@ ScansAssigned dialect look_up key rest (Err fault) = (chars fault.text.now ≡ r
 
 -- the line declares this
 pub record IsDeclared (dialect : Dialect) (look_up : LookUp) (line : List ℕ) (declaration : Declaration) : Type 0 where
-  pub some : IsTrue (not (is_nothing (drop_trailing_whitespace line)))
+  pub some : IsTrue (not (is_nothing (trimmed line)))
   pub rest : List ℕ
-  pub statement : IsStatement (drop_trailing_whitespace line) (chars declaration.key.now) rest
+  pub statement : IsStatement (trimmed line) (chars declaration.key.now) rest
   pub pieces : List Piece
   pub is_assigned : IsAssigned dialect look_up rest pieces declaration.value
 

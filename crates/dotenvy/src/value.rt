@@ -92,18 +92,28 @@ fn escaped(c: char) -> Option<&'static str>
     }
 }
 
+// Nothing follows, which is a value's end outside double quotes alone.
+fn at_end(text: &str, quoting: Quoting) -> NextPiece<'_>
+    requires { text.now ≡ [] }
+    ensures after_part { (dialect : _) → NextIs dialect (base (quoting_of quoting)) (chars text.now) result }
+    ensures shorter { IsShorter (chars text.now) result }
+    ensures after_backslash { (dialect : _) → NextIs dialect (escaping (quoting_of quoting)) (chars text.now) result }
+{
+    match quoting {
+        Quoting::Unquoted => NextPiece::End,
+        Quoting::DoubleQuoted => NextPiece::Fault(text),
+    }
+}
+
 // What follows a backslash.
 fn escape(left: &str, quoting: Quoting) -> NextPiece<'_>
     ensures { (dialect : _) → NextIs dialect (escaping (quoting_of quoting)) (chars left.now) result }
 {
     match split_first(left) {
-        None => match quoting {
-            Quoting::Unquoted => NextPiece::End,
-            Quoting::DoubleQuoted => NextPiece::Fault(left),
-        },
+        None => at_end(left, quoting),
         Some((first, rest)) => match escaped(first) {
-            Some(text) => NextPiece::Piece(Given {
-                piece: Piece::Text(text),
+            Some(meant) => NextPiece::Piece(Given {
+                piece: Piece::Text(meant),
                 rest,
                 quoting,
             }),
@@ -240,10 +250,7 @@ pub(crate) fn next_piece(text: &str, quoting: Quoting, dialect: Dialect) -> Next
     ensures shorter { IsShorter (chars text.now) result }
 {
     match split_first(text) {
-        None => match quoting {
-            Quoting::Unquoted => NextPiece::End,
-            Quoting::DoubleQuoted => NextPiece::Fault(text),
-        },
+        None => at_end(text, quoting),
         Some((first, left)) => match kind_of(quoting, first) {
             Kind::Backslash => escape(left, quoting),
             Kind::SingleQuote => single_quoted(left),

@@ -1,14 +1,11 @@
 use Rattle.std.proofs.Common.{◌≡◌}
 use Rattle.std.specs.Str.{chars}
 use Rattle.dotenvy.specs.Slices.{quoting_of}
-use Rattle.dotenvy.proofs.NextPiece.{gives_escape, no_escape, escape_ends, escape_open}
+use Rattle.dotenvy.proofs.NextPiece.{gives_escape, no_escape}
 use Rattle.dotenvy.proofs.value.escape.Goals as goal
 
-pub returns-in-Unquoted : goal.returns-in-Unquoted
-returns-in-Unquoted c = λ dialect. rw c.in-Unquoted.is (escape_ends dialect c.args.left.now c.in-None.ensures)
-
-pub returns-in-DoubleQuoted : goal.returns-in-DoubleQuoted
-returns-in-DoubleQuoted c = λ dialect. rw c.in-DoubleQuoted.is (escape_open dialect c.args.left.now c.in-None.ensures)
+pub returns-in-None : goal.returns-in-None
+returns-in-None c = c.at_end.ensures.after_backslash
 
 pub returns-in-Some-escaped : goal.returns-in-Some-escaped
 returns-in-Some-escaped c = λ dialect. gives_escape dialect c.args.quoting c.args.left.now c.in-Some.first _ c.in-Some.rest c.in-Some.ensures.follows c.in-Some.ensures.characters c.in-Some-escaped.ensures.0 c.in-Some-escaped.ensures.1

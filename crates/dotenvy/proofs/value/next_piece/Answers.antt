@@ -4,14 +4,14 @@ use Rattle.dotenvy.specs.Slices.{quoting_of}
 use Rattle.dotenvy.specs.declared.value.Kind.TheVariants.{Backslash, SingleQuote, DoubleQuote, Dollar, SpaceOrTab, Plain}
 use Rattle.dotenvy.specs.ReadValue.{base, escaping, in_single, naming, in_tail}
 use Rattle.dotenvy.specs.NextPiece.{other_quoting}
-use Rattle.dotenvy.proofs.NextPiece.{goes_as, next_after, first_read, first_shorter, ends_unquoted, open_double, begins_plain}
+use Rattle.dotenvy.proofs.NextPiece.{goes_as, next_after, first_read, first_shorter, begins_plain}
 use Rattle.dotenvy.proofs.value.next_piece.Goals as goal
 
-pub returns-in-Unquoted-clause-next : goal.returns-in-Unquoted-clause-next
-returns-in-Unquoted-clause-next c = rw c.in-Unquoted.is (ends_unquoted c.args.dialect c.args.text.now c.in-None.ensures)
+pub returns-in-None-clause-next : goal.returns-in-None-clause-next
+returns-in-None-clause-next c = c.at_end.ensures.after_part c.args.dialect
 
-pub returns-in-DoubleQuoted-clause-next : goal.returns-in-DoubleQuoted-clause-next
-returns-in-DoubleQuoted-clause-next c = rw c.in-DoubleQuoted.is (open_double c.args.dialect c.args.text.now c.in-None.ensures)
+pub returns-in-None-clause-shorter : goal.returns-in-None-clause-shorter
+returns-in-None-clause-shorter c = c.at_end.ensures.shorter
 
 pub returns-in-Backslash-clause-next : goal.returns-in-Backslash-clause-next
 returns-in-Backslash-clause-next c = next_after c.args.dialect (base (quoting_of c.args.quoting)) (escaping (quoting_of c.args.quoting)) (chars c.args.text.now) (chars c.in-Some.left.now) c.escape.result (first_read c.args.dialect c.args.quoting (escaping (quoting_of c.args.quoting)) (chars c.args.text.now) (chars c.in-Some.left.now) c.in-Some.first c.in-Some.ensures.characters (goes_as c.args.dialect c.args.quoting c.in-Some.first Backslash c.in-Backslash.ensures)) (c.escape.ensures c.args.dialect)

@@ -21,4 +21,5 @@ pub loop-given-preserved : goal.loop-given-preserved
 loop-given-preserved g c =
     let i = c.loop-given.invariant.1 in
     let next = c.in-Piece.ensures.next in
-    (next.follows, (i.0 ++ next.pieces, read_on c.args.dialect (base unquoted) (base (quoting_of c.loop-given.quoting)) (base (quoting_of c.in-Piece.given.quoting)) (chars c.args.value.now) (chars c.loop-given.rest.now) (chars c.in-Piece.given.rest.now) i.0 next.pieces i.1 next.is_read, c.saturating_add-len.ensures ∙ counted (look_up_of c.args.self.now) i.0 next.pieces c.loop-given.len c.piece_len.result _ i.2 c.piece_len.ensures (next.means (look_up_of c.args.self.now))))
+    let more = counted (look_up_of c.args.self.now) i.0 next.pieces c.loop-given.len c.piece_len.result _ i.2 c.piece_len.ensures (next.means (look_up_of c.args.self.now)) in
+    (next.follows, (i.0 ++ next.pieces, read_on c.args.dialect (base unquoted) (base (quoting_of c.loop-given.quoting)) (base (quoting_of c.in-Piece.given.quoting)) (chars c.args.value.now) (chars c.loop-given.rest.now) (chars c.in-Piece.given.rest.now) i.0 next.pieces i.1 next.is_read, rw (c.saturating_add-len.ensures) more))
