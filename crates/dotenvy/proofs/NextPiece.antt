@@ -21,13 +21,8 @@ use Rattle.dotenvy.specs.Value.{Quoting, unquoted, double_quoted, Piece, Text, N
 use Rattle.dotenvy.specs.Items.{LookUp, meaning}
 use Rattle.dotenvy.specs.ReadValue.{Mode, base, escaping, in_single, naming, bracing, in_tail, in_comment, Reading, given, is_brace_first, from_base, from, at_end, read, goes_base, with_pieces, goes, place_after, place}
 use Rattle.dotenvy.specs.NextPiece.{other_quoting, is_empty, kind_of, piece_bytes, IsReadTo, GivesPiece, StopsAt, NextIs, IsShorter}
-<<<<<<< HEAD
-use Rattle.dotenvy.proofs.Cuts.{and_left, and_right, both}
-use Rattle.dotenvy.proofs.Values.{given-given, read_comment, same_from, brace_not_left}
-=======
 use Rattle.dotenvy.proofs.Basics.{and_left, and_right, not_is, when_true, when_false, same_from}
 use Rattle.dotenvy.proofs.Values.{given-given, read_comment, brace_not_left}
->>>>>>> 0e4067ead795db4dec96b2275a4f7ac1f72f35a0
 use Rattle.dotenvy.proofs.NameCharacters.{brace_no_name}
 use Rattle.dotenvy.proofs.Slices.{IsCut, no_characters}
 use Rattle.dotenvy.proofs.ValuePlaces.{from-goes, after, given-nil}
