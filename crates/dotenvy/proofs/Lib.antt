@@ -27,7 +27,6 @@ pub mod WorkedSearches
 pub mod TextMaps
 pub mod Keys
 pub mod RememberedMaps
-pub mod Writing
 pub mod Slices
 pub mod StatementParts
 pub mod NextPiece
