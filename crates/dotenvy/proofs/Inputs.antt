@@ -11,7 +11,6 @@ use Rattle.std.specs.Prelude.{nat_eq, MatchOption, MatchBool, is_some}
 use Rattle.std.specs.List.{starts_with}
 use lib.Pointwise.{pointwise}
 use Rattle.std.specs.declared.io.ErrorKind.{ErrorKind}
-use Rattle.std.specs.IoError.{error_kind}
 use Rattle.std.specs.declared.io.Error.{Error as IoError}
 use Rattle.dotenvy.specs.declared.errors.Error.{Error}
 use Rattle.dotenvy.specs.declared.errors.Error.TheVariants.{LineParse, Io, EnvVar, Nul, Memory}
