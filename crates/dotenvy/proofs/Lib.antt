@@ -23,12 +23,17 @@ pub mod SayLine
 pub mod NextEntries
 pub mod WorkedFiles
 pub mod SearchOnce
-mod RememberedMaps
+pub mod WorkedSearches
+pub mod TextMaps
+pub mod Keys
+pub mod RememberedMaps
 pub mod Slices
 pub mod StatementParts
 pub mod NextPiece
 pub mod Meanings
+pub mod Inputs
+pub mod Nuls
+pub mod LineTexts
+pub mod LineJoins
+pub mod LineEntries
 pub mod LinePasses
-pub mod WorkedSearches
-mod TextMaps
-pub mod Keys

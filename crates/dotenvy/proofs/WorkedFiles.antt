@@ -33,7 +33,7 @@ decided_computed dialect bytes entries e =
 
 pub lines : HaveLines
 unfolding is_name_character ucd_derived ucd_category encode is_utf8 chars
-lines = (computed V15 _ _ refl, computed V15 _ _ refl, computed V15 _ _ refl, computed V15 _ _ refl, computed V15 _ _ refl, computed V15 _ _ refl, computed V15 _ _ refl, computed V15 _ _ refl, computed V15 _ _ refl, computed V15 _ _ refl, computed V15 _ _ refl, computed V15 _ _ refl, computed V15 _ _ refl, computed V15 _ _ refl, computed V15 _ _ refl)
+lines = (computed V15 _ _ refl, computed V15 _ _ refl, computed V15 _ _ refl, computed V15 _ _ refl, computed V15 _ _ refl, computed V15 _ _ refl, computed V15 _ _ refl, computed V15 _ _ refl, computed V15 _ _ refl, computed V15 _ _ refl, computed V15 _ _ refl, computed V15 _ _ refl, computed V15 _ _ refl, computed V15 _ _ refl, computed V15 _ _ refl, computed V15 _ _ refl, computed V15 _ _ refl)
 
 pub statements : HaveStatements
 unfolding is_name_character ucd_derived ucd_category encode is_utf8 chars

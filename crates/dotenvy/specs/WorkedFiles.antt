@@ -51,6 +51,8 @@ HaveLines =
     -- two blanks are one token, so `#` after them begins none, and the quote opens; the value still ends there
     × HasEntries V15 (file "A=1  # it's\nB=2\n") (fault_in "A=1  # it's\nB=2\n" 16 ∷ [])
     × HasEntries V15 (file "K=a  # b\n") (declares "K" (text_of "a" ∷ []) ∷ [])
+    -- after three blanks it begins one
+    × HasEntries V15 (file "A=1   # it's\nB=2\n") (declares "A" (text_of "1" ∷ []) ∷ declares "B" (text_of "2" ∷ []) ∷ [])
     -- a blank at the end of the input asks for one more character; a pair of blanks does not
     × HasEntries V15 (file "K=1 ") (fault_in "K=1 " 4 ∷ [])
     × HasEntries V15 (file "K=1  ") (declares "K" (text_of "1" ∷ []) ∷ [])
@@ -60,6 +62,7 @@ HaveLines =
     -- a backslash before a line feed does not join lines: it stands alone at the end of the value, where it means nothing
     × HasEntries V15 (file "K=a\\\nL=1\n") (declares "K" (text_of "a" ∷ []) ∷ declares "L" (text_of "1" ∷ []) ∷ [])
     × HasEntries V15 (file "K=a\\ \n") (declares "K" (text_of "a" ∷ []) ∷ [])
+    × HasEntries V15 (file "K=a\\\r\nL=1\n") (declares "K" (text_of "a" ∷ []) ∷ declares "L" (text_of "1" ∷ []) ∷ [])
     -- a backslash takes the quote after it, also in single quotes
     × HasEntries V15 (file "K='a\\'\nB=2\n") (fault_in "K='a\\'\nB=2\n" 11 ∷ [])
     -- an open end is one fault, from its first line to the end of the input

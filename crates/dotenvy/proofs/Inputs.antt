@@ -1,0 +1,315 @@
+-- Reads, and the first lines of bytes.
+use Rattle.std.proofs.Common.{◌≡◌, ℕ, suc, ◌+◌, ◌<◌, ◌≤◌, Bool, true, false, cond, not, ◌&&◌, List, [], ◌∷◌, ◌++◌, length, take, drop, refl, sym, ◌∙◌, ap, subst, inl, inr, append-nil, append_assoc, ◌⊎◌, arith, nat_lt, position, length-append, length-drop}
+use Rattle.std.specs.Prelude.{Option, Some, None, unwrap_or, ◌==◌}
+use Rattle.std.proofs.lemmas.Option.{none-some}
+use Rattle.std.specs.List.{position_or_len}
+use Rattle.std.proofs.lemmas.Grind.{common_steps}
+use Rattle.std.proofs.lemmas.Bool.{ltb-true, ltb-false}
+use Rattle.std.proofs.lemmas.Bool.Decides.{nat_tests}
+use Rattle.std.proofs.lemmas.List.{take-append-drop, drop-append-le, take-take, take_all, length-take-le}
+use Rattle.std.specs.Prelude.{nat_eq, MatchOption, MatchBool, is_some}
+use Rattle.std.specs.List.{starts_with}
+use lib.Pointwise.{pointwise}
+use Rattle.std.specs.declared.io.ErrorKind.{ErrorKind}
+use Rattle.std.specs.IoError.{error_kind}
+use Rattle.std.specs.declared.io.Error.{Error as IoError}
+use Rattle.dotenvy.specs.declared.errors.Error.{Error}
+use Rattle.dotenvy.specs.declared.errors.Error.TheVariants.{LineParse, Io, EnvVar, Nul, Memory}
+use Rattle.dotenvy.specs.Characters.{line_feed}
+use Rattle.dotenvy.specs.PhysicalLines.{is_whole_line}
+use Rattle.dotenvy.specs.Marks.{byte_order_mark, without_mark}
+use Rattle.dotenvy.specs.Source.{Ahead}
+use Rattle.dotenvy.proofs.Cuts.{and_left, and_right}
+use Rattle.dotenvy.specs.Errors.{IsMemory, IsIoOf}
+use Rattle.dotenvy.specs.Input.{InputState, left_of, IsTold, IsAllRead, ReadsFit, BoundIsMet, IsReadFault, IsFinal, FaultIsNext, Takes, end_reads, no_line_feed, drop_left, used_up, MovesLine, TakesLine, begins_mark}
+
+abbrev is_lf : ℕ → Bool
+is_lf b = b == 10
+
+-- a character before a whole line
+pub whole_cons : (c : ℕ) (line : List ℕ) → (c == line_feed) ≡ false → is_whole_line line ≡ true → is_whole_line (c ∷ line) ≡ true
+whole_cons c [] h w = cc
+whole_cons c (d ∷ line) h w = ap (λ b. not b && is_whole_line (d ∷ line)) h ∙ w
+
+at_place : (xs : List ℕ) → position_or_len is_lf xs < length xs → is_whole_line (take (position_or_len is_lf xs + 1) xs) ≡ true
+at_place [] h = absurd (omega (arith, h))
+at_place (x ∷ xs) h = first (x == 10) refl h (at_place xs)
+  where
+    first : (b : Bool) → (x == 10) ≡ b → cond (not b) (1 + position_or_len is_lf xs) 0 < suc (length xs) → (position_or_len is_lf xs < length xs → is_whole_line (take (position_or_len is_lf xs + 1) xs) ≡ true) →
+        is_whole_line (take (cond (not b) (1 + position_or_len is_lf xs) 0 + 1) (x ∷ xs)) ≡ true
+    first true e h later = e
+    first false e h later = let same : take (1 + position_or_len is_lf xs + 1) (x ∷ xs) ≡ x ∷ take (position_or_len is_lf xs + 1) xs = grind (arith, common_steps) in
+        ap is_whole_line same ∙ whole_cons x (take (position_or_len is_lf xs + 1) xs) e (later (omega (arith, h)))
+
+no_place : (xs : List ℕ) → length xs ≤ position_or_len is_lf xs → no_line_feed xs ≡ true
+no_place [] h = refl
+no_place (x ∷ xs) h = first (x == 10) refl h (no_place xs)
+  where
+    first : (b : Bool) → (x == 10) ≡ b → suc (length xs) ≤ cond (not b) (1 + position_or_len is_lf xs) 0 → (length xs ≤ position_or_len is_lf xs → no_line_feed xs ≡ true) → (not b && no_line_feed xs) ≡ true
+    first true e h later = absurd (omega (arith, h))
+    first false e h later = later (omega (arith, h))
+
+place_at : (xs : List ℕ) (i : ℕ) (b : Bool) → nat_lt (position_or_len is_lf xs) (length xs) ≡ b → cond b (Some (position_or_len is_lf xs)) None ≡ Some i → (i < length xs) × (is_whole_line (take (i + 1) xs) ≡ true)
+place_at xs i true t e =
+    let at : position_or_len is_lf xs ≡ i = ap (λ o. unwrap_or o i) e in
+    let below : position_or_len is_lf xs < length xs = ltb-true _ _ t in
+    (subst (λ k. k < length xs) at below, subst (λ k. is_whole_line (take (k + 1) xs) ≡ true) at (at_place xs below))
+place_at xs i false t e = absurd (none-some i e)
+
+-- the first line feed ends a whole line
+pub line_found : (xs : List ℕ) (i : ℕ) → position is_lf xs ≡ Some i → (i < length xs) × (is_whole_line (take (i + 1) xs) ≡ true)
+line_found xs i e = place_at xs i _ refl e
+
+none_at : (xs : List ℕ) (b : Bool) → nat_lt (position_or_len is_lf xs) (length xs) ≡ b → cond b (Some (position_or_len is_lf xs)) None ≡ None → length xs ≤ position_or_len is_lf xs
+none_at xs true t e = absurd (none-some _ (sym e))
+none_at xs false t e = ltb-false _ _ t
+
+pub line_not_found : (xs : List ℕ) → position is_lf xs ≡ None → no_line_feed xs ≡ true
+line_not_found xs e = no_place xs (none_at xs _ refl e)
+
+abbrev ahead_of : List ℕ → Option ErrorKind → Ahead
+ahead_of bytes fault = record { bytes = bytes; fault = fault }
+
+same_ahead : (a : Ahead) (bytes : List ℕ) (fault : Option ErrorKind) → bytes ≡ a.bytes → fault ≡ a.fault → Some (ahead_of bytes fault) ≡ Some a
+same_ahead a bytes fault p q = ap (λ b. Some (ahead_of b fault)) p ∙ ap (λ f. Some (ahead_of a.bytes f)) q
+
+pub the_bytes : (a b : Ahead) → Some a ≡ Some b → a.bytes ≡ b.bytes
+the_bytes a b h = ap (λ o. (unwrap_or o b).bytes) h
+
+pub the_fault : (a b : Ahead) → Some a ≡ Some b → a.fault ≡ b.fault
+the_fault a b h = ap (λ o. (unwrap_or o b).fault) h
+
+-- what the source tells, behind the unread bytes
+pub record Tells (o : Option Ahead) (unread : List ℕ) (a : Ahead) : Type 0 where
+  pub next : Ahead
+  pub is_told : IsTold o next
+  pub bytes : a.bytes ≡ unread ++ next.bytes
+  pub fault : a.fault ≡ next.fault
+
+pub told_next : (e : Bool) (o : Option Ahead) (unread : List ℕ) (a : Ahead) → e ≡ false → IsTold (left_of e o unread) a → Tells o unread a
+told_next true o unread a h t = let f : true ≡ false = h in cc
+told_next false None unread a h t = absurd (none-some a t.0)
+told_next false (Some b) unread a h t =
+    let f = the_fault (ahead_of (unread ++ b.bytes) b.fault) a t.0 in
+    record { next = b; is_told = (refl, λ i. t.1 (sym f ∙ i)); bytes = sym (the_bytes (ahead_of (unread ++ b.bytes) b.fault) a t.0); fault = sym f }
+
+-- a weaker fact of a fault
+pub io_weaker : {A : Type 0} (P Q : IoError → Type 0) (e : Error A) → ((x : IoError) → P x → Q x) → IsMemory e ⊎ IsIoOf P e → IsMemory e ⊎ IsIoOf Q e
+io_weaker P Q (LineParse t i) f h = h
+io_weaker P Q (Io x) f (inl m) = inl m
+io_weaker P Q (Io x) f (inr i) = inr (f x i)
+io_weaker P Q (EnvVar v) f h = h
+io_weaker P Q (Nul k) f h = h
+io_weaker P Q (Memory m) f (inl u) = inl u
+io_weaker P Q (Memory m) f (inr i) = inr i
+
+nil_of : (xs ys : List ℕ) → length (xs ++ ys) ≡ length xs → ys ≡ []
+nil_of xs [] h = refl
+nil_of xs (y ∷ ys) h = absurd (omega (arith, h, length-append xs (y ∷ ys)))
+
+-- a read that fails
+pub read_more_fails : {A : Type 0} (s v : InputState) (e : Bool) (o : Option Ahead) (unread : List ℕ) (a : Ahead) (x : Error A) → e ≡ false → length unread ≡ s.unread → IsTold (left_of e o unread) a → ((b : Ahead) → IsTold o b → IsMemory x ⊎ IsIoOf (FaultIsNext b) x) → IsFinal a s (length a.bytes ≡ s.unread) x v
+read_more_fails s v e o unread a x h n told once =
+    let b = told_next e o unread a h told in
+    io_weaker (FaultIsNext b.next) (IsReadFault a s (length a.bytes ≡ s.unread) v) x
+    (λ y f. inl (b.fault ∙ f.1, ap length (b.bytes ∙ ap (λ l. unread ++ l) f.0 ∙ append-nil unread) ∙ n))
+    (once b.next b.is_told)
+
+left_at : (e : Bool) (after : Option Ahead) (a b : Ahead) (unread some later : List ℕ) → a.bytes ≡ unread ++ b.bytes → a.fault ≡ b.fault → b.bytes ≡ some ++ later → after ≡ Some (ahead_of later b.fault) → (e ≡ true → (later ≡ []) × (b.fault ≡ None)) → left_of e after (unread ++ some) ≡ Some a
+left_at true after a b unread some later bytes fault cut left ends =
+    let k = ends refl in
+    same_ahead a (unread ++ some) None (ap (λ l. unread ++ l) (sym (append-nil some) ∙ ap (λ l. some ++ l) (sym k.0) ∙ sym cut) ∙ sym bytes) (sym k.1 ∙ sym fault)
+left_at false after a b unread some later bytes fault cut left ends =
+    ap (λ o. left_of false o (unread ++ some)) left ∙ same_ahead a ((unread ++ some) ++ later) b.fault (append_assoc unread some later ∙ ap (λ l. unread ++ l) (sym cut) ∙ sym bytes) (sym fault)
+
+-- a read that gives something, or the end
+pub read_more_gives : (s t : InputState) (e at_end : Bool) (o after : Option Ahead) (unread old new : List ℕ) (used : ℕ) (a : Ahead) → e ≡ false → s.at_end ≡ e → t.at_end ≡ at_end → length unread ≡ s.unread → used ≤ length old → drop used old ≡ unread → t.unread + used ≡ length new → s.reads ≡ t.reads + 1 →
+    t.left ≡ left_of at_end after (drop used new) → IsTold (left_of e o unread) a → ((b : Ahead) → IsTold o b → Takes b old at_end after new) → (t.left ≡ Some a) × ReadsFit a s a t
+read_more_gives s t e at_end o after unread old new used a h se te n within cut size reads left told once =
+    let b = told_next e o unread a h told in
+    let k = once b.next b.is_told in
+    let now : drop used new ≡ unread ++ k.some = ap (drop used) k.appends ∙ drop-append-le used old k.some within ∙ ap (λ l. l ++ k.some) cut in
+    let long = k.goes_on in
+    let none : end_reads s.at_end ≡ 0 = ap end_reads (se ∙ h) in
+    let ends = ap end_reads te in
+    let lens : length new ≡ used + length unread + length k.some = let l = ap length k.appends in let d = ap length cut in omega (arith, l, d, within, length-drop used old, length-append old k.some) in (
+      left ∙ ap (left_of at_end after) now ∙ left_at at_end after a b.next unread k.some k.later b.bytes b.fault k.cut k.left k.ends,
+      omega (arith, long, none, ends, n, size, reads, lens),
+    )
+
+-- a line that is being read: no line feed was met
+pub record Reading (a : Ahead) (s : InputState) (line : List ℕ) (t : InputState) : Type 0 where
+  pub left : List ℕ
+  pub joins : a.bytes ≡ line ++ left
+  pub is_left : t.left ≡ Some (record { bytes = left; fault = a.fault })
+  pub none : no_line_feed line ≡ true
+  pub reads : ReadsFit a s (record { bytes = left; fault = a.fault }) t
+
+pub reading_start : (a : Ahead) (s : InputState) → IsTold s.left a → Reading a s [] s
+reading_start a s told = record { left = a.bytes; joins = refl; is_left = told.0; none = refl; reads = omega arith }
+
+whole_after : (xs line : List ℕ) → no_line_feed xs ≡ true → is_whole_line line ≡ true → is_whole_line (xs ++ line) ≡ true
+whole_after [] line h w = w
+whole_after (x ∷ xs) line h w = whole_cons x (xs ++ line) (not_both (x == line_feed) (no_line_feed xs) h) (whole_after xs line (and_right (not (x == line_feed)) (no_line_feed xs) h) w)
+  where
+    not_both : (b c : Bool) → (not b && c) ≡ true → b ≡ false
+    not_both true c h = let f : false ≡ true = h in cc
+    not_both false c h = refl
+
+none_after : (xs ys : List ℕ) → no_line_feed xs ≡ true → no_line_feed ys ≡ true → no_line_feed (xs ++ ys) ≡ true
+none_after [] ys h k = k
+none_after (x ∷ xs) ys h k = ap (λ b. b && no_line_feed (xs ++ ys)) (and_left (not (x == line_feed)) (no_line_feed xs) h) ∙ none_after xs ys (and_right (not (x == line_feed)) (no_line_feed xs) h) k
+
+fits_moved : (a : Ahead) (s t v : InputState) (moved left now : List ℕ) → now ≡ moved ++ left → v.unread + length moved ≡ t.unread → v.reads ≡ t.reads → v.at_end ≡ t.at_end → ReadsFit a s (ahead_of now a.fault) t → ReadsFit a s (ahead_of left a.fault) v
+fits_moved a s t v moved left now cut unread reads ends fits =
+    let l = ap length cut in
+    let e = ap end_reads ends in
+    omega (arith, fits, l, e, unread, reads, length-append moved left)
+
+pub reading_moves : (a : Ahead) (s t v : InputState) (line new : List ℕ) (whole : Bool) → whole ≡ false → Reading a s line t → ((b : Ahead) → t.left ≡ Some b → MovesLine b t line whole new v) → Reading a s new v × (v.unread ≡ 0)
+reading_moves a s t v line new true h r move = let f : true ≡ false = h in cc
+reading_moves a s t v line new false h r move =
+    let m = move (ahead_of r.left a.fault) r.is_left in (
+      record {
+        left = m.left;
+        joins = r.joins ∙ ap (λ l. line ++ l) m.joins ∙ sym (append_assoc line m.some m.left) ∙ ap (λ l. l ++ m.left) (sym m.appends);
+        is_left = m.is_left;
+        none = ap no_line_feed m.appends ∙ none_after line m.some r.none m.is_line.0;
+        reads = fits_moved a s t v m.some m.left r.left m.joins m.unread m.reads m.at_end r.reads;
+      },
+      m.is_line.1,
+    )
+
+pub reading_whole : (a : Ahead) (s t v : InputState) (line new : List ℕ) (whole : Bool) → whole ≡ true → Reading a s line t → ((b : Ahead) → t.left ≡ Some b → MovesLine b t line whole new v) → TakesLine a s new v
+reading_whole a s t v line new false h r move = let f : false ≡ true = h in cc
+reading_whole a s t v line new true h r move =
+    let m = move (ahead_of r.left a.fault) r.is_left in record {
+      left = m.left;
+      joins = r.joins ∙ ap (λ l. line ++ l) m.joins ∙ sym (append_assoc line m.some m.left) ∙ ap (λ l. l ++ m.left) (sym m.appends);
+      is_left = m.is_left;
+      is_line = inl (ap is_whole_line m.appends ∙ whole_after line m.some r.none m.is_line);
+      reads = fits_moved a s t v m.some m.left r.left m.joins m.unread m.reads m.at_end r.reads;
+    }
+
+empty_of : (xs : List ℕ) → length xs ≡ 0 → xs ≡ []
+empty_of [] h = refl
+empty_of (x ∷ xs) h = absurd (omega (arith, h))
+
+pub reading_ends : (a : Ahead) (s t : InputState) (line : List ℕ) → Reading a s line t → t.unread ≡ 0 → ((b : Ahead) → t.left ≡ Some b → IsAllRead b t.unread) → TakesLine a s line t
+reading_ends a s t line r zero all =
+    let k = all (ahead_of r.left a.fault) r.is_left in record {
+      left = r.left;
+      joins = r.joins;
+      is_left = r.is_left;
+      is_line = inr (r.none, empty_of r.left (k.0 ∙ zero), k.1);
+      reads = r.reads;
+    }
+
+reading_told : (a : Ahead) (s t : InputState) (line : List ℕ) → IsTold s.left a → (r : Reading a s line t) → IsTold t.left (ahead_of r.left a.fault)
+reading_told a s t line told r = (r.is_left, told.1)
+
+-- the reads of one step after another
+pub fits_more : (a b d : Ahead) (s t v : InputState) → ReadsFit a s b t → ReadsFit b t d v → ReadsFit a s d v
+fits_more a b d s t v f g = omega (arith, f, g)
+
+pub reading_more : (a : Ahead) (s t v : InputState) (line : List ℕ) → IsTold s.left a → Reading a s line t → ((b : Ahead) → IsTold t.left b → (v.left ≡ Some b) × ReadsFit b t b v) → Reading a s line v
+reading_more a s t v line told r more =
+    let m = more (ahead_of r.left a.fault) (reading_told a s t line told r) in
+    record { left = r.left; joins = r.joins; is_left = m.0; none = r.none; reads = fits_more a (ahead_of r.left a.fault) (ahead_of r.left a.fault) s t v r.reads m.1 }
+
+pub bound_before : (a b : Ahead) (s t v : InputState) (x : IoError) → ReadsFit a s b t → BoundIsMet b t v x → BoundIsMet a s v x
+bound_before a b s t v x fits met = (met.0, met.1, let m = met.2 in omega (arith, fits, m))
+
+pub reading_fails : {A : Type 0} (a : Ahead) (s t v : InputState) (line : List ℕ) (e : Error A) → IsTold s.left a → Reading a s line t → t.unread ≡ 0 → ((b : Ahead) → IsTold t.left b → IsFinal b t (length b.bytes ≡ t.unread) e v) → IsFinal a s (no_line_feed a.bytes ≡ true) e v
+reading_fails a s t v line e told r zero fails =
+    let b = ahead_of r.left a.fault in
+    io_weaker (IsReadFault b t (length b.bytes ≡ t.unread) v) (IsReadFault a s (no_line_feed a.bytes ≡ true) v) e
+    (λ x h. elim h [ inl f ↦ inl (f.0, ap no_line_feed (r.joins ∙ ap (λ l. line ++ l) (empty_of r.left (f.1 ∙ zero)) ∙ append-nil line) ∙ r.none) | inr m ↦ inr (bound_before a b s t v x r.reads m) ])
+    (fails b (reading_told a s t line told r))
+
+-- a move of unread bytes
+pub moves_line : (a : Ahead) (s t : InputState) (unread old new : List ℕ) (n : ℕ) (whole : Option ℕ) → s.left ≡ Some a → unread ≡ take s.unread a.bytes → length unread ≡ s.unread → n ≡ unwrap_or whole (length unread) → MatchOption whole (no_line_feed unread ≡ true) (λ k. (k ≤ length unread) × (is_whole_line (take k unread) ≡ true)) → new ≡ old ++ take n unread → t ≡ used_up n s → MovesLine a s old (is_some whole) new t
+moves_line a s t unread old new n whole left u len count line appends after = record {
+  some = take n unread;
+  left = drop n a.bytes;
+  appends = appends;
+  joins = sym (take-append-drop n a.bytes) ∙ ap (λ l. l ++ drop n a.bytes) (sym front);
+  is_left = ap (λ v. v.left) after ∙ ap (drop_left n) left;
+  is_line = lines whole count line;
+  unread = let v = ap (λ v. v.unread) after in let l = length-take-le n unread within in omega (arith, v, l, len, within);
+  reads = ap (λ v. v.reads) after;
+  at_end = ap (λ v. v.at_end) after;
+}
+  where
+    within_at : (w : Option ℕ) → n ≡ unwrap_or w (length unread) → MatchOption w (no_line_feed unread ≡ true) (λ k. (k ≤ length unread) × (is_whole_line (take k unread) ≡ true)) → n ≤ length unread
+    within_at None e h = omega (arith, e)
+    within_at (Some k) e h = let w = h.0 in omega (arith, e, w)
+
+    within : n ≤ length unread
+    within = within_at whole count line
+
+    front : take n unread ≡ take n a.bytes
+    front = ap (take n) u ∙ take-take n s.unread a.bytes (omega (arith, within, len))
+
+    spent : n ≡ length unread → t.unread ≡ 0
+    spent e = let v = ap (λ v. v.unread) after in omega (arith, v, e, len)
+
+    lines : (w : Option ℕ) → n ≡ unwrap_or w (length unread) → MatchOption w (no_line_feed unread ≡ true) (λ k. (k ≤ length unread) × (is_whole_line (take k unread) ≡ true)) → MatchBool (is_some w) (is_whole_line (take n unread) ≡ true) ((no_line_feed (take n unread) ≡ true) × (t.unread ≡ 0))
+    lines None e h = (ap no_line_feed (ap (λ k. take k unread) e ∙ take_all (length unread) unread (omega arith)) ∙ h, spent e)
+    lines (Some k) e h = ap (λ j. is_whole_line (take j unread)) e ∙ h.1
+
+-- the bytes that were read decide whether a mark stands there
+same_test : (b c : ℕ) → (b == c) ≡ (c == b)
+same_test b c = grind (arith, nat_tests)
+
+pub mark_decided : (unread later : List ℕ) → begins_mark unread ≡ false → starts_with nat_eq (unread ++ later) byte_order_mark ≡ starts_with nat_eq unread byte_order_mark
+mark_decided [] later h = let f : true ≡ false = h in cc
+mark_decided (b ∷ []) later h = let k : ((b == 0xEF) && true) ≡ false = h in one (0xEF == b) (ap (λ t. t && true) (same_test 0xEF b) ∙ k)
+  where
+    one : (t : Bool) → (t && true) ≡ false → (t && pointwise nat_eq (0xBB ∷ 0xBF ∷ []) (take 2 later)) ≡ (t && false)
+    one true h = let f : true ≡ false = h in cc
+    one false h = refl
+mark_decided (b ∷ c ∷ []) later h = let k : ((b == 0xEF) && ((c == 0xBB) && true)) ≡ false = h in two (0xEF == b) (0xBB == c) (ap (λ t. t && ((0xBB == c) && true)) (same_test 0xEF b) ∙ ap (λ t. (b == 0xEF) && (t && true)) (same_test 0xBB c) ∙ k)
+  where
+    two : (t u : Bool) → (t && (u && true)) ≡ false → (t && (u && pointwise nat_eq (0xBF ∷ []) (take 1 later))) ≡ (t && (u && false))
+    two true true h = let f : true ≡ false = h in cc
+    two true false h = refl
+    two false u h = refl
+mark_decided (b ∷ c ∷ d ∷ unread) later h = refl
+
+pub deciding_fails : {A : Type 0} (a : Ahead) (s t v : InputState) (e : Error A) → ReadsFit a s a t → begins_mark (take t.unread a.bytes) ≡ true → IsFinal a t (length a.bytes ≡ t.unread) e v → IsFinal a s (begins_mark a.bytes ≡ true) e v
+deciding_fails a s t v e fits begins fails =
+    io_weaker (IsReadFault a t (length a.bytes ≡ t.unread) v) (IsReadFault a s (begins_mark a.bytes ≡ true) v) e
+    (λ x h. elim h [ inl f ↦ inl (f.0, ap begins_mark (sym (take_all t.unread a.bytes (let l = f.1 in omega (arith, l)))) ∙ begins) | inr m ↦ inr (bound_before a a s t v x fits m) ])
+    fails
+
+mark_test : (unread : ℕ) (a : Ahead) → IsAllRead a unread ⊎ (begins_mark (take unread a.bytes) ≡ false) → starts_with nat_eq a.bytes byte_order_mark ≡ starts_with nat_eq (take unread a.bytes) byte_order_mark
+mark_test unread a (inl all) = ap (λ l. starts_with nat_eq l byte_order_mark) (sym (take_all unread a.bytes (let l = all.0 in omega (arith, l))))
+mark_test unread a (inr differs) = ap (λ l. starts_with nat_eq l byte_order_mark) (sym (take-append-drop unread a.bytes)) ∙ mark_decided (take unread a.bytes) (drop unread a.bytes) differs
+
+mark_long : (bytes : List ℕ) → starts_with nat_eq bytes byte_order_mark ≡ true → 3 ≤ length bytes
+mark_long [] h = let f : false ≡ true = h in cc
+mark_long (b ∷ []) h = let f = and_right (0xEF == b) false h in cc
+mark_long (b ∷ c ∷ []) h = let f = and_right (0xBB == c) false (and_right (0xEF == b) ((0xBB == c) && false) h) in cc
+mark_long (b ∷ c ∷ d ∷ bytes) h = omega arith
+
+-- the mark is dropped where it stands
+pub deciding_done : (a : Ahead) (s t v : InputState) (is_mark : Bool) → t.left ≡ Some a → ReadsFit a s a t → IsAllRead a t.unread ⊎ (begins_mark (take t.unread a.bytes) ≡ false) → is_mark ≡ starts_with nat_eq (take t.unread a.bytes) byte_order_mark → (is_mark ≡ true → 3 ≤ t.unread) → v ≡ cond is_mark (used_up 3 t) t →
+    (v.left ≡ Some (ahead_of (without_mark a.bytes) a.fault)) × ReadsFit a s (ahead_of (without_mark a.bytes) a.fault) v
+deciding_done a s t v is_mark left fits decided test long after = at is_mark (starts_with nat_eq a.bytes byte_order_mark) (mark_test t.unread a decided ∙ sym test) refl long after
+  where
+    at : (m b : Bool) → b ≡ m → starts_with nat_eq a.bytes byte_order_mark ≡ b → (m ≡ true → 3 ≤ t.unread) → v ≡ cond m (used_up 3 t) t → (v.left ≡ Some (ahead_of (cond b (drop 3 a.bytes) a.bytes) a.fault)) × ReadsFit a s (ahead_of (cond b (drop 3 a.bytes) a.bytes) a.fault) v
+    at true true e is wide now =
+        let w = wide refl in
+        let n = mark_long a.bytes is in
+        let u = ap (λ x. x.unread) now in
+        let r = ap (λ x. x.reads) now in
+        let z = ap (λ x. end_reads x.at_end) now in
+        (ap (λ x. x.left) now ∙ ap (drop_left 3) left, omega (arith, fits, w, n, u, r, z, length-drop 3 a.bytes))
+    at false false e is wide now =
+        let u = ap (λ x. x.unread) now in
+        let r = ap (λ x. x.reads) now in
+        let z = ap (λ x. end_reads x.at_end) now in
+        (ap (λ x. x.left) now ∙ left, omega (arith, fits, u, r, z))
+    at true false e is wide now = cc
+    at false true e is wide now = cc

@@ -1,0 +1,423 @@
+-- The splitter's loop over physical lines: what it keeps, and a theorem for each way out of it.
+use Rattle.std.proofs.Common.{◌≡◌, ◌≢◌, ℕ, zero, suc, ◌<◌, Bool, true, false, cond, not, List, [], ◌∷◌, ◌++◌, map, length, drop, refl, sym, ◌∙◌, ap, subst, append_assoc, arith, length-append, Some, None, Option, inl, inr, ◌⊎◌}
+use Rattle.std.specs.Prelude.{◌==◌, IsUtf8, encode_utf8_all, string_bytes, string_len, Result, Ok, Err}
+use Rattle.std.specs.List.{concat}
+use Rattle.std.specs.Str.{chars, is_utf8, skip_leading_whitespace}
+use Rattle.std.specs.IoError.{error_kind}
+use Rattle.std.specs.declared.io.ErrorKind.{ErrorKind}
+use Rattle.std.specs.declared.string.String.{String}
+use Rattle.std.proofs.lemmas.Option.{none-some}
+use Rattle.std.proofs.lemmas.Bool.Decides.{nat_tests}
+use Rattle.std.proofs.lemmas.List.{append-nil, map-append}
+use Rattle.std.proofs.lemmas.List.Folds.{concat-append}
+use Rattle.std.proofs.lemmas.Str.{chars-nil, encodes-chars, IsUtf8-string_bytes, is_utf8-from_IsUtf8, IsUtf8-from_is_utf8}
+use Rattle.dotenvy.specs.declared.errors.Error.{Error}
+use Rattle.dotenvy.specs.declared.errors.Error.TheVariants.{LineParse, Io, EnvVar, Nul, Memory}
+use Rattle.dotenvy.specs.declared.lines.LineMode.{LineMode}
+use Rattle.dotenvy.specs.declared.lines.LineMode.TheVariants.{Outside, Escaping, Inside, InsideEscaping, AfterBlank}
+use Rattle.dotenvy.specs.declared.lines.Joined.{Joined}
+use Rattle.dotenvy.specs.declared.lines.Joined.TheVariants.{Nothing, Whole, OpenEnd, BrokenLine}
+use Rattle.dotenvy.specs.declared.lines.Stage.{Stage}
+use Rattle.dotenvy.specs.declared.lines.Stage.TheVariants.{Open as stage_open, Ended}
+use Rattle.dotenvy.specs.Characters.{begins_with, hash, line_feed, byte_len}
+use Rattle.dotenvy.specs.PhysicalLines.{physical_lines, line_text, line_texts, is_whole_line, is_last_line, AreCut}
+use Rattle.dotenvy.specs.Decided.{before_some, up_to_last_line_feed}
+use Rattle.dotenvy.specs.LogicalLine.{Skip, Text, Open, Broken, IsNext, IsSkipped, IsOneLine, IsWhole, input_end}
+use Rattle.dotenvy.specs.LineModes.{walk, going, ended}
+use Rattle.dotenvy.specs.Source.{Ahead}
+use Rattle.dotenvy.specs.Input.{InputState, IsTold, ReadsFit, IsReadFault, IsFinal, no_line_feed, TakesLine}
+use Rattle.dotenvy.specs.Lines.{whole_before, whole_lines, IsOpen, TakesNext, IsUndecided, GoesOn, NextIs}
+use Rattle.dotenvy.specs.JoinedLines.{joined_at_end, TakesJoined, stage_after, Answers}
+use Rattle.dotenvy.proofs.Scans as scans
+use Rattle.dotenvy.proofs.Scans.{stops, scan, scan-reads, Reads, Read}
+use Rattle.dotenvy.proofs.Cuts.{and_left, and_right, concat-lines}
+use Rattle.dotenvy.proofs.NextLine.{whole_line, last_line, ends_line, whole_ends, ends_join, one_next}
+use Rattle.dotenvy.proofs.EntriesOnce.{cut_line_texts, whole_chars, one_last}
+use Rattle.dotenvy.proofs.DecidedFront.{tokens_end}
+use Rattle.dotenvy.proofs.Splitting.{IsGoing, going_start, IsWalked, walk-is}
+use Rattle.dotenvy.proofs.SplitLines.{left_after, left_after_broken, line_is_one, at_input_end, at_end, reads_all, next-skip, next-text, next-open, next-broken}
+use Rattle.dotenvy.proofs.Inputs.{io_weaker, fits_more, bound_before}
+
+abbrev Lines : Type 0
+Lines = List (Option (List ℕ))
+
+abbrev ahead_of : List ℕ → Option ErrorKind → Ahead
+ahead_of bytes fault = record { bytes = bytes; fault = fault }
+
+-- bytes up to their last line feed
+up_to_whole : (line left : List ℕ) → is_whole_line line ≡ true → up_to_last_line_feed (line ++ left) ≡ line ++ up_to_last_line_feed left
+up_to_whole [] left h = let f : false ≡ true = h in cc
+up_to_whole (c ∷ []) left h = ap (λ b. cond b (c ∷ up_to_last_line_feed left) (before_some c (up_to_last_line_feed left))) h
+up_to_whole (c ∷ d ∷ line) left h = at (c == line_feed) (and_left (not (c == line_feed)) (is_whole_line (d ∷ line)) h) (up_to_whole (d ∷ line) left (and_right (not (c == line_feed)) (is_whole_line (d ∷ line)) h))
+  where
+    at : (b : Bool) → not b ≡ true → up_to_last_line_feed ((d ∷ line) ++ left) ≡ (d ∷ line) ++ up_to_last_line_feed left → cond b (c ∷ up_to_last_line_feed ((d ∷ line) ++ left)) (before_some c (up_to_last_line_feed ((d ∷ line) ++ left))) ≡ c ∷ (d ∷ line) ++ up_to_last_line_feed left
+    at true h e = let f : false ≡ true = h in cc
+    at false h e = ap (before_some c) e
+
+up_to_none : (bytes : List ℕ) → no_line_feed bytes ≡ true → up_to_last_line_feed bytes ≡ []
+up_to_none [] h = refl
+up_to_none (c ∷ bytes) h = at (c == line_feed) (and_left (not (c == line_feed)) (no_line_feed bytes) h) (up_to_none bytes (and_right (not (c == line_feed)) (no_line_feed bytes) h))
+  where
+    at : (b : Bool) → not b ≡ true → up_to_last_line_feed bytes ≡ [] → cond b (c ∷ up_to_last_line_feed bytes) (before_some c (up_to_last_line_feed bytes)) ≡ []
+    at true h e = let f : false ≡ true = h in cc
+    at false h e = ap (before_some c) e
+
+whole_line_texts : (fault : Option ErrorKind) (line left : List ℕ) → is_whole_line line ≡ true → line_texts (whole_before fault (line ++ left)) ≡ line_text line ∷ line_texts (whole_before fault left)
+whole_line_texts None line left h = ap (map line_text) (whole_line line left h)
+whole_line_texts (Some kind) line left h = ap line_texts (up_to_whole line left h) ∙ ap (map line_text) (whole_line line (up_to_last_line_feed left) h)
+
+last_line_texts : (fault : Option ErrorKind) (line : List ℕ) → is_last_line line ≡ true → fault ≡ None → line_texts (whole_before fault line) ≡ line_text line ∷ []
+last_line_texts None line h e = ap (map line_text) (last_line line h)
+last_line_texts (Some kind) line h e = absurd (none-some kind (sym e))
+
+no_texts : (fault : Option ErrorKind) → line_texts (whole_before fault []) ≡ []
+no_texts None = refl
+no_texts (Some kind) = refl
+
+-- the line that was taken, and those that are left
+record Parts (b : Ahead) (line left : List ℕ) : Type 0 where
+  bytes : physical_lines b.bytes ≡ line ∷ physical_lines left
+  texts : whole_lines b ≡ line_text line ∷ whole_lines (ahead_of left b.fault)
+  ends : (b.fault ≡ None) ⊎ (is_whole_line line ≡ true)
+
+last_of : (line : List ℕ) → line ≢ [] → no_line_feed line ≡ true → is_last_line line ≡ true
+last_of [] some h = absurd (some refl)
+last_of (c ∷ line) some h = one_last c line h
+
+parts : (b : Ahead) (t v : InputState) (line : List ℕ) → line ≢ [] → (k : TakesLine b t line v) → Parts b line k.left
+parts b t v line some k = at k.is_line
+  where
+    at : (is_whole_line line ≡ true) ⊎ ((no_line_feed line ≡ true) × (k.left ≡ []) × (b.fault ≡ None)) → Parts b line k.left
+    at (inl whole) = record {
+      bytes = ap physical_lines k.joins ∙ whole_line line k.left whole;
+      texts = ap (λ l. line_texts (whole_before b.fault l)) k.joins ∙ whole_line_texts b.fault line k.left whole;
+      ends = inr whole;
+    }
+    at (inr (none, empty, fault)) =
+        let last = last_of line some none in
+        let all : b.bytes ≡ line = k.joins ∙ ap (λ l. line ++ l) empty ∙ append-nil line in record {
+          bytes = ap physical_lines all ∙ last_line line last ∙ ap (λ l. line ∷ physical_lines l) (sym empty);
+          texts = ap (λ l. line_texts (whole_before b.fault l)) all ∙ last_line_texts b.fault line last fault ∙ ap (λ ls. line_text line ∷ ls) (sym (no_texts b.fault) ∙ ap (λ l. line_texts (whole_before b.fault l)) (sym empty));
+          ends = inl fault;
+        }
+
+-- nothing was left
+none_parts : (b : Ahead) (t v : InputState) → (k : TakesLine b t [] v) → (b.bytes ≡ []) × (k.left ≡ []) × (b.fault ≡ None)
+none_parts b t v k = at k.is_line
+  where
+    at : (is_whole_line [] ≡ true) ⊎ ((no_line_feed [] ≡ true) × (k.left ≡ []) × (b.fault ≡ None)) → (b.bytes ≡ []) × (k.left ≡ []) × (b.fault ≡ None)
+    at (inl whole) = let f : false ≡ true = whole in cc
+    at (inr (none, empty, fault)) = (k.joins ∙ empty, empty, fault)
+
+-- texts were taken that go on
+pub record Joining (a : Ahead) (s : InputState) (seen : List ℕ) (m : LineMode) (t : InputState) : Type 0 where
+  pub taken : List (List ℕ)
+  pub left : List ℕ
+  pub is_left : t.left ≡ Some (record { bytes = left; fault = a.fault })
+  pub rest : physical_lines left ≡ drop (length taken) (physical_lines a.bytes)
+  pub lines : whole_lines a ≡ map Some taken ++ whole_lines (record { bytes = left; fault = a.fault })
+  pub joined : seen ≡ concat taken
+  pub is_going : IsGoing seen m
+  pub shown : taken ≢ [] → ¬ (IsSkipped (whole_lines a))
+  pub first : seen ≡ [] → taken ≡ []
+  pub ends : (a.fault ≡ None) ⊎ ((taken ≡ []) ⊎ (ends_line seen ≡ true))
+  pub reads : ReadsFit a s (record { bytes = left; fault = a.fault }) t
+
+pub joining_start : (a : Ahead) (s : InputState) → IsTold s.left a → Joining a s [] Outside s
+joining_start a s told = record {
+  taken = [];
+  left = a.bytes;
+  is_left = told.0;
+  rest = refl;
+  lines = refl;
+  joined = refl;
+  is_going = going_start;
+  shown = λ some. absurd (some refl);
+  first = λ e. refl;
+  ends = inr (inl refl);
+  reads = omega arith;
+}
+
+pub joining_told : (a : Ahead) (s t : InputState) (seen : List ℕ) (m : LineMode) → IsTold s.left a → (j : Joining a s seen m t) → IsTold t.left (record { bytes = j.left; fault = a.fault })
+joining_told a s t seen m told j = (j.is_left, told.1)
+
+drop_one : {A : Type 0} (n : ℕ) (xs : List A) (y : A) (ys : List A) → y ∷ ys ≡ drop n xs → ys ≡ drop (suc n) xs
+drop_one zero xs y ys e = ap (drop 1) e
+drop_one (suc n) [] y ys e = cc
+drop_one (suc n) (x ∷ xs) y ys e = drop_one n xs y ys e
+
+chars_some : (line : List ℕ) → IsUtf8 line → line ≢ [] → chars line ≢ []
+chars_some line u some h = some (sym (encodes-chars line u) ∙ ap encode_utf8_all h)
+
+text_of : (line : List ℕ) → IsUtf8 line → line_text line ≡ Some (chars line)
+text_of line u = ap (λ b. cond b (Some (chars line)) None) (is_utf8-from_IsUtf8 line u)
+
+no_text : (line : List ℕ) → ¬ (IsUtf8 line) → line_text line ≡ None
+no_text line h = at (is_utf8 line) refl
+  where
+    at : (b : Bool) → is_utf8 line ≡ b → cond b (Some (chars line)) None ≡ None
+    at true e = absurd (h (IsUtf8-from_is_utf8 line e))
+    at false e = refl
+
+one_more : (taken : List (List ℕ)) (t : List ℕ) (ls : Lines) → map Some taken ++ Some t ∷ ls ≡ map Some (taken ++ t ∷ []) ++ ls
+one_more taken t ls = sym (append_assoc (map Some taken) (Some t ∷ []) ls) ∙ ap (λ l. l ++ ls) (sym (map-append Some taken (t ∷ [])))
+
+concat_more : (taken : List (List ℕ)) (t : List ℕ) → concat (taken ++ t ∷ []) ≡ concat taken ++ t
+concat_more taken t = concat-append taken (t ∷ []) ∙ ap (λ x. concat taken ++ x) (append-nil t)
+
+length_more : (taken : List (List ℕ)) (t : List ℕ) → length (taken ++ t ∷ []) ≡ suc (length taken)
+length_more taken t = omega (arith, length-append taken (t ∷ []))
+
+-- one more line that is a text
+record Next (a : Ahead) (taken : List (List ℕ)) (line left : List ℕ) : Type 0 where
+  rest : physical_lines left ≡ drop (suc (length taken)) (physical_lines a.bytes)
+  lines : whole_lines a ≡ map Some taken ++ line_text line ∷ whole_lines (ahead_of left a.fault)
+  ends : (a.fault ≡ None) ⊎ (is_whole_line line ≡ true)
+
+next_of : (a : Ahead) (s t v : InputState) (seen line : List ℕ) (m : LineMode) → line ≢ [] → (j : Joining a s seen m t) → (k : TakesLine (ahead_of j.left a.fault) t line v) → Next a j.taken line k.left
+next_of a s t v seen line m some j k =
+    let p = parts (ahead_of j.left a.fault) t v line some k in record {
+      rest = drop_one (length j.taken) (physical_lines a.bytes) line (physical_lines k.left) (sym p.bytes ∙ j.rest);
+      lines = j.lines ∙ ap (λ ls. map Some j.taken ++ ls) p.texts;
+      ends = p.ends;
+    }
+
+some_after : (xs : Lines) (y : Option (List ℕ)) (ys : Lines) → xs ++ y ∷ ys ≢ []
+some_after [] y ys h = cc
+some_after (x ∷ xs) y ys h = cc
+
+-- the first line is no comment
+not_skipped : (all : Lines) (taken : List (List ℕ)) (text : List ℕ) (ls : Lines) → all ≡ map Some taken ++ Some text ∷ ls → (taken ≢ [] → ¬ (IsSkipped all)) → (taken ≡ [] → begins_with hash (skip_leading_whitespace text) ≡ false) → ¬ (IsSkipped all)
+not_skipped all [] text ls e shown comment = λ h. let k : begins_with hash (skip_leading_whitespace text) ≡ true = subst IsSkipped e h in let f : true ≡ false = sym k ∙ comment refl in cc
+not_skipped all (t ∷ taken) text ls e shown comment = shown (λ h. cc)
+
+not_skipped_broken : (all : Lines) (taken : List (List ℕ)) (ls : Lines) → all ≡ map Some taken ++ None ∷ ls → (taken ≢ [] → ¬ (IsSkipped all)) → ¬ (IsSkipped all)
+not_skipped_broken all [] ls e shown = λ h. subst IsSkipped e h
+not_skipped_broken all (t ∷ taken) ls e shown = shown (λ h. cc)
+
+second_nil : (xs ys : List ℕ) → xs ++ ys ≡ [] → ys ≡ []
+second_nil [] ys h = h
+second_nil (x ∷ xs) ys h = cc
+
+-- the line as a text among all lines
+record Among (a : Ahead) (seen : List ℕ) (taken : List (List ℕ)) (line left : List ℕ) : Type 0 where
+  rest : physical_lines left ≡ drop (suc (length taken)) (physical_lines a.bytes)
+  lines : whole_lines a ≡ map Some taken ++ Some (chars line) ∷ whole_lines (ahead_of left a.fault)
+  one : IsOneLine (chars line)
+  ends : (a.fault ≡ None) ⊎ (is_whole_line line ≡ true)
+
+among : (a : Ahead) (s t v : InputState) (seen line : List ℕ) (m : LineMode) → line ≢ [] → IsUtf8 line → (j : Joining a s seen m t) → (k : TakesLine (ahead_of j.left a.fault) t line v) → Among a seen j.taken line k.left
+among a s t v seen line m some u j k =
+    let n = next_of a s t v seen line m some j k in
+    let ls = whole_lines (ahead_of k.left a.fault) in
+    let e : whole_lines a ≡ map Some j.taken ++ Some (chars line) ∷ ls = n.lines ∙ ap (λ l. map Some j.taken ++ l ∷ ls) (text_of line u) in record {
+      rest = n.rest;
+      lines = e;
+      one = line_is_one (map Some j.taken) (chars line) ls (subst AreCut e (cut_line_texts (whole_before a.fault a.bytes)));
+      ends = n.ends;
+    }
+
+-- a line that goes on
+pub joining_goes : (a : Ahead) (s t v : InputState) (seen line : List ℕ) (m n : LineMode) → line ≢ [] → IsUtf8 line → (seen ≡ [] → begins_with hash (skip_leading_whitespace (chars line)) ≡ false) → walk m seen (chars line) ≡ going n → (j : Joining a s seen m t) → TakesLine (record { bytes = j.left; fault = a.fault }) t line v → Joining a s (seen ++ chars line) n v
+joining_goes a s t v seen line m n some u comment walks j k =
+    let p = among a s t v seen line m some u j k in record {
+      taken = j.taken ++ chars line ∷ [];
+      left = k.left;
+      is_left = k.is_left;
+      rest = p.rest ∙ ap (λ i. drop i (physical_lines a.bytes)) (sym (length_more j.taken (chars line)));
+      lines = p.lines ∙ one_more j.taken (chars line) (whole_lines (ahead_of k.left a.fault));
+      joined = ap (λ l. l ++ chars line) j.joined ∙ sym (concat_more j.taken (chars line));
+      is_going = subst (IsWalked (Unit {0}) seen (chars line)) walks (walk-is (Unit {0}) m seen (chars line) j.is_going p.one);
+      shown = λ more. not_skipped (whole_lines a) j.taken (chars line) (whole_lines (ahead_of k.left a.fault)) p.lines j.shown (λ e. comment (j.joined ∙ ap concat e));
+      first = λ e. absurd (chars_some line u some (second_nil seen (chars line) e));
+      ends = elim p.ends [ inl f ↦ inl f | inr w ↦ inr (inr (ends_join seen (chars line) (whole_ends (chars line) (whole_chars line (is_utf8-from_IsUtf8 line u) w)))) ];
+      reads = fits_more a (ahead_of j.left a.fault) (ahead_of k.left a.fault) s t v j.reads k.reads;
+    }
+
+-- a line that ends the logical line
+pub joining_ends : (a : Ahead) (s t v : InputState) (seen line text : List ℕ) (m : LineMode) → line ≢ [] → IsUtf8 line → (seen ≡ [] → begins_with hash (skip_leading_whitespace (chars line)) ≡ false) → walk m seen (chars line) ≡ ended text → (j : Joining a s seen m t) → TakesLine (record { bytes = j.left; fault = a.fault }) t line v → TakesNext a s (Text text) v
+joining_ends a s t v seen line text m some u comment walks j k =
+    let p = among a s t v seen line m some u j k in
+    let ls = whole_lines (ahead_of k.left a.fault) in
+    let all = j.taken ++ chars line ∷ [] in
+    let e = p.lines ∙ one_more j.taken (chars line) ls in
+    let last = length all ≡ length (map Some all ++ ls) in
+    let whole : IsWhole (seen ++ chars line) text last = subst (IsWalked last seen (chars line)) walks (walk-is last m seen (chars line) j.is_going p.one) in
+    let shown = not_skipped (whole_lines a) j.taken (chars line) ls p.lines j.shown (λ e. comment (j.joined ∙ ap concat e)) in record {
+      count = length all;
+      some = λ h. some_after (map Some j.taken) (Some (chars line)) ls (sym p.lines ∙ h);
+      is_next = subst (λ l. IsNext l (length all) (Text text)) (sym e) (next-text all ls text (λ h. shown (subst IsSkipped (sym e) h)) (subst (λ l. IsWhole l text last) (ap (λ l. l ++ chars line) j.joined ∙ sym (concat_more j.taken (chars line))) whole));
+      open_at_end = λ h. absurd h;
+      left = k.left;
+      rest = p.rest ∙ ap (λ i. drop i (physical_lines a.bytes)) (sym (length_more j.taken (chars line)));
+      later = sym (ap (drop (length all)) e ∙ left_after all ls);
+      is_left = k.is_left;
+      reads = fits_more a (ahead_of j.left a.fault) (ahead_of k.left a.fault) s t v j.reads k.reads;
+    }
+
+-- a first line that is a comment
+pub joining_skips : (a : Ahead) (s t v : InputState) (seen line : List ℕ) (m : LineMode) → line ≢ [] → IsUtf8 line → seen ≡ [] → begins_with hash (skip_leading_whitespace (chars line)) ≡ true → (j : Joining a s seen m t) → TakesLine (record { bytes = j.left; fault = a.fault }) t line v → TakesNext a s Skip v
+joining_skips a s t v seen line m some u empty comment j k =
+    let p = among a s t v seen line m some u j k in
+    let ls = whole_lines (ahead_of k.left a.fault) in
+    let e : whole_lines a ≡ Some (chars line) ∷ ls = p.lines ∙ ap (λ ts. map Some ts ++ Some (chars line) ∷ ls) (j.first empty) in record {
+      count = 1;
+      some = λ h. some_after [] (Some (chars line)) ls (sym e ∙ h);
+      is_next = subst (λ l. IsNext l 1 Skip) (sym e) (next-skip (chars line) ls comment);
+      open_at_end = λ h. absurd h;
+      left = k.left;
+      rest = p.rest ∙ ap (λ ts. drop (suc (length ts)) (physical_lines a.bytes)) (j.first empty);
+      later = sym (ap (drop 1) e);
+      is_left = k.is_left;
+      reads = fits_more a (ahead_of j.left a.fault) (ahead_of k.left a.fault) s t v j.reads k.reads;
+    }
+
+-- a line that is broken
+pub joining_breaks : (a : Ahead) (s t v : InputState) (seen line : List ℕ) (m : LineMode) → line ≢ [] → ¬ (IsUtf8 line) → (j : Joining a s seen m t) → TakesLine (record { bytes = j.left; fault = a.fault }) t line v → TakesNext a s Broken v
+joining_breaks a s t v seen line m some broken j k =
+    let n = next_of a s t v seen line m some j k in
+    let ls = whole_lines (ahead_of k.left a.fault) in
+    let e : whole_lines a ≡ map Some j.taken ++ None ∷ ls = n.lines ∙ ap (λ l. map Some j.taken ++ l ∷ ls) (no_text line broken) in
+    let shown = not_skipped_broken (whole_lines a) j.taken ls e j.shown in record {
+      count = suc (length j.taken);
+      some = λ h. some_after (map Some j.taken) None ls (sym e ∙ h);
+      is_next = subst (λ l. IsNext l (suc (length j.taken)) Broken) (sym e)
+          (next-broken j.taken ls m (subst AreCut e (cut_line_texts (whole_before a.fault a.bytes))) (λ h. shown (subst IsSkipped (sym e) h)) (subst (λ l. IsGoing l m) j.joined j.is_going));
+      open_at_end = λ h. absurd h;
+      left = k.left;
+      rest = n.rest;
+      later = sym (ap (drop (suc (length j.taken))) e ∙ left_after_broken j.taken ls);
+      is_left = k.is_left;
+      reads = fits_more a (ahead_of j.left a.fault) (ahead_of k.left a.fault) s t v j.reads k.reads;
+    }
+
+all_taken : (a : Ahead) (s t : InputState) (seen : List ℕ) (m : LineMode) (j : Joining a s seen m t) → whole_lines (ahead_of j.left a.fault) ≡ [] → whole_lines a ≡ map Some j.taken
+all_taken a s t seen m j none = j.lines ∙ ap (λ ls. map Some j.taken ++ ls) none ∙ append-nil (map Some j.taken)
+
+-- nothing was begun, and nothing is left
+pub joining_nothing : (a : Ahead) (s t v : InputState) (seen : List ℕ) (m : LineMode) → seen ≡ [] → (j : Joining a s seen m t) → TakesLine (record { bytes = j.left; fault = a.fault }) t [] v → (a.bytes ≡ []) × (a.fault ≡ None)
+joining_nothing a s t v seen m empty j k =
+    let n = none_parts (ahead_of j.left a.fault) t v k in (
+      sym (concat-lines a.bytes) ∙ ap concat (sym (j.rest ∙ ap (λ ts. drop (length ts) (physical_lines a.bytes)) (j.first empty))) ∙ concat-lines j.left ∙ n.0,
+      n.2,
+    )
+
+-- the end of input after what was begun
+joining_end : (a : Ahead) (s t v : InputState) (seen : List ℕ) (m : LineMode) → seen ≢ [] → (j : Joining a s seen m t) → TakesLine (record { bytes = j.left; fault = a.fault }) t [] v → TakesNext a s (at_input_end m seen) v
+joining_end a s t v seen m begun j k =
+    let n = none_parts (ahead_of j.left a.fault) t v k in
+    let e = all_taken a s t seen m j (ap (λ l. line_texts (whole_before a.fault l)) n.0 ∙ no_texts a.fault) in
+    let some : j.taken ≢ [] = λ h. begun (j.joined ∙ ap concat h) in
+    let lines : map Some j.taken ≢ [] = λ h. some (no_lines j.taken h) in record {
+      count = length j.taken;
+      some = λ h. lines (sym e ∙ h);
+      is_next = subst (λ l. IsNext l (length j.taken) (at_input_end m seen)) (sym e) (subst (λ l. IsNext (map Some j.taken) (length j.taken) (at_input_end m l)) (sym j.joined)
+          (at_end j.taken m lines (subst AreCut e (cut_line_texts (whole_before a.fault a.bytes))) (λ h. j.shown some (subst IsSkipped (sym e) h)) (subst (λ l. IsGoing l m) j.joined j.is_going)));
+      open_at_end = λ h. n.2;
+      left = k.left;
+      rest = ap physical_lines (n.1 ∙ sym n.0) ∙ j.rest;
+      later = ap (λ l. line_texts (whole_before a.fault l)) n.1 ∙ no_texts a.fault ∙ sym (ap (drop (length j.taken)) (e ∙ sym (append-nil (map Some j.taken))) ∙ left_after j.taken []);
+      is_left = k.is_left;
+      reads = fits_more a (ahead_of j.left a.fault) (ahead_of k.left a.fault) s t v j.reads k.reads;
+    }
+  where
+    no_lines : (ts : List (List ℕ)) → map Some ts ≡ [] → ts ≡ []
+    no_lines [] h = refl
+    no_lines (t ∷ ts) h = cc
+
+pub joining_at_end : {A : Type 0} (a : Ahead) (s t v : InputState) (text : String A) (m : LineMode) → chars (string_bytes text) ≢ [] → string_len text ≡ byte_len (chars (string_bytes text)) → (j : Joining a s (chars (string_bytes text)) m t) → TakesLine (record { bytes = j.left; fault = a.fault }) t [] v → TakesJoined a s (joined_at_end m text) v
+joining_at_end a s t v text Outside begun len j k = inr (joining_end a s t v (chars (string_bytes text)) Outside begun j k)
+joining_at_end a s t v text Escaping begun len j k = subst (λ n. TakesNext a s (Open (chars (string_bytes text)) n) v) (sym len) (joining_end a s t v (chars (string_bytes text)) Escaping begun j k)
+joining_at_end a s t v text (Inside q) begun len j k = subst (λ n. TakesNext a s (Open (chars (string_bytes text)) n) v) (sym len) (joining_end a s t v (chars (string_bytes text)) (Inside q) begun j k)
+joining_at_end a s t v text (InsideEscaping q) begun len j k = subst (λ n. TakesNext a s (Open (chars (string_bytes text)) n) v) (sym len) (joining_end a s t v (chars (string_bytes text)) (InsideEscaping q) begun j k)
+joining_at_end a s t v text AfterBlank begun len j k = subst (λ n. TakesNext a s (Open (chars (string_bytes text)) n) v) (sym len) (joining_end a s t v (chars (string_bytes text)) AfterBlank begun j k)
+
+-- what ends with a line feed stands in quotes
+not_outside : (seen : List ℕ) (m : LineMode) → IsGoing seen m → ends_line seen ≡ true → m ≢ Outside
+not_outside seen m g ends is = read (subst (Read scans.outside seen) (reads_all seen (subst (IsGoing seen) is g)) (scan-reads seen scans.outside tt))
+  where
+    read : Reads seen seen input_end [] → ⊥
+    read r = let e : true ≡ false = sym ends ∙ ap ends_line r.front_is ∙ tokens_end r.tokens [] r.are in cc
+
+-- a fault that is told before a line feed
+undecided : (a : Ahead) (s t : InputState) (seen : List ℕ) (m : LineMode) (kind : ErrorKind) (j : Joining a s seen m t) → a.fault ≡ Some kind → no_line_feed j.left ≡ true → IsUndecided a
+undecided a s t seen m kind j fault none count next some is = at j.ends
+  where
+    no_texts_left : (f : Option ErrorKind) → f ≡ Some kind → line_texts (whole_before f j.left) ≡ []
+    no_texts_left None e = absurd (none-some kind e)
+    no_texts_left (Some k) e = ap line_texts (up_to_none j.left none)
+
+    e : whole_lines a ≡ map Some j.taken
+    e = all_taken a s t seen m j (no_texts_left a.fault fault)
+
+    cut : AreCut (whole_lines a)
+    cut = cut_line_texts (whole_before a.fault a.bytes)
+
+    open_next : m ≢ Outside → IsOpen next
+    open_next differs =
+        let taken : j.taken ≢ [] = λ h. some (e ∙ ap (map Some) h) in
+        let o = next-open j.taken m (λ h. some (e ∙ h)) (subst AreCut e cut) (λ h. j.shown taken (subst IsSkipped (sym e) h)) (subst (λ l. IsGoing l m) j.joined j.is_going) differs in
+        let same = one_next (whole_lines a) (length j.taken) count (Open (concat j.taken) (byte_len (concat j.taken))) next some cut (subst (λ l. IsNext l (length j.taken) (Open (concat j.taken) (byte_len (concat j.taken)))) (sym e) o) is in
+        subst IsOpen same.1 tt
+
+    at : (a.fault ≡ None) ⊎ ((j.taken ≡ []) ⊎ (ends_line seen ≡ true)) → IsOpen next
+    at (inl f) = absurd (none-some kind (sym f ∙ fault))
+    at (inr (inl h)) = absurd (some (e ∙ ap (map Some) h))
+    at (inr (inr h)) = open_next (not_outside seen m j.is_going h)
+
+pub joining_fails : {A : Type 0} (a : Ahead) (s t v : InputState) (seen : List ℕ) (m : LineMode) (e : Error A) → (j : Joining a s seen m t) → IsFinal (record { bytes = j.left; fault = a.fault }) t (no_line_feed j.left ≡ true) e v → IsFinal a s (IsUndecided a) e v
+joining_fails a s t v seen m e j fails =
+    let b = ahead_of j.left a.fault in
+    io_weaker (IsReadFault b t (no_line_feed j.left ≡ true) v) (IsReadFault a s (IsUndecided a) v) e
+    (λ x h. elim h [ inl f ↦ inl (f.0, undecided a s t seen m (error_kind x) j f.0 f.1) | inr met ↦ inr (bound_before a b s t v x j.reads met) ])
+    fails
+
+begun_chars : {A : Type 0} (text : String A) → string_bytes text ≢ [] → chars (string_bytes text) ≢ []
+begun_chars text some h = some (sym (encodes-chars (string_bytes text) (IsUtf8-string_bytes text)) ∙ ap encode_utf8_all h)
+
+-- the end of input
+pub joining_finish : {A : Type 0} (a : Ahead) (s t v : InputState) (text : String A) (m : LineMode) (r : Joined A) → (string_bytes text ≡ [] → r ≡ Nothing) → (string_bytes text ≢ [] → r ≡ joined_at_end m text) → string_len text ≡ length (string_bytes text) → (j : Joining a s (chars (string_bytes text)) m t) → TakesLine (record { bytes = j.left; fault = a.fault }) t [] v → TakesJoined a s r v
+joining_finish {A} a s t v text m r empty begun len j k = at (string_bytes text) refl
+  where
+    at : (bytes : List ℕ) → string_bytes text ≡ bytes → TakesJoined a s r v
+    at [] e = subst (λ (q : Joined A). TakesJoined a s q v) (sym (empty e)) (joining_nothing a s t v (chars (string_bytes text)) m (ap chars e ∙ chars-nil) j k)
+    at (b ∷ bytes) e =
+        let some : string_bytes text ≢ [] = λ h. let f : b ∷ bytes ≡ [] = sym e ∙ h in cc in
+        subst (λ (q : Joined A). TakesJoined a s q v) (sym (begun some)) (joining_at_end a s t v text m (begun_chars text some) (len ∙ sym (ap length (encodes-chars (string_bytes text) (IsUtf8-string_bytes text)))) j k)
+
+nil_of : (xs : List ℕ) → length xs ≡ 0 → xs ≡ []
+nil_of [] h = refl
+nil_of (x ∷ xs) h = absurd (omega (arith, h))
+
+-- a test for emptiness
+pub tested_empty : (xs : List ℕ) (n : ℕ) (b : Bool) → b ≡ (n == 0) → n ≡ length xs → b ≡ true → xs ≡ []
+tested_empty xs n b test len is = let zero' : n ≡ 0 = (let t : (n == 0) ≡ true = sym test ∙ is in grind (arith, nat_tests, t)) in nil_of xs (sym len ∙ zero')
+
+pub tested_some : (xs : List ℕ) (n : ℕ) (b : Bool) → b ≡ (n == 0) → n ≡ length xs → b ≡ false → (0 < n) × (xs ≢ [])
+tested_some xs n b test len is =
+    let some : 0 < n = (let t : (n == 0) ≡ false = sym test ∙ is in grind (arith, nat_tests, t)) in
+    (some, λ h. let l = ap length h in omega (arith, some, len, l))
+
+pub text_begun : {A : Type 0} (text : String A) (b : Bool) → b ≡ (string_len text == 0) → string_len text ≡ length (string_bytes text) → b ≡ false → chars (string_bytes text) ≢ []
+text_begun text b test len is = begun_chars text (let t = tested_some (string_bytes text) (string_len text) b test len is in t.1)
+
+-- what was joined, as an answer
+left_at_end : (t : InputState) (left : List ℕ) (fault : Option ErrorKind) → t.left ≡ Some (ahead_of left fault) → ((b : Ahead) → t.left ≡ Some b → (b.bytes ≡ []) × (b.fault ≡ None)) → t.left ≡ Some (ahead_of [] None)
+left_at_end t left fault is all = let e = all (ahead_of left fault) is in is ∙ ap (λ l. Some (ahead_of l fault)) e.0 ∙ ap (λ f. Some (ahead_of [] f)) e.1
+
+goes_on : (t : InputState) (stage : Stage) (used_up : Bool) (left : List ℕ) (fault : Option ErrorKind) → stage ≡ cond used_up Ended stage_open → t.left ≡ Some (ahead_of left fault) → ((b : Ahead) → t.left ≡ Some b → used_up ≡ true → (b.bytes ≡ []) × (b.fault ≡ None)) → GoesOn (record { input = t; stage = stage })
+goes_on t stage true left fault e is all = inr (e, left_at_end t left fault is (λ b h. all b h refl))
+goes_on t stage false left fault e is all = inl e
+
+pub answered : {A : Type 0} (a : Ahead) (s t : InputState) (joined : Joined A) (r : Option (Result (String A) (Error A))) (stage : Stage) (used_up : Bool) → TakesJoined a s joined t → Answers joined r → stage ≡ stage_after joined used_up → ((b : Ahead) → t.left ≡ Some b → used_up ≡ true → (b.bytes ≡ []) × (b.fault ≡ None)) → NextIs a s r (record { input = t; stage = stage })
+answered {A} a s t Nothing r stage used_up takes answers e all = subst (λ (q : Option (Result (String A) (Error A))). NextIs a s q (record { input = t; stage = stage })) (sym answers) (takes.0, takes.1, e)
+answered {A} a s t (Whole text) r stage used_up (inl skip) answers e all = subst (λ (q : Option (Result (String A) (Error A))). NextIs a s q (record { input = t; stage = stage })) (sym answers) (inl (inl skip, let k = skip.1 in goes_on t stage used_up k.left a.fault e k.is_left all))
+answered {A} a s t (Whole text) r stage used_up (inr k) answers e all = subst (λ (q : Option (Result (String A) (Error A))). NextIs a s q (record { input = t; stage = stage })) (sym answers) (inl (inr k, goes_on t stage used_up k.left a.fault e k.is_left all))
+answered {A} a s t (OpenEnd text) r stage used_up k answers e all = subst (λ (q : Option (Result (String A) (Error A))). NextIs a s q (record { input = t; stage = stage })) (sym answers) (inl (k, goes_on t stage used_up k.left a.fault e k.is_left all))
+answered a s t BrokenLine None stage used_up k answers e all = absurd answers
+answered a s t BrokenLine (Some (Ok text)) stage used_up k answers e all = absurd answers
+answered a s t BrokenLine (Some (Err (LineParse text i))) stage used_up k answers e all = absurd answers
+answered a s t BrokenLine (Some (Err (Io x))) stage used_up k answers e all = inl ((answers, k), goes_on t stage used_up k.left a.fault e k.is_left all)
+answered a s t BrokenLine (Some (Err (EnvVar x))) stage used_up k answers e all = absurd answers
+answered a s t BrokenLine (Some (Err (Nul key))) stage used_up k answers e all = absurd answers
+answered a s t BrokenLine (Some (Err (Memory m))) stage used_up k answers e all = absurd answers

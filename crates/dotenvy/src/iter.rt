@@ -1,0 +1,231 @@
+//! The pairs of an environment file, one at a time, and the two loads.
+
+ghost use Rattle.std.specs.Prelude.{◌≡◌, ◌≢◌, ◌<◌, ◌≤◌, IfErr, IfOk, IfSome, IsSome, IsTrue, None, Ok, chars, string_bytes};
+ghost use Rattle.std.specs.Iterator.{at_most};
+ghost use Rattle.dotenvy.specs.declared.lines.Stage.TheVariants.{Failed, Open};
+ghost use Rattle.dotenvy.specs.Errors.{IsMemory, IsMemoryErr};
+ghost use Rattle.dotenvy.specs.Iter.{fresh, item_fuel};
+ghost use Rattle.dotenvy.specs.Environment.{KeepsNames};
+ghost use Rattle.dotenvy.specs.Statement.{is_key};
+
+use crate::dialect::Dialect;
+use crate::environment::Environment;
+use crate::errors::{Error, Result};
+use crate::lines::QuotedLines;
+use crate::parse::{Pair, ParsedLine, parse_line};
+use crate::remembered::Remembered;
+use crate::source::Source;
+use std::alloc::{Allocator, Global};
+use std::collections::HashMap;
+use std::marker::Model;
+
+/// Reads the pairs of an environment file, one at a time, and remembers their values for those after them.
+///
+/// A fault of the grammar, or a line that isn't UTF-8, is one item; the iterator then goes on at the next physical
+/// line. After the end, after a reader's own fault, after the bound on reads (2^32) and after refused memory it gives
+/// `None` for good (docs/GRAMMAR.md, "Reading").
+///
+/// ```text
+/// let mut file = Iter::new(alloc, Bytes::new(b"A=1\nB=$A\n"))?;
+/// file.next_item(&env)    // Some(Ok(("A", "1")))
+/// file.next_item(&env)    // Some(Ok(("B", "1")))
+/// file.next_item(&env)    // None
+/// ```
+#[derive(Drop)]
+pub struct Iter<R: Source, A: Allocator = Global> {
+    lines: QuotedLines<R, A>,
+    remembered: Remembered<A>,
+    dialect: Dialect,
+}
+
+impl<R: Source, A: Allocator> Model for Iter<R, A> {
+    ghost use Rattle.dotenvy.specs.Iter.{IterState, iter_code};
+    ghost use Rattle.dotenvy.specs.Remembered.{remembered_of};
+
+    ghost Value = { IterState };
+
+    ghost coded = { iter_code };
+
+    ghost view = { λ s. record { lines = s.lines; remembered = remembered_of s.remembered.entries; dialect = s.dialect } };
+}
+
+impl<R: Source, A: Allocator + Clone> Iter<R, A> {
+    /// A fresh iterator over a reader, in the first dialect. Nothing is read yet.
+    pub fn new(alloc: A, reader: R) -> Result<Iter<R, A>, A>
+    where
+        R: Drop,
+        ensures ok { IfOk result (λ s. s ≡ fresh (R.ahead reader) Dialect.V15) }
+        ensures memory { IfErr result IsMemory }
+    {
+        Iter::with_dialect(alloc, reader, Dialect::V15)
+    }
+
+    /// As `new`, with the dialect of the file (docs/GRAMMAR.md, "The second dialect").
+    pub fn with_dialect(alloc: A, reader: R, dialect: Dialect) -> Result<Iter<R, A>, A>
+    where
+        R: Drop,
+        ensures ok { IfOk result (λ s. s ≡ fresh (R.ahead reader) dialect) }
+        ensures memory { IfErr result IsMemory }
+    {
+        let remembered = HashMap::new(alloc.clone()?);
+        Ok(Iter {
+            lines: QuotedLines::new(alloc, reader),
+            remembered,
+            dialect,
+        })
+    }
+
+    /// The next pair or fault. A name that a value mentions means its value in `env`, else the last one remembered,
+    /// else the empty text; `env` may be another at each call (docs/GRAMMAR.md, "What a name means").
+    pub fn next_item(&mut self, env: &Environment<A>) -> Option<Result<(String<A>, String<A>), A>>
+        ensures shut { self.old.lines.stage ≢ Open → (result ≡ None) × (self.new ≡ self.old) }
+        ensures falls { IsSome result → item_fuel self.new < item_fuel self.old }
+        ensures memory { IfSome result (λ item. IsMemoryErr item → self.new.lines.stage ≡ Failed) }
+        ensures key { IfSome result (λ item. IfOk item (λ pair. IsTrue (is_key (chars (string_bytes pair.0))))) }
+    {
+        'lines: while let Some(line) = self.lines.next_line() {
+            let item = self.item_of(line, env);
+            if item.is_some() {
+                return item;
+            }
+        }
+        None
+    }
+
+    /// What `next_item` gives under this one environment, as an iterator.
+    ///
+    /// ```text
+    /// for item in file.items(&env) {
+    ///     let (key, value) = item?;
+    /// }
+    /// ```
+    pub fn items<'a>(&'a mut self, env: &'a Environment<A>) -> Items<'a, R, A> {
+        Items { file: self, env }
+    }
+
+    // What a logical line adds to the items, if anything.
+    fn item_of(
+        &mut self,
+        line: Result<String<A>, A>,
+        env: &Environment<A>,
+    ) -> Option<Result<Pair<A>, A>>
+        ensures falls { item_fuel self.new ≤ item_fuel self.old }
+        ensures memory { IfSome result (λ item. IsMemoryErr item → self.new.lines.stage ≡ Failed) }
+        ensures key { IfSome result (λ item. IfOk item (λ pair. IsTrue (is_key (chars (string_bytes pair.0))))) }
+    {
+        let said = self.said_by(line, env);
+        if let Err(Error::Memory(_)) = said {
+            self.lines.fail();
+        }
+        said.transpose()
+    }
+
+    fn said_by(&mut self, line: Result<String<A>, A>, env: &Environment<A>) -> ParsedLine<A>
+        ensures same { self.new.lines ≡ self.old.lines }
+        ensures key { IfOk result (λ said. IfSome said (λ pair. IsTrue (is_key (chars (string_bytes pair.0))))) }
+    {
+        let text = line?;
+        let alloc = self.lines.allocator().clone()?;
+        parse_line(
+            alloc,
+            text.as_str(),
+            &mut self.remembered,
+            env,
+            self.dialect,
+        )
+    }
+}
+
+impl<R: Source + Drop, A: Allocator + Clone> Iter<R, A> {
+    /// Drops a byte order mark at the present place, then sets each name that is absent; a name that is there keeps
+    /// its value (docs/GRAMMAR.md, "Loading").
+    ///
+    /// Stops at the first fault and answers it; what stands before it stays set. A value with a NUL that would be set
+    /// is such a fault. An iterator that has ended or failed loads nothing and answers `Ok`.
+    ///
+    /// ```text
+    /// Iter::new(alloc, Bytes::new(b"A=1\nA=2\n"))?.load(&mut env)?;    // A is 1, or what it was before
+    /// ```
+    pub fn load(mut self, env: &mut Environment<A>) -> Result<(), A>
+        ensures shut { self.lines.stage ≢ Open → (result ≡ Ok tt) × (env.new ≡ env.old) }
+        ensures keeps { KeepsNames env.old.names env.new.names }
+        ensures mark { env.new.loaded ≡ env.old.loaded }
+    {
+        self.lines.drop_mark()?;
+        'items: while let Some(item) = self.next_item(env) {
+            let (key, value) = item?;
+            if !env.contains(key.as_str()) {
+                env.set(key, value)?;
+            }
+        }
+        Ok(())
+    }
+
+    /// As `load`, but each name is set, whether it is there or not.
+    ///
+    /// ```text
+    /// Iter::new(alloc, Bytes::new(b"A=1\nA=2\n"))?.load_override(&mut env)?;    // A is 2
+    /// ```
+    pub fn load_override(mut self, env: &mut Environment<A>) -> Result<(), A>
+        ensures shut { self.lines.stage ≢ Open → (result ≡ Ok tt) × (env.new ≡ env.old) }
+        ensures mark { env.new.loaded ≡ env.old.loaded }
+    {
+        self.lines.drop_mark()?;
+        'items: while let Some(item) = self.next_item(env) {
+            let (key, value) = item?;
+            env.set(key, value)?;
+        }
+        Ok(())
+    }
+}
+
+/// The items of an iterator under one environment; `Iter::items` makes it.
+#[derive(Drop)]
+pub struct Items<'a, R: Source, A: Allocator = Global> {
+    file: &'a mut Iter<R, A>,
+    env: &'a Environment<A>,
+}
+
+impl<'a, R: Source, A: Allocator + Clone> Iterator for Items<'a, R, A> {
+    type Item = Result<(String<A>, String<A>), A>;
+
+    ghost remaining = { λ s. at_most (item_fuel s.file.now) };
+
+    fn next(&mut self) -> Option<Result<(String<A>, String<A>), A>> {
+        self.file.next_item(self.env)
+    }
+}
+
+/// Loads a reader by `Iter::load`: a name that is there keeps its value.
+pub fn from_read<R: Source + Drop, A: Allocator + Clone>(
+    alloc: A,
+    reader: R,
+    env: &mut Environment<A>,
+) -> Result<(), A>
+    ensures keeps { KeepsNames env.old.names env.new.names }
+    ensures mark { env.new.loaded ≡ env.old.loaded }
+{
+    Iter::new(alloc, reader)?.load(env)
+}
+
+/// Loads a reader by `Iter::load_override`: each name that it declares is set.
+pub fn from_read_override<R: Source + Drop, A: Allocator + Clone>(
+    alloc: A,
+    reader: R,
+    env: &mut Environment<A>,
+) -> Result<(), A>
+    ensures mark { env.new.loaded ≡ env.old.loaded }
+{
+    Iter::new(alloc, reader)?.load_override(env)
+}
+
+/// A fresh iterator over a reader; nothing is set.
+pub fn from_read_iter<R: Source + Drop, A: Allocator + Clone>(
+    alloc: A,
+    reader: R,
+) -> Result<Iter<R, A>, A>
+    ensures ok { IfOk result (λ s. s ≡ fresh (R.ahead reader) Dialect.V15) }
+    ensures memory { IfErr result IsMemory }
+{
+    Iter::new(alloc, reader)
+}

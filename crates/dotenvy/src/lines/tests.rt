@@ -1,0 +1,162 @@
+// What logical lines come of bytes, however these are read.
+use super::*;
+use crate::source::Bytes;
+use std::alloc::Global;
+use std::fmt::Write;
+use std::test::Fail;
+
+// Gives its bytes in pieces, every second read interrupted, and then a fault, if it has one, or the end.
+#[derive(Drop)]
+struct Pieces<'a> {
+    rest: &'a [u8],
+    size: usize,
+    is_interrupted: bool,
+    fault: Option<ErrorKind>,
+}
+
+impl<'a> Source for Pieces<'a> {
+    fn read_some(&mut self, buf: &mut [u8]) -> io::Result<usize> {
+        self.is_interrupted = !self.is_interrupted;
+        if self.is_interrupted {
+            return Err(io::Error::from(ErrorKind::Interrupted));
+        }
+        if self.rest.is_empty() {
+            return match self.fault {
+                Some(kind) => Err(io::Error::from(kind)),
+                None => Ok(0),
+            };
+        }
+        let n = self.size.min(self.rest.len()).min(buf.len());
+        let (now, later) = self.rest.split_at(n);
+        buf[..n].copy_from_slice(now);
+        self.rest = later;
+        Ok(n)
+    }
+}
+
+// Each answer in brackets, or its fault, until `None`.
+fn listed<R: Source>(alloc: Global, lines: &mut QuotedLines<R, Global>) -> super::Result<String> {
+    let mut all = String::new(alloc);
+    for _ in 0..1000 {
+        match lines.next_line() {
+            None => break,
+            Some(Ok(text)) => write!(all, "[{text}]")?,
+            Some(Err(Error::Io(e))) => {
+                let kind = e.kind();
+                write!(all, "<{kind:?}>")?;
+            }
+            Some(Err(e)) => write!(all, "<{e}>")?,
+        }
+    }
+    Ok(all)
+}
+
+fn listed_both_ways(
+    alloc: Global,
+    bytes: &[u8],
+    has_mark: bool,
+) -> super::Result<(String, String)> {
+    let mut whole = QuotedLines::new(alloc, Bytes::new(bytes));
+    let mut cut = QuotedLines::new(
+        alloc,
+        Pieces {
+            rest: bytes,
+            size: 1,
+            is_interrupted: false,
+            fault: None,
+        },
+    );
+    if has_mark {
+        whole.drop_mark()?;
+        cut.drop_mark()?;
+    }
+    Ok((listed(alloc, &mut whole)?, listed(alloc, &mut cut)?))
+}
+
+#[test]
+fn logical_lines(rt: HostRuntime) -> std::result::Result<(), Fail> {
+    let open_a = "<Error parsing line: 'A=\"b\n', error at line index: 5>";
+    let rows: [(&[u8], &str); 24] = [
+        (b"", ""),
+        (b"A=1\nB=2", "[A=1][B=2]"),
+        (b"\n\n", "[][]"),
+        (b"A=\"b\nc\"\nD", "[A=\"b\nc\"][D]"),
+        (b"A=1\r\nB\r", "[A=1][B\r]"),
+        (b"A\r\r\n", "[A\r]"),
+        (b"A=b\\\nB", "[A=b\\][B]"),
+        (b"A=b\\\r\nB", "[A=b\\][B]"),
+        (b" \t# a 'b\nC", "[][C]"),
+        (b"# \xFF\nC", "<InvalidData>[C]"),
+        (b"A=1 # a 'b\nC", "[A=1 ][C]"),
+        (b"A=1  # a 'b\nc'", "[A=1  # a 'b\nc']"),
+        (b"A=1   # a 'b\nC", "[A=1   ][C]"),
+        (b"A=\"b\n\xFF\nC", "<InvalidData>[C]"),
+        (b"A=\"b\n# c\"\n", "[A=\"b\n# c\"]"),
+        (b"A=\"b\n", open_a),
+        (
+            b"A=\\",
+            "<Error parsing line: 'A=\\', error at line index: 3>",
+        ),
+        (
+            b"A= ",
+            "<Error parsing line: 'A= ', error at line index: 3>",
+        ),
+        (b"A= 'b'", "[A= 'b']"),
+        (b"A='\\''b\nC", "[A='\\''b][C]"),
+        (
+            b"\xC3\xA9='\xC3\xA9",
+            "<Error parsing line: '\u{e9}='\u{e9}', error at line index: 6>",
+        ),
+        (b"\xC2\xA0#a", "[]"),
+        (b"\xC2\xA0\xC2\xA0#a'", "[]"),
+        (b"A\xC2\xA0#a'\nB", "[A\u{a0}][B]"),
+    ];
+    for (bytes, wanted) in rows {
+        let (whole, cut) = listed_both_ways(rt.alloc(), bytes, false)?;
+        assert_eq!(rt; whole.as_str(), wanted, "whole");
+        assert_eq!(rt; cut.as_str(), wanted, "in pieces");
+    }
+    Ok(())
+}
+
+#[test]
+fn byte_order_marks(rt: HostRuntime) -> std::result::Result<(), Fail> {
+    let rows: [(&[u8], &str); 6] = [
+        (b"\xEF\xBB\xBFA=1", "[A=1]"),
+        (b"\xEF\xBB\xBF\xEF\xBB\xBFA", "[\u{FEFF}A]"),
+        (b"\xEF\xBB\xBF", ""),
+        (b"\xEF\xBB", "<InvalidData>"),
+        (b"A", "[A]"),
+        (b"", ""),
+    ];
+    for (bytes, wanted) in rows {
+        let (whole, cut) = listed_both_ways(rt.alloc(), bytes, true)?;
+        assert_eq!(rt; whole.as_str(), wanted, "whole");
+        assert_eq!(rt; cut.as_str(), wanted, "in pieces");
+    }
+    Ok(())
+}
+
+#[test]
+fn faults_and_bound(rt: HostRuntime) -> std::result::Result<(), Fail> {
+    let alloc = rt.alloc();
+    let failing = Pieces {
+        rest: b"A=1\nB='c\n\xEF",
+        size: 4,
+        is_interrupted: false,
+        fault: Some(ErrorKind::InvalidData),
+    };
+    let mut lines = QuotedLines::new(alloc, failing);
+    assert_eq!(rt; listed(alloc, &mut lines)?.as_str(), "[A=1]<InvalidData>");
+    assert_eq!(rt; lines.drop_mark().is_ok(), true);
+
+    let mut bounded = QuotedLines::with_limit(alloc, Bytes::new(b"A\nB"), 1);
+    assert_eq!(rt; listed(alloc, &mut bounded)?.as_str(), "[A]<Other>");
+    let mut enough = QuotedLines::with_limit(alloc, Bytes::new(b"A\nB"), 2);
+    assert_eq!(rt; listed(alloc, &mut enough)?.as_str(), "[A][B]");
+
+    let mut failed = QuotedLines::new(alloc, Bytes::new(b"A"));
+    failed.fail();
+    assert_eq!(rt; listed(alloc, &mut failed)?.as_str(), "");
+    Ok(())
+}

@@ -1,0 +1,145 @@
+//! The written form of pairs, and the listing of a file.
+
+ghost use Rattle.std.specs.Prelude.{◌≡◌, ◌++◌, IfOk, OnOk, IsTrue, chars, string_bytes};
+ghost use Rattle.std.specs.FinMap as map;
+ghost use Rattle.dotenvy.specs.Statement.{is_key};
+ghost use Rattle.dotenvy.specs.Sent.{Sends};
+
+use crate::dialect::Dialect;
+use crate::environment::Environment;
+use crate::errors::{Error, Result};
+use crate::iter::Iter;
+use crate::source::{Sink, Source};
+use std::alloc::{AllocError, Allocator};
+use std::io;
+use std::io::ErrorKind;
+
+// The most writes that one call makes.
+const MOST_WRITES: u64 = 4_294_967_296;
+
+fn needs_backslash(c: char) -> bool {
+    matches!(c, '\\' | '"' | '$')
+}
+
+// How many bytes the written form of a pair takes, or the greatest number where that is more.
+fn written_len(key: &str, text: &str) -> usize {
+    let escaped = text.chars().filter(|c| needs_backslash(*c)).count();
+    let around = "=\"\"\n".len();
+    key.len()
+        .saturating_add(text.len())
+        .saturating_add(escaped)
+        .saturating_add(around)
+}
+
+fn push_written<A: Allocator>(
+    out: &mut String<A>,
+    key: &str,
+    text: &str,
+) -> std::result::Result<(), AllocError> {
+    out.push_str(key)?;
+    out.push_str("=\"")?;
+    'characters: for c in text.chars() {
+        if needs_backslash(c) {
+            out.push('\\')?;
+        }
+        out.push(c)?;
+    }
+    out.push_str("\"\n")
+}
+
+fn listing_len<A: Allocator>(env: &Environment<A>) -> usize {
+    let mut len = 0usize;
+    'pairs: for (key, value) in env.iter() {
+        len = len.saturating_add(written_len(key.as_str(), value.as_str()));
+    }
+    len
+}
+
+// Each pair in its written form, in byte order of the names. Memory is asked for once.
+fn listing<A: Allocator + Clone>(
+    alloc: A,
+    env: &Environment<A>,
+) -> std::result::Result<String<A>, AllocError> {
+    let mut out = String::with_capacity(alloc, listing_len(env))?;
+    'pairs: for (key, value) in env.iter() {
+        push_written(&mut out, key.as_str(), value.as_str())?;
+    }
+    Ok(out)
+}
+
+// Writes all of the bytes, in at most `writes_left` writes.
+fn write_all<W: Sink, A: Allocator>(writer: &mut W, bytes: &[u8], writes_left: u64) -> Result<(), A>
+    ensures { Sends (W.held writer.old) (W.held writer.new) bytes.now result }
+{
+    let mut rest = bytes;
+    'writes: for _ in 0..writes_left {
+        if rest.is_empty() {
+            return Ok(());
+        }
+        match writer.write_some(rest) {
+            Ok(0) => return Err(Error::Io(io::Error::from(ErrorKind::WriteZero))),
+            Ok(n) => rest = &rest[n..],
+            Err(e) => {
+                if e.kind() != ErrorKind::Interrupted {
+                    return Err(Error::Io(e));
+                }
+            }
+        }
+    }
+    if rest.is_empty() {
+        Ok(())
+    } else {
+        Err(Error::Io(io::Error::other("too many writes")))
+    }
+}
+
+/// Writes one pair in its written form, which is read back as that pair (docs/GRAMMAR.md, "The written form").
+///
+/// The form is built before the first write. An interrupted write is asked again; a write that takes nothing is `Io`
+/// of kind WriteZero, and past 2^32 writes the answer is `Io` of kind Other.
+///
+/// ```text
+/// write_pair(alloc, &mut writer, "K", "it costs $1")?;    // K="it costs \$1"
+/// ```
+pub fn write_pair<W: Sink, A: Allocator + Clone>(
+    alloc: A,
+    writer: &mut W,
+    key: &str,
+    text: &str,
+) -> Result<(), A>
+    requires { IsTrue (is_key (chars key.now)) }
+{
+    let mut out = String::with_capacity(alloc, written_len(key, text))?;
+    push_written(&mut out, key, text)?;
+    write_all(writer, out.as_bytes(), MOST_WRITES)
+}
+
+/// Loads a reader into an empty environment by `from_read`, and writes each pair in its written form, in byte order of
+/// the names.
+///
+/// The whole output is built before the first write, so after a fault of the load, or refused memory, nothing was
+/// written. Faults of the writer are as for `write_pair`.
+///
+/// ```text
+/// list(alloc, Bytes::new(b"B=2\nA=1\nA=3\n"), &mut writer)?;    // A="1" and B="2", a line each
+/// ```
+pub fn list<R: Source + Drop, W: Sink, A: Allocator + Clone>(
+    alloc: A,
+    reader: R,
+    writer: &mut W,
+) -> Result<(), A> {
+    list_with(alloc, reader, writer, Dialect::V15)
+}
+
+/// As `list`, with the dialect of the file (docs/GRAMMAR.md, "The second dialect").
+pub fn list_with<R: Source + Drop, W: Sink, A: Allocator + Clone>(
+    alloc: A,
+    reader: R,
+    writer: &mut W,
+    dialect: Dialect,
+) -> Result<(), A> {
+    let mut env = Environment::new(alloc.clone()?);
+    Iter::with_dialect(alloc.clone()?, reader, dialect)?.load(&mut env)?;
+    let text = listing(alloc, &env)?;
+    write_all(writer, text.as_bytes(), MOST_WRITES)
+}

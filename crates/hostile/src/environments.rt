@@ -1,0 +1,101 @@
+//! Environments whose growth is refused.
+
+use crate::refusals::{is_done, refuse_in_turn, shown};
+use dotenvy::{Environment, Error, Result, is_name};
+use rationed::Rationed;
+use std::alloc::{Allocator, Global};
+use std::process::Abort;
+use std::test::Fail;
+
+/// Names enough for a map of more than one node.
+const NAMES: &str = "A B C D E F G H I J K L M N O P Q R S T U V W X Y Z";
+
+/// The same names again, so that values are replaced too.
+const NAMES_TWICE: &str = "A B C D E F G H I J K L M N O P Q R S T U V W X Y Z A M Z";
+
+/// Sets one name to its place in the list of names.
+fn set_to<A: Allocator + Clone>(
+    alloc: A,
+    environment: &mut Environment<A>,
+    name: &str,
+    place: usize,
+) -> Result<(), A> {
+    let key = String::from_str(alloc.clone()?, name)?;
+    let value = place.to_string(alloc)?;
+    if !is_name(key.as_str()) {
+        return Err(Error::Nul(key));
+    }
+    environment.set(key, value)
+}
+
+fn sets_names(
+    rt: &impl Abort,
+    alloc: Global,
+    ration: &Rationed<Global>,
+) -> std::result::Result<bool, Fail> {
+    let mut environment = Environment::new(ration);
+    for (place, name) in NAMES_TWICE.split_whitespace().enumerate() {
+        let before = shown(alloc, &environment)?;
+        let answer = set_to(ration, &mut environment, name, place);
+        if !is_done(rt, ration, &answer) {
+            assert_eq!(rt; shown(alloc, &environment)?.as_str(), before.as_str());
+            return Ok(false);
+        }
+    }
+    assert_eq!(rt; environment.len(), 26);
+    assert_eq!(rt; environment.get("M").ok_or("absent")?, "27");
+    Ok(true)
+}
+
+#[test]
+fn set(rt: HostRuntime) -> std::result::Result<(), Fail> {
+    let alloc = rt.alloc();
+    refuse_in_turn(&rt, alloc, |ration| sets_names(&rt, alloc, ration))
+}
+
+/// An environment of each name, with the value `1`.
+fn of_names<A: Allocator + Clone>(alloc: A) -> Result<Environment<A>, A> {
+    let mut list = Vec::new(alloc.clone()?);
+    for name in NAMES.split_whitespace() {
+        let key = String::from_str(alloc.clone()?, name)?;
+        let value = String::from_str(alloc.clone()?, "1")?;
+        list.push((key, value))?;
+    }
+    Environment::from_pairs(alloc, list)
+}
+
+#[test]
+fn from_pairs(rt: HostRuntime) -> std::result::Result<(), Fail> {
+    refuse_in_turn(&rt, rt.alloc(), |ration| {
+        let answer = of_names(ration);
+        if let Ok(environment) = &answer {
+            assert_eq!(rt; environment.len(), 26);
+        }
+        Ok(is_done(&rt, ration, &answer))
+    })
+}
+
+fn clones_names(
+    rt: &impl Abort,
+    alloc: Global,
+    ration: &Rationed<Global>,
+) -> std::result::Result<bool, Fail> {
+    let answer = of_names(ration);
+    if !is_done(rt, ration, &answer) {
+        return Ok(false);
+    }
+    let environment = answer?;
+    let before = shown(alloc, &environment)?;
+    let copy = environment.try_clone();
+    assert_eq!(rt; shown(alloc, &environment)?.as_str(), before.as_str());
+    if let Ok(copy) = &copy {
+        assert_eq!(rt; shown(alloc, copy)?.as_str(), before.as_str());
+    }
+    Ok(is_done(rt, ration, &copy))
+}
+
+#[test]
+fn try_clone(rt: HostRuntime) -> std::result::Result<(), Fail> {
+    let alloc = rt.alloc();
+    refuse_in_turn(&rt, alloc, |ration| clones_names(&rt, alloc, ration))
+}

@@ -1,0 +1,61 @@
+//! Runs of a call with one request refused in each.
+
+use dotenvy::{Environment, Error, Result};
+use rationed::Rationed;
+use std::alloc::{AllocError, Allocator, Global};
+use std::process::Abort;
+use std::test::Fail;
+
+/// More requests than any call of these tests makes.
+const MOST_REQUESTS: u64 = 200;
+
+/// Makes a run with the first request refused, one with the second, and so on, up to the run that
+/// tells that it is done.
+pub fn refuse_in_turn<F: FnMut(&Rationed<Global>) -> std::result::Result<bool, Fail>>(
+    rt: &impl Abort,
+    alloc: Global,
+    mut run: F,
+) -> std::result::Result<(), Fail>
+    requires { F.IsAlwaysCallable run }
+{
+    for number in 1..MOST_REQUESTS {
+        let ration = Rationed::refusing(alloc, number);
+        if run(&ration)? {
+            assert!(rt; number > 1, "no request was made");
+            return Ok(());
+        }
+    }
+    panic!(rt; "each run met a refusal")
+}
+
+/// Whether a call succeeded: it must where nothing was refused, and must answer `Memory` where
+/// something was.
+pub fn is_done<T, A: Allocator>(
+    rt: &impl Abort,
+    ration: &Rationed<Global>,
+    answer: &Result<T, A>,
+) -> bool {
+    match answer {
+        Ok(_) => {
+            assert!(rt; !ration.has_refused(), "a refusal was passed over");
+            true
+        }
+        Err(Error::Memory(_)) => {
+            assert!(rt; ration.has_refused(), "nothing was refused");
+            false
+        }
+        Err(error) => panic!(rt; "in place of a refusal: {error}"),
+    }
+}
+
+/// The names and values, as `A=1;B=2;`.
+pub fn shown<A: Allocator>(
+    alloc: Global,
+    environment: &Environment<A>,
+) -> std::result::Result<String, AllocError> {
+    let mut text = String::new(alloc);
+    for (name, value) in environment.iter() {
+        write!(text, "{name}={value};")?;
+    }
+    Ok(text)
+}

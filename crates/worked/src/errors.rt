@@ -1,0 +1,57 @@
+//! What errors print, and which of them say that nothing was found.
+
+use dotenvy::{Error, VarError};
+use std::alloc::AllocError;
+use std::io;
+use std::io::ErrorKind;
+use std::test::Fail;
+
+#[test]
+fn nothing_was_found(rt: HostRuntime) -> Result<(), Fail> {
+    for (kind, want) in [
+        (ErrorKind::NotFound, true),
+        (ErrorKind::PermissionDenied, false),
+    ] {
+        let error: Error = Error::Io(io::Error::from(kind));
+        assert_eq!(rt; error.not_found(), want);
+    }
+    let error: Error = Error::EnvVar(VarError::NotPresent);
+    assert!(rt; !error.not_found());
+    Ok(())
+}
+
+#[test]
+fn texts(rt: HostRuntime) -> Result<(), Fail> {
+    let alloc = rt.alloc();
+    let line = String::from_str(alloc, "test line")?;
+    let key = String::from_str(alloc, "K")?;
+    let rows: [(Error, &str); 4] = [
+        (
+            Error::LineParse(line, 2),
+            "Error parsing line: 'test line', error at line index: 2",
+        ),
+        (
+            Error::EnvVar(VarError::NotPresent),
+            "environment variable not found",
+        ),
+        (Error::Nul(key), "value of 'K' contains a NUL"),
+        (Error::Memory(AllocError), "out of memory"),
+    ];
+    for (error, want) in rows {
+        assert_eq!(rt; error.to_string(alloc)?.as_str(), want);
+    }
+    Ok(())
+}
+
+#[test]
+fn a_fault_inside_prints_as_itself(rt: HostRuntime) -> Result<(), Fail> {
+    let alloc = rt.alloc();
+    let want = io::Error::from(ErrorKind::PermissionDenied).to_string(alloc)?;
+    let error: Error = Error::Io(io::Error::from(ErrorKind::PermissionDenied));
+    assert_eq!(rt; error.to_string(alloc)?.as_str(), want.as_str());
+    assert_eq!(rt;
+        VarError::NotPresent.to_string(alloc)?.as_str(),
+        "environment variable not found"
+    );
+    Ok(())
+}

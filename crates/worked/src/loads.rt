@@ -1,0 +1,177 @@
+//! What loads set, where they stop, and what they leave.
+
+use crate::reader::CutReader;
+use crate::shown::{answer, environment, items_of, pairs};
+use dotenvy::{Bytes, Dialect, Environment, Iter};
+use std::alloc::Global;
+use std::io::ErrorKind;
+use std::test::Fail;
+
+/// What `from_read` and `from_read_override` answer and leave, as `ok, A=1 | ok, A=2`.
+fn loads(alloc: Global, names: &[(&str, &str)], input: &[u8]) -> Result<String, Fail> {
+    let mut kept = environment(alloc, names)?;
+    let load = dotenvy::from_read(alloc, CutReader::by_byte(input), &mut kept);
+    let load = answer(alloc, load)?;
+    let kept = pairs(alloc, &kept)?;
+    let mut replaced = environment(alloc, names)?;
+    let load_override = dotenvy::from_read_override(alloc, Bytes::new(input), &mut replaced);
+    let load_override = answer(alloc, load_override)?;
+    let replaced = pairs(alloc, &replaced)?;
+    Ok(format!(in alloc; "{load}: {kept} | {load_override}: {replaced}")?)
+}
+
+#[test]
+fn loads_into_an_empty_environment(rt: HostRuntime) -> Result<(), Fail> {
+    for (input, want) in [
+        ("", "ok:  | ok: "),
+        ("A=1\nA=2\nB=$A\n", "ok: A=1, B=1 | ok: A=2, B=2"),
+        (
+            "A=1\n.B=2\nC=3\n",
+            "fault at 0: .B=2: A=1 | fault at 0: .B=2: A=1",
+        ),
+    ] {
+        assert_eq!(rt;
+            loads(rt.alloc(), &[], input.as_bytes())?.as_str(),
+            want,
+            "at {input:?}"
+        );
+    }
+    Ok(())
+}
+
+#[test]
+fn names_that_were_there(rt: HostRuntime) -> Result<(), Fail> {
+    let alloc = rt.alloc();
+    let shown = loads(alloc, &[("A", "9")], b"A=1\nB=$A\nA=2\nC=$A\n")?;
+    assert_eq!(rt; shown.as_str(), "ok: A=9, B=9, C=9 | ok: A=2, B=1, C=2");
+
+    let file = b"TESTKEY=test_val\nTESTKEY=test_val_overridden\nEXISTING=from_file\n";
+    let shown = loads(alloc, &[("EXISTING", "from_env")], file)?;
+    assert_eq!(rt;
+        shown.as_str(),
+        "ok: EXISTING=from_env, TESTKEY=test_val | ok: EXISTING=from_file, TESTKEY=test_val_overridden"
+    );
+    Ok(())
+}
+
+#[test]
+fn names_in_values_of_several_names(rt: HostRuntime) -> Result<(), Fail> {
+    let alloc = rt.alloc();
+    for (quote, want) in [
+        ("", ">>value>>value1>>value1>>value_U>>value+valueU>>$KEY"),
+        ("\"", ">>value>>value1>>value1>>value_U>>value+valueU>>$KEY"),
+        ("'", "$ZZZ>>$KEY>>$KEY1>>${KEY}1>>$KEY_U>>${KEY_U}>>\\$KEY"),
+    ] {
+        let value = "$ZZZ>>$KEY>>$KEY1>>${KEY}1>>$KEY_U>>${KEY_U}>>\\$KEY";
+        let input = format!(in alloc;
+            "KEY1=new_value1\nKEY_U=$KEY+valueU\nS={quote}{value}{quote}\n"
+        )?;
+        let mut environment = environment(alloc, &[("KEY", "value"), ("KEY1", "value1")])?;
+        dotenvy::from_read(alloc, Bytes::new(input.as_bytes()), &mut environment)?;
+        assert_eq!(rt; environment.get("KEY1").ok_or("absent")?, "value1");
+        assert_eq!(rt; environment.get("KEY_U").ok_or("absent")?, "value+valueU");
+        assert_eq!(rt; environment.get("S").ok_or("absent")?, want, "in {quote:?}");
+    }
+    Ok(())
+}
+
+#[test]
+fn byte_order_marks(rt: HostRuntime) -> Result<(), Fail> {
+    let rows: [(&[u8], &str); 5] = [
+        (b"\xef\xbb\xbfT=1\n", "ok: T=1 | ok: T=1"),
+        (
+            b"\xef\xbb\xbf\xef\xbb\xbfA=1\n",
+            "fault at 0: \u{feff}A=1:  | fault at 0: \u{feff}A=1: ",
+        ),
+        (b"\xef\xbb", "io InvalidData:  | io InvalidData: "),
+        (b"\xef\xbb\xbf", "ok:  | ok: "),
+        (
+            b"\xef\xbb\xbf\xff\nB=2\n",
+            "io InvalidData:  | io InvalidData: ",
+        ),
+    ];
+    for (input, want) in rows {
+        assert_eq!(rt;
+            loads(rt.alloc(), &[], input)?.as_str(),
+            want,
+            "at {input:?}"
+        );
+    }
+    Ok(())
+}
+
+#[test]
+fn a_nul_in_a_value(rt: HostRuntime) -> Result<(), Fail> {
+    let alloc = rt.alloc();
+    let file = b"A=1\nB=\"x\0y\"\nC=3\n";
+    assert_eq!(rt;
+        loads(alloc, &[("B", "old")], file)?.as_str(),
+        "ok: A=1, B=old, C=3 | value of 'B' contains a NUL: A=1, B=old"
+    );
+    assert_eq!(rt;
+        loads(alloc, &[], file)?.as_str(),
+        "value of 'B' contains a NUL: A=1 | value of 'B' contains a NUL: A=1"
+    );
+
+    let file = b"A=\"x\0y\"\nB=$A\n";
+    let empty = Environment::new(alloc);
+    let items = items_of(alloc, &empty, Bytes::new(file), Dialect::V15)?;
+    assert_eq!(rt; items.as_str(), "A=x\0y; B=x\0y");
+    assert_eq!(rt;
+        loads(alloc, &[], file)?.as_str(),
+        "value of 'A' contains a NUL:  | value of 'A' contains a NUL: "
+    );
+    let mut kept = environment(alloc, &[("A", "1")])?;
+    dotenvy::from_read(alloc, Bytes::new(file), &mut kept)?;
+    assert_eq!(rt; pairs(alloc, &kept)?.as_str(), "A=1, B=1");
+    Ok(())
+}
+
+#[test]
+fn loads_of_what_is_left(rt: HostRuntime) -> Result<(), Fail> {
+    let alloc = rt.alloc();
+    for (input, want) in [("A=1\nC=$A\n", "C=1"), ("A=1\n\u{feff}B=2\n", "B=2")] {
+        let mut entries = Iter::new(alloc, CutReader::by_byte(input.as_bytes()))?;
+        let mut environment = Environment::new(alloc);
+        let (key, value) = entries.next_item(&environment).ok_or("no item")??;
+        assert!(rt; (key.as_str(), value.as_str()) == ("A", "1"));
+        entries.load(&mut environment)?;
+        assert_eq!(rt; pairs(alloc, &environment)?.as_str(), want, "at {input:?}");
+    }
+    Ok(())
+}
+
+#[test]
+fn a_reader_that_fails(rt: HostRuntime) -> Result<(), Fail> {
+    let alloc = rt.alloc();
+    let file = b"A=1\nB=\"x\ny\"\nC=3\n";
+    for count in 0..17usize {
+        let want = match count {
+            0..=3 => "io PermissionDenied",
+            4..=11 => "A=1; io PermissionDenied",
+            12..=15 => "A=1; B=x\ny; io PermissionDenied",
+            _ => "A=1; B=x\ny; C=3; io PermissionDenied",
+        };
+        let reader = CutReader::failing(&file[..count], ErrorKind::PermissionDenied);
+        let items = items_of(alloc, &Environment::new(alloc), reader, Dialect::V15)?;
+        assert_eq!(rt; items.as_str(), want, "after {count} bytes");
+    }
+
+    let mut environment = Environment::new(alloc);
+    let reader = CutReader::failing(b"A=1\nB=", ErrorKind::InvalidData);
+    let load = dotenvy::from_read(alloc, reader, &mut environment);
+    assert_eq!(rt; answer(alloc, load)?.as_str(), "io InvalidData");
+    assert_eq!(rt; pairs(alloc, &environment)?.as_str(), "A=1");
+    Ok(())
+}
+
+#[test]
+fn none_after_the_end(rt: HostRuntime) -> Result<(), Fail> {
+    let alloc = rt.alloc();
+    let environment = Environment::new(alloc);
+    let mut entries = dotenvy::from_read_iter(alloc, Bytes::new(b"A=1"))?;
+    assert!(rt; entries.next_item(&environment).is_some());
+    assert!(rt; entries.next_item(&environment).is_none());
+    assert!(rt; entries.next_item(&environment).is_none());
+    Ok(())
+}
