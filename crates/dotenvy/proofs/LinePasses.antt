@@ -1,8 +1,8 @@
 -- What the first pass over a line finds, in the words of the format.
-use Rattle.std.proofs.Common.{◌≡◌, ◌≢◌, ℕ, suc, ◌+◌, ◌<◌, ◌≤◌, Bool, true, false, not, List, [], ◌∷◌, ◌++◌, Option, Some, None, Ok, Err, refl, sym, ◌∙◌, ap, subst, arith, length, length-append, inl, inr, cond}
-use Rattle.std.specs.Prelude.{◌-◌, ◌==◌, MatchOption, IsTrue, is_some, if◌then◌else◌, string_bytes, option_map, ◌⊎◌}
+use Rattle.std.proofs.Common.{◌≡◌, ◌≢◌, ℕ, ◌+◌, ◌<◌, true, false, not, List, [], ◌∷◌, ◌++◌, Option, Some, None, Ok, Err, refl, sym, ◌∙◌, ap, subst, arith, length, length-append, inl, inr, cond}
+use Rattle.std.specs.Prelude.{◌-◌, ◌==◌, MatchOption, is_some, if◌then◌else◌, string_bytes, option_map, ◌⊎◌}
 use denote.Ref.{Bor}
-use Rattle.std.specs.Str.{chars, encode_utf8_all, IsUtf8, drop_trailing_whitespace, skip_leading_whitespace}
+use Rattle.std.specs.Str.{chars, encode_utf8_all, IsUtf8, drop_trailing_whitespace}
 use Rattle.std.proofs.lemmas.Bool.Decides.{nat_tests}
 use Rattle.std.proofs.lemmas.List.{append-nil}
 use Rattle.std.proofs.lemmas.Str.{encodes-chars, encodes-append, chars-nil, chars_from_encodes, IsUtf8-string_bytes}
@@ -19,15 +19,15 @@ use Rattle.dotenvy.specs.ParsedLine.{IsLineAnswer}
 use Rattle.dotenvy.specs.Characters.{byte_len, is_empty_or_comment}
 use Rattle.dotenvy.specs.Value.{Piece, IsValue, unquoted}
 use Rattle.dotenvy.specs.Places.{BeginsValue, IsPlace}
-use Rattle.dotenvy.specs.Line.{Outcome, Nothing, Pair, Fault as SaysFault, Says, is_nothing, value_index, Assigns}
+use Rattle.dotenvy.specs.Line.{Outcome, Pair, Fault as SaysFault, Says, is_nothing, value_index, Assigns}
 use Rattle.dotenvy.specs.Items.{LookUp, meaning}
-use Rattle.dotenvy.specs.ReadValue.{base, read, place}
+use Rattle.dotenvy.specs.ReadValue.{base, read}
 use Rattle.dotenvy.specs.NextPiece.{StopsAt}
 use Rattle.dotenvy.specs.Names.{saturated, MeansBytes, Appends}
 use Rattle.dotenvy.specs.Statement.{IsStatement}
 use Rattle.dotenvy.proofs.Basics.{not_is}
 use Rattle.dotenvy.specs.ParseStatement.{assigns, fails, parse}
-use Rattle.dotenvy.specs.ScanLine.{IsAssigned, StopsAtIndex, ScansAssigned, IsDeclared, Scans, AreCopiesOf}
+use Rattle.dotenvy.specs.ScanLine.{IsAssigned, ScansAssigned, IsDeclared, Scans, AreCopiesOf}
 use Rattle.dotenvy.proofs.Values.{value-read, read-value}
 use Rattle.dotenvy.proofs.ValuePlaces.{value_place}
 use Rattle.dotenvy.proofs.ScanValue.{no_value}

@@ -1,5 +1,5 @@
 -- What names stand for, by bytes and by characters, and what the passes over a value count.
-use Rattle.std.proofs.Common.{◌≡◌, ℕ, ◌+◌, ◌≤◌, ◌<◌, List, [], ◌∷◌, ◌++◌, Option, Some, None, refl, sym, ◌∙◌, ap, subst, arith, length, length-append, append_assoc, unwrap_or}
+use Rattle.std.proofs.Common.{◌≡◌, ℕ, ◌+◌, ◌≤◌, List, [], ◌++◌, Option, Some, None, refl, sym, ◌∙◌, ap, subst, arith, length, length-append, append_assoc, unwrap_or}
 use Rattle.std.specs.Prelude.{option_map, MatchOption, ◌^◌, ◌-◌, min, Ok}
 use denote.Ref.{Bor}
 use Rattle.std.specs.Option.{option_or, option_copied}
@@ -9,13 +9,13 @@ use Rattle.std.proofs.lemmas.List.{append-nil}
 use Rattle.std.proofs.lemmas.Str.{encodes-chars, encodes-append}
 use Rattle.dotenvy.specs.declared.dialect.Dialect.{Dialect}
 use Rattle.dotenvy.specs.Characters.{byte_len}
-use Rattle.dotenvy.specs.Value.{Quoting, unquoted, Piece}
+use Rattle.dotenvy.specs.Value.{unquoted, Piece}
 use Rattle.dotenvy.specs.Items.{LookUp, meaning}
 use Rattle.dotenvy.specs.Environment.{Texts}
 use Rattle.dotenvy.specs.Remembered.{Remembered, recalled}
 use Rattle.dotenvy.specs.ReadValue.{Mode, base, given, read}
-use Rattle.dotenvy.specs.NextPiece.{IsReadTo, StopsAt, piece_bytes}
-use Rattle.dotenvy.specs.Names.{by_characters, names_of, saturated, Measures, HasRoom, Appends}
+use Rattle.dotenvy.specs.NextPiece.{IsReadTo}
+use Rattle.dotenvy.specs.Names.{names_of, saturated, Measures, HasRoom}
 use Rattle.dotenvy.proofs.ScanValue.{meaning-append}
 use Rattle.dotenvy.proofs.Values.{given-given}
 

@@ -1,5 +1,5 @@
 -- How the pieces that the code reads follow from the reader of values.
-use Rattle.std.proofs.Common.{◌≡◌, ◌≢◌, ℕ, suc, ◌+◌, ◌<◌, ◌≤◌, Bool, true, false, not, ◌&&◌, ◌||◌, List, [], ◌∷◌, ◌++◌, Option, Some, None, Ok, Err, refl, sym, ◌∙◌, ap, subst, arith, length, length-append, append_assoc, map, unwrap_or}
+use Rattle.std.proofs.Common.{◌≡◌, ℕ, ◌+◌, ◌<◌, Bool, true, false, not, ◌&&◌, ◌||◌, List, [], ◌∷◌, ◌++◌, Option, Some, None, refl, sym, ◌∙◌, ap, subst, arith, length, length-append, append_assoc, unwrap_or}
 use Rattle.std.specs.Prelude.{◌==◌}
 use Rattle.std.specs.List.{list_all}
 use denote.Ref.{Bor}
@@ -19,8 +19,8 @@ use Rattle.dotenvy.specs.Characters.{single_quote, double_quote, dollar, backsla
 use Rattle.dotenvy.specs.Slices.{quoting_of, IsSpan, begins_passing}
 use Rattle.dotenvy.specs.Value.{Quoting, unquoted, double_quoted, Piece, Text, Name, is_plain, is_escape, is_left_by_name, escape_meaning}
 use Rattle.dotenvy.specs.Items.{LookUp, meaning}
-use Rattle.dotenvy.specs.ReadValue.{Mode, base, escaping, in_single, naming, bracing, in_tail, in_comment, Reading, given, is_brace_first, from_base, from, at_end, read, goes_base, with_pieces, goes, place_after, place}
-use Rattle.dotenvy.specs.NextPiece.{other_quoting, is_empty, kind_of, piece_bytes, IsReadTo, GivesPiece, StopsAt, NextIs, IsShorter}
+use Rattle.dotenvy.specs.ReadValue.{Mode, base, escaping, in_single, naming, bracing, in_tail, given, is_brace_first, read, goes_base, with_pieces, goes, place_after, place}
+use Rattle.dotenvy.specs.NextPiece.{other_quoting, is_empty, kind_of, IsReadTo, GivesPiece, StopsAt, NextIs, IsShorter}
 use Rattle.dotenvy.proofs.Basics.{and_left, and_right, not_is, when_true, when_false, same_from}
 use Rattle.dotenvy.proofs.Values.{given-given, read_comment, brace_not_left}
 use Rattle.dotenvy.proofs.NameCharacters.{brace_no_name}

@@ -1,5 +1,5 @@
 -- What the names of a line stand for, and what the two passes over a value give.
-use Rattle.std.specs.Prelude.{ℕ, ◌≡◌, ◌≤◌, ◌+◌, ◌-◌, ◌^◌, min, List, [], ◌++◌, Option, Some, None, option_map, Result, Ok, Err, MatchOption, string_bytes}
+use Rattle.std.specs.Prelude.{ℕ, ◌≡◌, ◌≤◌, ◌+◌, ◌-◌, ◌^◌, min, List, ◌++◌, Option, option_map, Result, Ok, Err, MatchOption}
 use denote.Ref.{Bor}
 use Rattle.std.specs.Str.{chars, encode_utf8_all}
 use Rattle.std.specs.FinMap as fin

@@ -1,5 +1,5 @@
 -- A line as the code parses it up to what is assigned, by its characters: skip white space, take a key, let `export` be a prefix, expect `=`.
-use Rattle.std.specs.Prelude.{ℕ, Bool, cond, List, [], ◌∷◌, ◌==◌, bytes_eq, codes, Option, Some, None, Result, Ok, Err}
+use Rattle.std.specs.Prelude.{ℕ, cond, List, [], ◌∷◌, ◌==◌, bytes_eq, codes, Option, Some, None, Result, Ok, Err}
 use denote.Ref.{Bor}
 use Rattle.std.specs.Str.{chars, skip_leading_whitespace}
 use Rattle.dotenvy.specs.declared.statement.Statement.{Statement}

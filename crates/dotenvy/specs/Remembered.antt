@@ -1,5 +1,5 @@
 -- What was remembered: the last value of each name, and `None` where a name was declared with nothing.
-use Rattle.std.specs.Prelude.{ℕ, ◌≡◌, List, map, Option, option_map, string_bytes}
+use Rattle.std.specs.Prelude.{ℕ, List, map, Option, option_map, string_bytes}
 use Rattle.std.specs.Option.{option_flatten}
 use Rattle.std.specs.Ordering.{nat_cmp}
 use Rattle.std.specs.Cmp.Lexicographic.{slice_cmp}

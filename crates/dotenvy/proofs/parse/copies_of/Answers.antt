@@ -1,4 +1,4 @@
-use Rattle.std.proofs.Common.{◌≡◌, ◌∙◌, ap, sym, Some, None}
+use Rattle.std.proofs.Common.{◌∙◌, ap, sym, Some, None}
 use Rattle.std.specs.Prelude.{string_bytes, is_some, if◌then◌else◌}
 use Rattle.dotenvy.specs.Names.{look_up_of}
 use Rattle.dotenvy.proofs.LinePasses.{assigned_bytes, assigned_meaning}

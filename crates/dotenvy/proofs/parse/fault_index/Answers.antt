@@ -1,4 +1,4 @@
-use Rattle.std.proofs.Common.{◌≡◌, ◌≢◌, length, sym, arith}
+use Rattle.std.proofs.Common.{◌≡◌, ◌≢◌, length, arith}
 use Rattle.std.proofs.lemmas.Bool.Decides.{nat_tests}
 use Rattle.dotenvy.proofs.LinePasses.{index_open, index_before, left_counts}
 use Rattle.dotenvy.proofs.parse.fault_index.Goals as goal

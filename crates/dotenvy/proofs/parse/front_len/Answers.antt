@@ -1,4 +1,4 @@
-use Rattle.std.proofs.Common.{◌≡◌, arith}
+use Rattle.std.proofs.Common.{arith}
 use Rattle.dotenvy.proofs.LinePasses.{front_and_left}
 use Rattle.dotenvy.proofs.parse.front_len.Goals as goal
 

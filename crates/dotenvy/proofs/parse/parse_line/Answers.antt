@@ -1,4 +1,4 @@
-use Rattle.std.proofs.Common.{◌≡◌, subst, Ok, inr}
+use Rattle.std.proofs.Common.{subst, Ok, inr}
 use Rattle.std.specs.Str.{chars}
 use Rattle.dotenvy.specs.Remembered.{remembered_of}
 use Rattle.dotenvy.specs.Names.{names_of}

@@ -1,9 +1,9 @@
-use Rattle.std.proofs.Common.{◌≡◌, ◌∙◌, ap, sym, true, false, Bool}
-use Rattle.std.specs.Str.{chars, drop_trailing_whitespace, skip_leading_whitespace}
+use Rattle.std.proofs.Common.{◌∙◌, ap, sym}
+use Rattle.std.specs.Str.{chars}
 use Rattle.dotenvy.specs.Characters.{is_empty_or_comment}
 use Rattle.dotenvy.specs.Line.{is_nothing}
 use Rattle.dotenvy.specs.Names.{look_up_of}
-use Rattle.dotenvy.specs.ParseStatement.{parse, fails, assigns}
+use Rattle.dotenvy.specs.ParseStatement.{parse}
 use Rattle.dotenvy.proofs.StatementParts.{chars-trim_start, chars-trim_end}
 use Rattle.dotenvy.proofs.LinePasses.{declared, value_fault, left_of_statement, statement_fault}
 use Rattle.dotenvy.proofs.parse.scan_line.Goals as goal

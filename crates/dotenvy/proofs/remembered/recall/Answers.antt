@@ -1,5 +1,4 @@
-use Rattle.std.proofs.Common.{rules, ◌≡◌, ap, sym, ◌∙◌}
-use Rattle.std.specs.Option.{option_flatten}
+use Rattle.std.proofs.Common.{rules}
 use Rattle.dotenvy.proofs.RememberedMaps.{get-remembered}
 use Rattle.dotenvy.proofs.remembered.recall.Goals as goal
 

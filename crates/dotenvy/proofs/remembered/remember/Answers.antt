@@ -1,4 +1,3 @@
-use Rattle.std.proofs.Common.{◌≡◌}
 use Rattle.dotenvy.proofs.RememberedMaps.{insert-remembered}
 use Rattle.dotenvy.proofs.remembered.remember.Goals as goal
 

@@ -1,7 +1,7 @@
-use Rattle.std.proofs.Common.{rules, ◌≡◌, ap, sym, ◌∙◌, refl, subst, true, false, cond}
+use Rattle.std.proofs.Common.{◌≡◌, sym, ◌∙◌, true, false}
 use Rattle.std.specs.Prelude.{bytes_eq}
 use Rattle.std.specs.Str.{chars}
-use Rattle.dotenvy.specs.ParseStatement.{after_first_key, after_plain_key, after_equals, equals_then, second_key, export, fails}
+use Rattle.dotenvy.specs.ParseStatement.{second_key, export, fails}
 use Rattle.dotenvy.proofs.StatementParts.{eq_export, choose_true, choose_false}
 use Rattle.dotenvy.proofs.statement.after_first_key.Goals as goal
 

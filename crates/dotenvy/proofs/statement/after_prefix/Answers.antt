@@ -1,4 +1,4 @@
-use Rattle.std.proofs.Common.{◌≡◌, ◌∙◌}
+use Rattle.std.proofs.Common.{◌∙◌}
 use Rattle.dotenvy.specs.ParseStatement.{after_plain_key}
 use Rattle.dotenvy.proofs.statement.after_prefix.Goals as goal
 

@@ -1,4 +1,4 @@
-use Rattle.std.proofs.Common.{◌≡◌, ap, ◌∙◌}
+use Rattle.std.proofs.Common.{ap, ◌∙◌}
 use Rattle.std.specs.Str.{chars}
 use Rattle.dotenvy.specs.ParseStatement.{after_equals, assigned_of, assigns}
 use Rattle.dotenvy.proofs.Slices.{no_characters}

@@ -1,4 +1,4 @@
-use Rattle.std.proofs.Common.{◌≡◌, ap, sym}
+use Rattle.std.proofs.Common.{ap, sym}
 use Rattle.dotenvy.specs.Characters.{begins_key}
 use Rattle.dotenvy.specs.Slices.{begins_passing}
 use Rattle.dotenvy.proofs.Slices.{no_characters}

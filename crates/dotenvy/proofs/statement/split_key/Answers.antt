@@ -1,4 +1,4 @@
-use Rattle.std.proofs.Common.{◌≡◌, sym, ap, ◌∙◌}
+use Rattle.std.proofs.Common.{sym, ap, ◌∙◌}
 use Rattle.std.specs.Str.{chars}
 use Rattle.dotenvy.specs.ParseStatement.{skipping}
 use Rattle.dotenvy.proofs.StatementParts.{key_then-span, key_then-fails, chars-trim_start}

@@ -1,4 +1,4 @@
-use Rattle.std.proofs.Common.{◌≡◌, ap, ◌∙◌}
+use Rattle.std.proofs.Common.{ap, ◌∙◌}
 use Rattle.dotenvy.specs.ParseStatement.{after_first_key, key_then, skipping}
 use Rattle.dotenvy.proofs.StatementParts.{chars-trim_start}
 use Rattle.dotenvy.proofs.statement.split_statement.Goals as goal

@@ -1,4 +1,4 @@
-use Rattle.std.proofs.Common.{◌≡◌, ◌∙◌}
+use Rattle.std.proofs.Common.{◌∙◌}
 use Rattle.dotenvy.specs.ParseStatement.{after_first_key}
 use Rattle.dotenvy.proofs.statement.trimmed_statement.Goals as goal
 

@@ -1,4 +1,4 @@
-use Rattle.std.proofs.Common.{◌≡◌, ap, sym}
+use Rattle.std.proofs.Common.{ap, sym}
 use Rattle.dotenvy.specs.Characters.{is_empty_or_comment}
 use Rattle.dotenvy.proofs.Slices.{no_characters}
 use Rattle.dotenvy.proofs.text.is_empty_or_comment.Goals as goal

@@ -1,4 +1,4 @@
-use Rattle.std.proofs.Common.{◌≡◌, ap, sym, ◌∙◌, ◌++◌}
+use Rattle.std.proofs.Common.{ap, sym, ◌∙◌, ◌++◌}
 use Rattle.std.specs.Char.{encode_utf8}
 use Rattle.dotenvy.proofs.Slices.{begins_with_first}
 use Rattle.dotenvy.proofs.text.split_first.Goals as goal

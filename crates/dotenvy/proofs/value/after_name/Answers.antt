@@ -1,4 +1,4 @@
-use Rattle.std.proofs.Common.{◌≡◌, sym, refl, subst, ◌∙◌, ap, take}
+use Rattle.std.proofs.Common.{sym, refl, subst, ◌∙◌, ap, take}
 use Rattle.std.specs.Str.{chars, IsCharBoundary}
 use Rattle.dotenvy.proofs.Slices.{past_first, take_first}
 use Rattle.dotenvy.proofs.NextPiece.{name_ends, name_open, name_left, name_then}

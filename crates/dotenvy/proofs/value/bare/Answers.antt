@@ -1,4 +1,4 @@
-use Rattle.std.proofs.Common.{◌≡◌, []}
+use Rattle.std.proofs.Common.{[]}
 use Rattle.std.specs.Str.{chars}
 use Rattle.dotenvy.specs.Slices.{quoting_of}
 use Rattle.dotenvy.specs.ReadValue.{naming}

@@ -1,4 +1,3 @@
-use Rattle.std.proofs.Common.{◌≡◌}
 use Rattle.std.specs.Str.{chars}
 use Rattle.dotenvy.specs.Slices.{quoting_of}
 use Rattle.dotenvy.proofs.NextPiece.{gives_escape, no_escape}

@@ -1,7 +1,7 @@
-use Rattle.std.proofs.Common.{◌≡◌, [], sym, ◌∙◌}
+use Rattle.std.proofs.Common.{[]}
 use Rattle.std.specs.Str.{chars}
 use Rattle.dotenvy.specs.Slices.{quoting_of}
-use Rattle.dotenvy.specs.declared.value.Kind.TheVariants.{Backslash, SingleQuote, DoubleQuote, Dollar, SpaceOrTab, Plain}
+use Rattle.dotenvy.specs.declared.value.Kind.TheVariants.{Backslash, SingleQuote, DoubleQuote, Dollar, SpaceOrTab}
 use Rattle.dotenvy.specs.ReadValue.{base, escaping, in_single, naming, in_tail}
 use Rattle.dotenvy.specs.NextPiece.{other_quoting}
 use Rattle.dotenvy.proofs.NextPiece.{goes_as, next_after, first_read, first_shorter, begins_plain}

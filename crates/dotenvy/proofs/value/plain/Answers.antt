@@ -1,4 +1,3 @@
-use Rattle.std.proofs.Common.{◌≡◌}
 use Rattle.dotenvy.proofs.NextPiece.{gives_plain}
 use Rattle.dotenvy.proofs.value.plain.Goals as goal
 

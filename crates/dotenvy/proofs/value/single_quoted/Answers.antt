@@ -1,4 +1,4 @@
-use Rattle.std.proofs.Common.{◌≡◌, lit<, subst, sym, []}
+use Rattle.std.proofs.Common.{lit<, subst, sym, []}
 use Rattle.std.specs.Prelude.{◌==◌}
 use Rattle.std.proofs.lemmas.Str.{chars-nil}
 use Rattle.dotenvy.specs.ReadValue.{in_single}

@@ -1,4 +1,4 @@
-use Rattle.std.proofs.Common.{◌≡◌, [], ◌∙◌, ◌++◌, ap, sym}
+use Rattle.std.proofs.Common.{[], ◌∙◌, ◌++◌, ap, sym}
 use Rattle.std.specs.Char.{encode_utf8}
 use Rattle.std.specs.Str.{chars}
 use Rattle.dotenvy.specs.Characters.{left_brace}

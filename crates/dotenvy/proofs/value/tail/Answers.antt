@@ -1,4 +1,4 @@
-use Rattle.std.proofs.Common.{◌≡◌, sym}
+use Rattle.std.proofs.Common.{sym}
 use Rattle.std.specs.Str.{chars}
 use Rattle.dotenvy.proofs.NextPiece.{tail_ends, tail_fault}
 use Rattle.dotenvy.proofs.value.tail.Goals as goal

@@ -1,4 +1,4 @@
-use Rattle.std.proofs.Common.{◌≡◌, [], ◌++◌, refl, sym, arith}
+use Rattle.std.proofs.Common.{[], ◌++◌, sym, arith}
 use Rattle.std.specs.Prelude.{string_bytes, string_len}
 use Rattle.std.specs.String.{string_capacity}
 use Rattle.std.proofs.lemmas.List.{append-nil}

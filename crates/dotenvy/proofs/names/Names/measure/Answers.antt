@@ -1,4 +1,4 @@
-use Rattle.std.proofs.Common.{◌≡◌, [], ◌++◌, refl, ◌∙◌}
+use Rattle.std.proofs.Common.{[], ◌++◌, refl}
 use Rattle.std.specs.Str.{chars}
 use Rattle.dotenvy.specs.Value.{unquoted}
 use Rattle.dotenvy.specs.Slices.{quoting_of}
