@@ -5,7 +5,8 @@ ghost use Rattle.dotenvy.specs.Characters.{begins_key};
 ghost use Rattle.dotenvy.specs.Slices.{begins_passing};
 ghost use Rattle.dotenvy.specs.ParseStatement.{key_then, skipping, equals_then, after_equals, after_plain_key, second_key, after_first_key, parse, Parsed, parsed_of, keyed_of, assigned_of};
 
-use crate::text::{Class, begins_key, split_first, split_while};
+use crate::environment::begins_key;
+use crate::text::{Class, split_first, split_while};
 
 /// A key and what is assigned to it, as slices of the line.
 #[derive(Clone, Copy)]

@@ -2,10 +2,11 @@
 ghost use Rattle.std.specs.Prelude.{◌≡◌, ◌++◌, [], length, MatchOption};
 ghost use Rattle.std.specs.Str.{chars, IsUtf8};
 ghost use Rattle.unicode.specs.GeneralCategory.{general_category, general_category_number};
-ghost use Rattle.dotenvy.specs.Characters.{begins_key, continues_key, is_number_category, allows_underscore, is_name_character, is_empty_or_comment};
+ghost use Rattle.dotenvy.specs.Characters.{is_number_category, allows_underscore, is_name_character, is_empty_or_comment};
 ghost use Rattle.dotenvy.specs.Slices.{BeginsWith, IsSpan, has_character};
 
 use crate::dialect::Dialect;
+use crate::environment::continues_key;
 use unicode::properties::{GeneralCategory, is_alphabetic};
 
 /// Where a part of a value stands.
@@ -41,19 +42,6 @@ impl Class {
             Class::SpaceOrTab => matches!(c, ' ' | '\t'),
         }
     }
-}
-
-/// The first character of a key.
-pub(crate) fn begins_key(c: char) -> bool
-    ensures { result ≡ begins_key c }
-{
-    c.is_ascii_alphabetic() || c == '_'
-}
-
-fn continues_key(c: char) -> bool
-    ensures { result ≡ continues_key c }
-{
-    begins_key(c) || c.is_ascii_digit() || c == '.'
 }
 
 fn is_number(c: char) -> bool
