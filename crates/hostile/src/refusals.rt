@@ -7,7 +7,7 @@ use std::process::Abort;
 use std::test::Fail;
 
 /// More requests than any call of these tests makes.
-const MOST_REQUESTS: u64 = 200;
+pub const MOST_REQUESTS: u64 = 200;
 
 /// Makes a run with the first request refused, one with the second, and so on, up to the run that
 /// tells that it is done.
