@@ -13,4 +13,6 @@ mod files;
 #[cfg(test)]
 mod refusals;
 #[cfg(test)]
+mod values;
+#[cfg(test)]
 mod written;
