@@ -11,17 +11,16 @@ use Rattle.std.specs.Prelude.{nat_eq, MatchOption, MatchBool, is_some}
 use Rattle.std.specs.List.{starts_with}
 use lib.Pointwise.{pointwise}
 use Rattle.std.specs.declared.io.ErrorKind.{ErrorKind}
-use Rattle.std.specs.IoError.{error_kind}
 use Rattle.std.specs.declared.io.Error.{Error as IoError}
 use Rattle.dotenvy.specs.declared.errors.Error.{Error}
 use Rattle.dotenvy.specs.declared.errors.Error.TheVariants.{LineParse, Io, EnvVar, Nul, Memory}
 use Rattle.dotenvy.specs.Characters.{line_feed}
-use Rattle.dotenvy.specs.PhysicalLines.{is_whole_line}
+use Rattle.dotenvy.specs.PhysicalLines.{no_line_feed, is_whole_line}
 use Rattle.dotenvy.specs.Marks.{byte_order_mark, without_mark}
 use Rattle.dotenvy.specs.Source.{Ahead}
-use Rattle.dotenvy.proofs.Cuts.{and_left, and_right}
+use Rattle.dotenvy.proofs.Basics.{and_left, and_right}
 use Rattle.dotenvy.specs.Errors.{IsMemory, IsIoOf}
-use Rattle.dotenvy.specs.Input.{InputState, left_of, IsTold, IsAllRead, ReadsFit, BoundIsMet, IsReadFault, IsFinal, FaultIsNext, Takes, end_reads, no_line_feed, drop_left, used_up, MovesLine, TakesLine, begins_mark}
+use Rattle.dotenvy.specs.Input.{InputState, left_of, IsTold, IsAllRead, ReadsFit, BoundIsMet, IsReadFault, IsFinal, FaultIsNext, Takes, end_reads, drop_left, used_up, MovesLine, TakesLine, begins_mark}
 
 abbrev is_lf : ℕ → Bool
 is_lf b = b == 10

@@ -1,15 +1,15 @@
 -- The entries of what a splitter has left, one answer after another.
-use Rattle.std.proofs.Common.{◌≡◌, ℕ, length, arith, List, [], ◌∷◌, ◌++◌, Option, Some, None, refl, sym, ◌∙◌, ap, subst, drop}
+use Rattle.std.proofs.Common.{◌≡◌, ℕ, length, arith, List, [], ◌∷◌, ◌++◌, Option, Some, None, refl, sym, subst}
 use Rattle.std.proofs.lemmas.Option.{none-some}
 use Rattle.std.specs.declared.io.ErrorKind.{ErrorKind}
 use Rattle.dotenvy.specs.declared.dialect.Dialect.{Dialect}
 use Rattle.dotenvy.specs.PhysicalLines.{line_texts}
-use Rattle.dotenvy.specs.LogicalLine.{Logical, Skip, Text, Open, Broken, IsNext}
+use Rattle.dotenvy.specs.LogicalLine.{Logical, Skip, Text, Open, Broken}
 use Rattle.dotenvy.specs.Entries.{Entry, AreLogicalLines, Gives, GiveAll, HasEntries}
 use Rattle.dotenvy.specs.Decided.{up_to_last_line_feed, without_open_end, HasDecided}
 use Rattle.dotenvy.specs.Source.{Ahead}
 use Rattle.dotenvy.specs.Input.{InputState}
-use Rattle.dotenvy.specs.Lines.{whole_lines, IsOpen, TakesNext, IsUndecided}
+use Rattle.dotenvy.specs.Lines.{IsOpen, TakesNext, IsUndecided}
 use Rattle.dotenvy.proofs.EntriesOnce.{lines_within, cut_line_texts, entries_once}
 use Rattle.dotenvy.proofs.DecidedFront.{decided_once}
 use Rattle.dotenvy.proofs.NextEntries.{entries-none}

@@ -20,17 +20,18 @@ use Rattle.dotenvy.specs.declared.lines.Joined.TheVariants.{Nothing, Whole, Open
 use Rattle.dotenvy.specs.declared.lines.Stage.{Stage}
 use Rattle.dotenvy.specs.declared.lines.Stage.TheVariants.{Open as stage_open, Ended}
 use Rattle.dotenvy.specs.Characters.{begins_with, hash, line_feed, byte_len}
-use Rattle.dotenvy.specs.PhysicalLines.{physical_lines, line_text, line_texts, is_whole_line, is_last_line, AreCut}
+use Rattle.dotenvy.specs.PhysicalLines.{no_line_feed, physical_lines, line_text, line_texts, is_whole_line, is_last_line, AreCut}
 use Rattle.dotenvy.specs.Decided.{before_some, up_to_last_line_feed}
 use Rattle.dotenvy.specs.LogicalLine.{Skip, Text, Open, Broken, IsNext, IsSkipped, IsOneLine, IsWhole, input_end}
 use Rattle.dotenvy.specs.LineModes.{walk, going, ended}
 use Rattle.dotenvy.specs.Source.{Ahead}
-use Rattle.dotenvy.specs.Input.{InputState, IsTold, ReadsFit, IsReadFault, IsFinal, no_line_feed, TakesLine}
+use Rattle.dotenvy.specs.Input.{InputState, IsTold, ReadsFit, IsReadFault, IsFinal, TakesLine}
 use Rattle.dotenvy.specs.Lines.{whole_before, whole_lines, IsOpen, TakesNext, IsUndecided, GoesOn, NextIs}
 use Rattle.dotenvy.specs.JoinedLines.{joined_at_end, TakesJoined, stage_after, Answers}
 use Rattle.dotenvy.proofs.Scans as scans
 use Rattle.dotenvy.proofs.Scans.{stops, scan, scan-reads, Reads, Read}
-use Rattle.dotenvy.proofs.Cuts.{and_left, and_right, concat-lines}
+use Rattle.dotenvy.proofs.Basics.{and_left, and_right}
+use Rattle.dotenvy.proofs.Cuts.{concat-lines}
 use Rattle.dotenvy.proofs.NextLine.{whole_line, last_line, ends_line, whole_ends, ends_join, one_next}
 use Rattle.dotenvy.proofs.EntriesOnce.{cut_line_texts, whole_chars, one_last}
 use Rattle.dotenvy.proofs.DecidedFront.{tokens_end}

@@ -6,7 +6,7 @@ use Rattle.std.specs.declared.io.Error.{Error as IoError}
 use Rattle.std.specs.declared.io.ErrorKind.TheVariants.{Interrupted, Other}
 use Rattle.std.specs.Coded.{Coded, code_by, coded×, coded_ℕ, coded_bool, coded_option}
 use Rattle.dotenvy.specs.Characters.{line_feed}
-use Rattle.dotenvy.specs.PhysicalLines.{is_whole_line}
+use Rattle.dotenvy.specs.PhysicalLines.{no_line_feed, is_whole_line}
 use Rattle.dotenvy.specs.Marks.{byte_order_mark, without_mark}
 use Rattle.dotenvy.specs.Source.{Ahead, ahead_code}
 use Rattle.dotenvy.specs.declared.errors.Error.{Error}
@@ -92,9 +92,6 @@ ReadsOnce a old (Err e) after new = IsMemory e ⊎ IsIoOf (FaultIsNext a) e
 abbrev pub ReadsMore : {A : Type 0} → Ahead → InputState → Result (Unit {0}) (Error A) → InputState → Type 0
 ReadsMore a s (Ok _) t = (t.left ≡ Some a) × ReadsFit a s a t
 ReadsMore a s (Err e) t = IsFinal a s (length a.bytes ≡ s.unread) e t
-
-abbrev pub no_line_feed : List ℕ → Bool
-no_line_feed bytes = list_all (λ b. not (b == line_feed)) bytes
 
 -- the first bytes of what is left were moved to a line: up to a line feed, or all that were read
 pub record MovesLine (a : Ahead) (s : InputState) (old : List ℕ) (whole : Bool) (new : List ℕ) (t : InputState) : Type 0 where

@@ -1,5 +1,5 @@
 -- What an iterator over pairs has left, and what it remembers.
-use Rattle.std.specs.Prelude.{ℕ, ◌^◌, false, Option, List, refl}
+use Rattle.std.specs.Prelude.{ℕ, ◌^◌, false, Option, refl}
 use Rattle.std.specs.Coded.{Coded, code_by, coded×, coded_ℕ, coded_list, coded_option}
 use Rattle.std.specs.FinMap as fin
 use Rattle.dotenvy.specs.declared.dialect.Dialect.{Dialect}

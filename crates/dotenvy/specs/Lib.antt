@@ -1,14 +1,9 @@
 pub mod Characters
-pub mod Slices
 pub mod PhysicalLines
 pub mod Tokens
 pub mod LogicalLine
-pub mod LineModes
-pub mod JoinedLines
 pub mod Statement
-pub mod ParseStatement
 pub mod Value
-pub mod ReadValue
 pub mod Places
 pub mod Line
 pub mod Entries
@@ -24,10 +19,7 @@ pub mod Source
 pub mod Sent
 pub mod Environment
 pub mod Remembered
-pub mod ScanLine
 pub mod ParsedLine
-pub mod NextPiece
-pub mod Names
 pub mod Input
 pub mod Lines
 pub mod Iter
@@ -35,3 +27,12 @@ pub mod Laws
 pub mod WorkedFiles
 pub mod WorkedLoads
 pub mod WorkedSearches
+-- what contracts inside the crate cite beside these
+pub mod Slices
+pub mod LineModes
+pub mod JoinedLines
+pub mod ParseStatement
+pub mod ReadValue
+pub mod NextPiece
+pub mod Names
+pub mod ScanLine

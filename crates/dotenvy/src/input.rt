@@ -2,9 +2,9 @@
 ghost use Rattle.std.specs.Prelude.{[], ◌≡◌, ◌≤◌, ◌<◌, ◌+◌, ◌==◌, ◌⊎◌, true, false, Some, None, IfOk, IfErr, IsTrue, ◌↔◌, OnOk, MatchOption, MatchBool, position, nat_eq, length, take, drop, vec_len};
 ghost use Rattle.std.specs.IoError.{error_kind};
 ghost use Rattle.dotenvy.specs.Source.{Ahead};
-ghost use Rattle.dotenvy.specs.Input.{IsTold, ReadsOnce, IsAllRead, used_up, supply, ReadsMore, no_line_feed, MovesLine, ReadsLine, begins_mark, DropsMark};
+ghost use Rattle.dotenvy.specs.Input.{IsTold, ReadsOnce, IsAllRead, used_up, supply, ReadsMore, MovesLine, ReadsLine, begins_mark, DropsMark};
 ghost use Rattle.std.specs.List.{starts_with};
-ghost use Rattle.dotenvy.specs.PhysicalLines.{is_whole_line};
+ghost use Rattle.dotenvy.specs.PhysicalLines.{is_whole_line, no_line_feed};
 ghost use Rattle.dotenvy.specs.Marks.{byte_order_mark};
 ghost use Rattle.dotenvy.specs.Errors.{IsMemory, IsIoOf};
 

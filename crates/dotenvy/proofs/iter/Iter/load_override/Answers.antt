@@ -1,4 +1,3 @@
-use Rattle.std.proofs.Common.{rules}
 use Rattle.std.proofs.lemmas.Str.{IsUtf8-string_bytes}
 use Rattle.dotenvy.proofs.Keys.{name_ok-key}
 use Rattle.dotenvy.proofs.iter.Iter.load_override.Goals as goal
