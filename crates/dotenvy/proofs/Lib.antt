@@ -18,8 +18,6 @@ pub mod DecidedFront
 pub mod Splitting
 pub mod SplitLines
 pub mod ParseLine
-pub mod ScanValue
-pub mod SayLine
 pub mod NextEntries
 pub mod WorkedFiles
 pub mod SearchOnce

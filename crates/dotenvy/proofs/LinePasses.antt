@@ -1,5 +1,5 @@
 -- What the first pass over a line finds, in the words of the format.
-use Rattle.std.proofs.Common.{◌≡◌, ◌≢◌, ℕ, ◌+◌, ◌<◌, true, false, not, List, [], ◌∷◌, ◌++◌, Option, Some, None, Ok, Err, refl, sym, ◌∙◌, ap, subst, arith, length, length-append, inl, inr, cond}
+use Rattle.std.proofs.Common.{◌≡◌, ◌≢◌, ℕ, ◌+◌, ◌<◌, true, false, not, List, [], ◌∷◌, ◌++◌, Option, Some, None, Ok, Err, refl, sym, ◌∙◌, ap, subst, arith, length, take, length-append, inl, inr, cond}
 use Rattle.std.specs.Prelude.{◌-◌, ◌==◌, MatchOption, is_some, if◌then◌else◌, string_bytes, option_map, ◌⊎◌}
 use denote.Ref.{Bor}
 use Rattle.std.specs.Str.{chars, encode_utf8_all, IsUtf8, drop_trailing_whitespace}
@@ -28,11 +28,9 @@ use Rattle.dotenvy.specs.Statement.{IsStatement}
 use Rattle.dotenvy.proofs.Basics.{not_is}
 use Rattle.dotenvy.specs.ParseStatement.{assigns, fails, parse}
 use Rattle.dotenvy.specs.ScanLine.{IsAssigned, ScansAssigned, IsDeclared, Scans, AreCopiesOf}
-use Rattle.dotenvy.proofs.Values.{value-read, read-value}
+use Rattle.dotenvy.proofs.Values.{value-read, read-value, no_value}
 use Rattle.dotenvy.proofs.ValuePlaces.{value_place}
-use Rattle.dotenvy.proofs.ScanValue.{no_value}
-use Rattle.dotenvy.proofs.ParseLine.{parse-statement, parse-fault}
-use Rattle.dotenvy.proofs.SayLine.{says-no_statement}
+use Rattle.dotenvy.proofs.ParseLine.{parse-statement, parse-fault, front_bytes}
 
 -- the bytes before what is left
 pub front_and_left : (text left front : List ℕ) → IsUtf8 text → IsUtf8 left → chars text ≡ front ++ chars left → length text ≡ byte_len front + length left
@@ -128,6 +126,22 @@ value_fault dialect look_up line key rest fault some parsed is = subst (λ t. Sa
 
 pub left_of_statement : (text left : List ℕ) → parse text ≡ fails left → (front : List ℕ) × (text ≡ front ++ left)
 left_of_statement text left h = let f = parse-fault text left h in (f.1, f.2)
+
+-- a fault before the value: its index is the number of bytes before what is left
+pub says-no_statement : (dialect : Dialect) (line front left : List ℕ) → is_nothing (drop_trailing_whitespace line) ≡ false → parse (drop_trailing_whitespace line) ≡ fails left → drop_trailing_whitespace line ≡ front ++ left → Says dialect line (SaysFault line (byte_len front))
+says-no_statement dialect line front left some h e =
+    let u = drop_trailing_whitespace line in
+    let f = parse-fault u left h in
+    let same : length f.1 ≡ length front = (let d = ap length (sym f.2 ∙ e) in omega (arith, d, length-append f.1 left, length-append front left)) in (
+      ap not some,
+      inl (record {
+        none = f.0;
+        place = length f.1;
+        is_place = f.3;
+        line_is = refl;
+        index_is = sym (ap (λ t. byte_len (take (length f.1) t)) e ∙ ap (λ n. byte_len (take n (front ++ left))) same ∙ front_bytes front left);
+      }),
+    )
 
 pub statement_fault : (dialect : Dialect) (line left : List ℕ) (index : ℕ) → is_nothing (drop_trailing_whitespace line) ≡ false → parse (drop_trailing_whitespace line) ≡ fails left → ((front : List ℕ) → drop_trailing_whitespace line ≡ front ++ left → index ≡ byte_len front) → Says dialect line (SaysFault line index)
 statement_fault dialect line left index some parsed counts = let f = left_of_statement (drop_trailing_whitespace line) left parsed in subst (λ n. Says dialect line (SaysFault line n)) (sym (counts f.0 f.1)) (says-no_statement dialect line f.0 left some parsed f.1)

@@ -1,5 +1,5 @@
 -- What names stand for, by bytes and by characters, and what the passes over a value count.
-use Rattle.std.proofs.Common.{◌≡◌, ℕ, ◌+◌, ◌≤◌, List, [], ◌++◌, Option, Some, None, refl, sym, ◌∙◌, ap, subst, arith, length, length-append, append_assoc, unwrap_or}
+use Rattle.std.proofs.Common.{◌≡◌, ℕ, ◌+◌, ◌≤◌, List, [], ◌∷◌, ◌++◌, Option, Some, None, refl, sym, ◌∙◌, ap, subst, arith, length, length-append, append_assoc, unwrap_or}
 use Rattle.std.specs.Prelude.{option_map, MatchOption, ◌^◌, ◌-◌, min, Ok}
 use denote.Ref.{Bor}
 use Rattle.std.specs.Option.{option_or, option_copied}
@@ -9,15 +9,20 @@ use Rattle.std.proofs.lemmas.List.{append-nil}
 use Rattle.std.proofs.lemmas.Str.{encodes-chars, encodes-append}
 use Rattle.dotenvy.specs.declared.dialect.Dialect.{Dialect}
 use Rattle.dotenvy.specs.Characters.{byte_len}
-use Rattle.dotenvy.specs.Value.{unquoted, Piece}
+use Rattle.dotenvy.specs.Value.{unquoted, Piece, Text, Name}
 use Rattle.dotenvy.specs.Items.{LookUp, meaning}
 use Rattle.dotenvy.specs.Environment.{Texts}
 use Rattle.dotenvy.specs.Remembered.{Remembered, recalled}
 use Rattle.dotenvy.specs.ReadValue.{Mode, base, given, read}
 use Rattle.dotenvy.specs.NextPiece.{IsReadTo}
 use Rattle.dotenvy.specs.Names.{names_of, saturated, Measures, HasRoom}
-use Rattle.dotenvy.proofs.ScanValue.{meaning-append}
 use Rattle.dotenvy.proofs.Values.{given-given}
+
+-- the meaning of pieces and more
+pub meaning-append : (look : LookUp) (p q : List Piece) → meaning look (p ++ q) ≡ meaning look p ++ meaning look q
+meaning-append look [] q = refl
+meaning-append look (Text text ∷ p) q = ap (λ t. text ++ t) (meaning-append look p q) ∙ sym (append_assoc text (meaning look p) (meaning look q))
+meaning-append look (Name name ∷ p) q = ap (λ t. unwrap_or (look name) [] ++ t) (meaning-append look p q) ∙ sym (append_assoc (unwrap_or (look name) []) (meaning look p) (meaning look q))
 
 -- the text that is found by bytes is the one that is found by characters
 pub looked_up : (names : Texts) (remembered : Remembered) (name text : List ℕ) → IsUtf8 name → IsUtf8 text → text ≡ unwrap_or (option_or (fin.get names name) (recalled remembered name)) [] → text ≡ encode_utf8_all (unwrap_or (names_of names remembered (chars name)) [])

@@ -1,6 +1,6 @@
 -- How the pieces that the code reads follow from the reader of values.
 use Rattle.std.proofs.Common.{◌≡◌, ℕ, ◌+◌, ◌<◌, Bool, true, false, not, ◌&&◌, ◌||◌, List, [], ◌∷◌, ◌++◌, Option, Some, None, refl, sym, ◌∙◌, ap, subst, arith, length, length-append, append_assoc, unwrap_or}
-use Rattle.std.specs.Prelude.{◌==◌}
+use Rattle.std.specs.Prelude.{◌==◌, if◌then◌else◌}
 use Rattle.std.specs.List.{list_all}
 use denote.Ref.{Bor}
 use Rattle.std.specs.Char.{encode_utf8}
@@ -101,7 +101,7 @@ goes_kind Plain q c = Some (base q, Text (c ∷ []) ∷ [])
 pub kind_goes : (q : CodeQuoting) (c : ℕ) → goes_base (quoting_of q) c ≡ goes_kind (kind_of q c) (quoting_of q) c
 kind_goes Unquoted c = at (c == backslash) (c == single_quote) (c == double_quote) (c == dollar) (is_space_or_tab c)
   where
-    at : (b s d o t : Bool) → elim b as (λ _. Option (Mode × List Piece)) [ true ↦ Some (escaping unquoted, []) | false ↦ elim s [ true ↦ Some (in_single [], []) | false ↦ elim d [ true ↦ Some (base double_quoted, []) | false ↦ elim o [ true ↦ Some (naming unquoted [], []) | false ↦ elim t [ true ↦ Some (in_tail, []) | false ↦ Some (base unquoted, Text (c ∷ []) ∷ []) ] ] ] ] ] ≡ goes_kind (elim b [ true ↦ Backslash | false ↦ elim s [ true ↦ SingleQuote | false ↦ elim d [ true ↦ DoubleQuote | false ↦ elim o [ true ↦ Dollar | false ↦ elim t [ true ↦ SpaceOrTab | false ↦ Plain ] ] ] ] ]) unquoted c
+    at : (b s d o t : Bool) → elim b as (λ _. Option (Mode × List Piece)) [ true ↦ Some (escaping unquoted, []) | false ↦ elim s [ true ↦ Some (in_single [], []) | false ↦ elim d [ true ↦ Some (base double_quoted, []) | false ↦ elim o [ true ↦ Some (naming unquoted [], []) | false ↦ elim t [ true ↦ Some (in_tail, []) | false ↦ Some (base unquoted, Text (c ∷ []) ∷ []) ] ] ] ] ] ≡ goes_kind (if b then Backslash else if s then SingleQuote else if d then DoubleQuote else if o then Dollar else if t then SpaceOrTab else Plain) unquoted c
     at true s d o t = refl
     at false true d o t = refl
     at false false true o t = refl
@@ -110,7 +110,7 @@ kind_goes Unquoted c = at (c == backslash) (c == single_quote) (c == double_quot
     at false false false false false = refl
 kind_goes DoubleQuoted c = at (c == backslash) (c == double_quote) (c == dollar)
   where
-    at : (b d o : Bool) → elim b as (λ _. Option (Mode × List Piece)) [ true ↦ Some (escaping double_quoted, []) | false ↦ elim d [ true ↦ Some (base unquoted, []) | false ↦ elim o [ true ↦ Some (naming double_quoted [], []) | false ↦ Some (base double_quoted, Text (c ∷ []) ∷ []) ] ] ] ≡ goes_kind (elim b [ true ↦ Backslash | false ↦ elim d [ true ↦ DoubleQuote | false ↦ elim o [ true ↦ Dollar | false ↦ Plain ] ] ]) double_quoted c
+    at : (b d o : Bool) → elim b as (λ _. Option (Mode × List Piece)) [ true ↦ Some (escaping double_quoted, []) | false ↦ elim d [ true ↦ Some (base unquoted, []) | false ↦ elim o [ true ↦ Some (naming double_quoted [], []) | false ↦ Some (base double_quoted, Text (c ∷ []) ∷ []) ] ] ] ≡ goes_kind (if b then Backslash else if d then DoubleQuote else if o then Dollar else Plain) double_quoted c
     at true d o = refl
     at false true o = refl
     at false false true = refl
@@ -322,7 +322,7 @@ open_double dialect text e = subst (λ t. StopsAt dialect (base double_quoted) t
 kind_plain : (q : CodeQuoting) (c : ℕ) → Plain ≡ kind_of q c → is_plain (quoting_of q) c ≡ true
 kind_plain Unquoted c = at (c == backslash) (c == single_quote) (c == double_quote) (c == dollar) (is_space_or_tab c)
   where
-    at : (b s d o t : Bool) → Plain ≡ elim b [ true ↦ Backslash | false ↦ elim s [ true ↦ SingleQuote | false ↦ elim d [ true ↦ DoubleQuote | false ↦ elim o [ true ↦ Dollar | false ↦ elim t [ true ↦ SpaceOrTab | false ↦ Plain ] ] ] ] ] → not ((((b || s) || d) || o) || t) ≡ true
+    at : (b s d o t : Bool) → Plain ≡ (if b then Backslash else if s then SingleQuote else if d then DoubleQuote else if o then Dollar else if t then SpaceOrTab else Plain) → not ((((b || s) || d) || o) || t) ≡ true
     at false false false false false h = refl
     at true s d o t h = cc
     at false true d o t h = cc
@@ -331,7 +331,7 @@ kind_plain Unquoted c = at (c == backslash) (c == single_quote) (c == double_quo
     at false false false false true h = cc
 kind_plain DoubleQuoted c = at (c == backslash) (c == double_quote) (c == dollar)
   where
-    at : (b d o : Bool) → Plain ≡ elim b [ true ↦ Backslash | false ↦ elim d [ true ↦ DoubleQuote | false ↦ elim o [ true ↦ Dollar | false ↦ Plain ] ] ] → not ((b || d) || o) ≡ true
+    at : (b d o : Bool) → Plain ≡ (if b then Backslash else if d then DoubleQuote else if o then Dollar else Plain) → not ((b || d) || o) ≡ true
     at false false false h = refl
     at true d o h = cc
     at false true o h = cc

@@ -21,6 +21,7 @@ by_characters by_bytes name = option_map chars (by_bytes (encode_utf8_all name))
 abbrev pub names_of : Texts → Remembered → LookUp
 names_of names remembered = or_else (by_characters (λ name. fin.get names name)) (by_characters (λ name. recalled remembered name))
 
+-- the same of what the code looks names up in
 abbrev pub look_up_of : {A : Type 0} → Names A → LookUp
 look_up_of names = names_of names.environment.now.names (remembered_of names.remembered.now.entries)
 

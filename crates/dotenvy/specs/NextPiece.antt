@@ -1,5 +1,5 @@
 -- What the functions that read a value piece by piece give, by its characters.
-use Rattle.std.specs.Prelude.{ℕ, ◌≡◌, ◌+◌, ◌<◌, Bool, true, false, ◌==◌, List, [], ◌∷◌, ◌++◌, length, Option, Some, None, MatchOption, unwrap_or}
+use Rattle.std.specs.Prelude.{ℕ, ◌≡◌, ◌+◌, ◌<◌, Bool, true, false, ◌==◌, List, [], ◌∷◌, ◌++◌, length, Option, Some, None, MatchOption, unwrap_or, if◌then◌else◌}
 use denote.Ref.{Bor}
 use Rattle.std.specs.Str.{chars, encode_utf8_all, IsUtf8}
 use Rattle.dotenvy.specs.declared.dialect.Dialect.{Dialect}
@@ -23,6 +23,7 @@ abbrev pub other_quoting : Quoting → Quoting
 other_quoting unquoted = double_quoted
 other_quoting double_quoted = unquoted
 
+-- the text has no character
 abbrev pub is_empty : List ℕ → Bool
 is_empty [] = true
 is_empty (c ∷ cs) = false
@@ -30,23 +31,15 @@ is_empty (c ∷ cs) = false
 -- what a character begins
 abbrev pub kind_of : CodeQuoting → ℕ → Kind
 kind_of Unquoted c =
-    elim (c == backslash) [
-      | true ↦ Backslash
-      | false ↦
-          elim (c == single_quote) [
-            | true ↦ SingleQuote
-            | false ↦
-                elim (c == double_quote) [
-                  | true ↦ DoubleQuote
-                  | false ↦ elim (c == dollar) [ true ↦ Dollar | false ↦ elim (is_space_or_tab c) [ true ↦ SpaceOrTab | false ↦ Plain ] ]
-                ]
-          ]
-    ]
+    if c == backslash then Backslash else
+    if c == single_quote then SingleQuote else
+    if c == double_quote then DoubleQuote else
+    if c == dollar then Dollar else
+    if is_space_or_tab c then SpaceOrTab else Plain
 kind_of DoubleQuoted c =
-    elim (c == backslash) [
-      | true ↦ Backslash
-      | false ↦ elim (c == double_quote) [ true ↦ DoubleQuote | false ↦ elim (c == dollar) [ true ↦ Dollar | false ↦ Plain ] ]
-    ]
+    if c == backslash then Backslash else
+    if c == double_quote then DoubleQuote else
+    if c == dollar then Dollar else Plain
 
 -- the bytes that a backslash and this character mean
 abbrev pub Escapes : ℕ → Option (Bor (List ℕ)) → Type 0

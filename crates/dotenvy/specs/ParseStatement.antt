@@ -5,6 +5,7 @@ use Rattle.std.specs.Str.{chars, skip_leading_whitespace}
 use Rattle.dotenvy.specs.declared.statement.Statement.{Statement}
 use Rattle.dotenvy.specs.Characters.{begins_key, continues_key, equals_sign}
 
+-- the word that may be a prefix
 abbrev pub export : List ℕ
 export = codes "export"
 
@@ -13,6 +14,7 @@ pub data Parsed : Type 0 where
   assigns : List ℕ → List ℕ → Parsed
   fails : List ℕ → Parsed
 
+-- the longest front of a key's characters, and what follows it
 abbrev pub key_run : List ℕ → List ℕ
 key_run [] = []
 key_run (c ∷ cs) = cond (continues_key c) (c ∷ key_run cs) []
@@ -31,6 +33,7 @@ abbrev pub equals_then : List ℕ → (List ℕ → Parsed) → Parsed → Parse
 equals_then [] next other = other
 equals_then (c ∷ cs) next other = cond (c == equals_sign) (next cs) other
 
+-- what is assigned, after `=` and white space
 abbrev pub after_equals : List ℕ → List ℕ → Parsed
 after_equals key text = assigns key (skip_leading_whitespace text)
 
@@ -50,6 +53,7 @@ second_key left = key_then left (skipping after_plain_key)
 abbrev pub after_first_key : List ℕ → List ℕ → Parsed
 after_first_key key left = cond (bytes_eq key export) (equals_then left (after_equals key) (second_key left)) (after_plain_key key left)
 
+-- the whole line, without white space at its end
 abbrev pub parse : List ℕ → Parsed
 parse line = key_then (skip_leading_whitespace line) (skipping after_first_key)
 

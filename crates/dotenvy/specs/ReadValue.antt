@@ -1,4 +1,4 @@
--- A value read from left to right, character by character, as the code reads it.
+-- A value read from left to right, character by character. The tests are `elim`, since `if` would read on from both answers.
 use Rattle.std.specs.Prelude.{ℕ, suc, Bool, true, false, ◌==◌, List, [], ◌∷◌, ◌++◌, Option, Some, None}
 use Rattle.dotenvy.specs.declared.dialect.Dialect.{Dialect}
 use Rattle.dotenvy.specs.Characters.{is_space_or_tab, is_name_character, single_quote, double_quote, dollar, backslash, left_brace, right_brace, hash}
@@ -14,13 +14,16 @@ pub data Mode : Type 0 where
   in_tail : Mode
   in_comment : Mode
 
+-- the pieces that were read, or `None` where the text is no value
 abbrev pub Reading : Type 0
 Reading = Option (List Piece)
 
+-- pieces before those that are still read
 abbrev pub given : List Piece → Reading → Reading
 given pieces None = None
 given pieces (Some more) = Some (pieces ++ more)
 
+-- a brace right after the dollar
 abbrev pub is_brace_first : List ℕ → ℕ → Bool
 is_brace_first [] c = c == left_brace
 is_brace_first (d ∷ name) c = false
@@ -56,6 +59,7 @@ from_base double_quoted c next =
           ]
     ]
 
+-- where a character leads, and what it gives, with what is read from there
 abbrev pub from : (dialect : Dialect) → Mode → ℕ → (Mode → Reading) → Reading
 from dialect (base q) c next = from_base q c next
 from dialect (escaping q) c next = elim (is_escape c) [ true ↦ given (Text (escape_meaning c ∷ []) ∷ []) (next (base q)) | false ↦ None ]
@@ -74,6 +78,7 @@ from dialect (bracing q name) c next = elim (c == right_brace) [ true ↦ given 
 from dialect in_tail c next = elim (is_space_or_tab c) [ true ↦ next in_tail | false ↦ elim (c == hash) [ true ↦ next in_comment | false ↦ None ] ]
 from dialect in_comment c next = next in_comment
 
+-- what the end of the text gives
 abbrev pub at_end : Mode → Reading
 at_end (base unquoted) = Some []
 at_end (escaping unquoted) = Some []
@@ -86,11 +91,12 @@ at_end (naming double_quoted name) = None
 at_end (bracing q name) = None
 at_end (in_single inner) = None
 
+-- what the text gives, read from this mode
 abbrev pub read : (dialect : Dialect) → List ℕ → Mode → Reading
 read dialect [] mode = at_end mode
 read dialect (c ∷ cs) mode = from dialect mode c (λ m. read dialect cs m)
 
--- where a character leads, and the pieces that it completes
+-- the same where a part may begin
 abbrev pub goes_base : Quoting → ℕ → Option (Mode × List Piece)
 goes_base unquoted c =
     elim (c == backslash) [
@@ -121,10 +127,12 @@ goes_base double_quoted c =
           ]
     ]
 
+-- pieces before those that a step completes
 abbrev pub with_pieces : List Piece → Option (Mode × List Piece) → Option (Mode × List Piece)
 with_pieces pieces None = None
 with_pieces pieces (Some (m, more)) = Some (m, pieces ++ more)
 
+-- where one character leads, and the pieces that it completes; `None` where no value goes on with it
 abbrev pub goes : (dialect : Dialect) → Mode → ℕ → Option (Mode × List Piece)
 goes dialect (base q) c = goes_base q c
 goes dialect (escaping q) c = elim (is_escape c) [ true ↦ Some (base q, Text (escape_meaning c ∷ []) ∷ []) | false ↦ None ]
@@ -143,11 +151,12 @@ goes dialect (bracing q name) c = elim (c == right_brace) [ true ↦ Some (base 
 goes dialect in_tail c = elim (is_space_or_tab c) [ true ↦ Some (in_tail, []) | false ↦ elim (c == hash) [ true ↦ Some (in_comment, []) | false ↦ None ] ]
 goes dialect in_comment c = Some (in_comment, [])
 
--- the number of characters up to the first that no value goes on with
+-- one character more, unless no value goes on with it
 abbrev pub place_after : Option (Mode × List Piece) → (Mode → ℕ) → ℕ
 place_after None next = 0
 place_after (Some (m, pieces)) next = suc (next m)
 
+-- the number of characters up to the first that no value goes on with
 abbrev pub place : (dialect : Dialect) → List ℕ → Mode → ℕ
 place dialect [] m = 0
 place dialect (c ∷ cs) m = place_after (goes dialect m c) (λ n. place dialect cs n)
