@@ -54,9 +54,6 @@ key_then-fails (c ∷ cs) next h = sym (choose_false _ _ (begins_key c) h)
 pub equals_then-none : (text : List ℕ) (next : List ℕ → Parsed) (other : Parsed) → text ≡ [] → other ≡ equals_then text next other
 equals_then-none text next other e = sym (ap (λ t. equals_then t next other) e)
 
-pub equals_then-other : (text cs : List ℕ) (c : ℕ) (next : List ℕ → Parsed) (other : Parsed) → text ≡ c ∷ cs → c ≢ equals_sign → other ≡ equals_then text next other
-equals_then-other text cs c next other e h = sym (ap (λ t. equals_then t next other) e ∙ choose_false _ _ (c == equals_sign) (not_same c equals_sign h))
-
 pub equals_then-equals : (text cs : List ℕ) (c : ℕ) (next : List ℕ → Parsed) (other : Parsed) → text ≡ c ∷ cs → c ≡ equals_sign → next cs ≡ equals_then text next other
 equals_then-equals text cs c next other e h = sym (ap (λ t. equals_then t next other) e ∙ choose_true _ _ (c == equals_sign) (same c equals_sign h))
 
