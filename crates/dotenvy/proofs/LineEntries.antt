@@ -9,6 +9,7 @@ use Rattle.dotenvy.specs.Entries.{Entry, AreLogicalLines, Gives, GiveAll, HasEnt
 use Rattle.dotenvy.specs.Decided.{up_to_last_line_feed, without_open_end, HasDecided}
 use Rattle.dotenvy.specs.Source.{Ahead}
 use Rattle.dotenvy.specs.Input.{InputState}
+use Rattle.dotenvy.specs.Reading.{HasLeft}
 use Rattle.dotenvy.specs.Lines.{IsOpen, TakesNext, IsUndecided}
 use Rattle.dotenvy.proofs.EntriesOnce.{lines_within, cut_line_texts, entries_once}
 use Rattle.dotenvy.proofs.DecidedFront.{decided_once}
@@ -16,11 +17,6 @@ use Rattle.dotenvy.proofs.NextEntries.{entries-none}
 
 abbrev ahead_of : List ℕ → Option ErrorKind → Ahead
 ahead_of bytes fault = record { bytes = bytes; fault = fault }
-
--- the entries of what is left: those of the bytes, or before a fault those that they decide
-abbrev pub HasLeft : Dialect → Option ErrorKind → List ℕ → List Entry → Type 0
-HasLeft dialect None bytes entries = HasEntries dialect bytes entries
-HasLeft dialect (Some kind) bytes entries = HasDecided dialect bytes entries
 
 -- there is one list of them
 pub left_once : (dialect : Dialect) (fault : Option ErrorKind) (bytes : List ℕ) (entries others : List Entry) → HasLeft dialect fault bytes entries → HasLeft dialect fault bytes others → entries ≡ others

@@ -23,6 +23,10 @@ pub mod ParsedLine
 pub mod Input
 pub mod Lines
 pub mod Iter
+pub mod Names
+pub mod Reading
+pub mod NextItem
+pub mod LoadsLeft
 pub mod Laws
 pub mod WorkedFiles
 pub mod WorkedLoads
@@ -34,5 +38,4 @@ pub mod JoinedLines
 pub mod ParseStatement
 pub mod ReadValue
 pub mod NextPiece
-pub mod Names
 pub mod ScanLine

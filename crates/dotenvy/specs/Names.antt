@@ -17,9 +17,17 @@ use Rattle.dotenvy.specs.NextPiece.{StopsAt}
 abbrev pub by_characters : (List ℕ → Option (List ℕ)) → LookUp
 by_characters by_bytes name = option_map chars (by_bytes (encode_utf8_all name))
 
+-- the values of an environment
+abbrev pub values_of : Texts → LookUp
+values_of names = by_characters (λ name. fin.get names name)
+
+-- the texts that are remembered
+abbrev pub recalled_of : Remembered → LookUp
+recalled_of remembered = by_characters (λ name. recalled remembered name)
+
 -- a name means the environment's value, else the remembered text
 abbrev pub names_of : Texts → Remembered → LookUp
-names_of names remembered = or_else (by_characters (λ name. fin.get names name)) (by_characters (λ name. recalled remembered name))
+names_of names remembered = or_else (values_of names) (recalled_of remembered)
 
 -- the same of what the code looks names up in
 abbrev pub look_up_of : {A : Type 0} → Names A → LookUp

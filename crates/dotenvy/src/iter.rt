@@ -7,6 +7,10 @@ ghost use Rattle.dotenvy.specs.Errors.{IsMemory, IsMemoryErr};
 ghost use Rattle.dotenvy.specs.Iter.{fresh, item_fuel};
 ghost use Rattle.dotenvy.specs.Environment.{KeepsNames};
 ghost use Rattle.dotenvy.specs.Statement.{is_key};
+ghost use Rattle.dotenvy.specs.Run.{Keep, Replace, run};
+ghost use Rattle.dotenvy.specs.Loads.{load_result, override_result};
+ghost use Rattle.dotenvy.specs.NextItem.{NextItem};
+ghost use Rattle.dotenvy.specs.LoadsLeft.{ChangesKeys, LoadsLeft};
 
 use crate::dialect::Dialect;
 use crate::environment::Environment;
@@ -78,7 +82,7 @@ impl<R: Source, A: Allocator + Clone> Iter<R, A> {
     /// The next pair or fault. A name that a value mentions means its value in `env`, else the last one remembered,
     /// else the empty text; `env` may be another at each call (docs/GRAMMAR.md, "What a name means").
     pub fn next_item(&mut self, env: &Environment<A>) -> Option<Result<(String<A>, String<A>), A>>
-        ensures shut { self.old.lines.stage ≢ Open → (result ≡ None) × (self.new ≡ self.old) }
+        ensures next { NextItem env.now.names self.old result self.new }
         ensures falls { IsSome result → item_fuel self.new < item_fuel self.old }
         ensures memory { IfSome result (λ item. IsMemoryErr item → self.new.lines.stage ≡ Failed) }
         ensures key { IfSome result (λ item. IfOk item (λ pair. IsTrue (is_key (chars (string_bytes pair.0))))) }
@@ -148,7 +152,9 @@ impl<R: Source + Drop, A: Allocator + Clone> Iter<R, A> {
     /// ```
     pub fn load(mut self, env: &mut Environment<A>) -> Result<(), A>
         ensures shut { self.lines.stage ≢ Open → (result ≡ Ok tt) × (env.new ≡ env.old) }
+        ensures told { self.lines.stage ≡ Open → LoadsLeft load_result self env.old.names result env.new.names }
         ensures keeps { KeepsNames env.old.names env.new.names }
+        ensures keys { ChangesKeys env.old.names env.new.names }
         ensures mark { env.new.loaded ≡ env.old.loaded }
     {
         self.lines.drop_mark()?;
@@ -168,6 +174,8 @@ impl<R: Source + Drop, A: Allocator + Clone> Iter<R, A> {
     /// ```
     pub fn load_override(mut self, env: &mut Environment<A>) -> Result<(), A>
         ensures shut { self.lines.stage ≢ Open → (result ≡ Ok tt) × (env.new ≡ env.old) }
+        ensures told { self.lines.stage ≡ Open → LoadsLeft override_result self env.old.names result env.new.names }
+        ensures keys { ChangesKeys env.old.names env.new.names }
         ensures mark { env.new.loaded ≡ env.old.loaded }
     {
         self.lines.drop_mark()?;
@@ -189,6 +197,8 @@ pub struct Items<'a, R: Source, A: Allocator = Global> {
 impl<'a, R: Source, A: Allocator + Clone> Iterator for Items<'a, R, A> {
     type Item = Result<(String<A>, String<A>), A>;
 
+    ghost next_gives = { λ s item t. NextItem s.env.now.names s.file.now item t.file.now };
+
     ghost remaining = { λ s. at_most (item_fuel s.file.now) };
 
     fn next(&mut self) -> Option<Result<(String<A>, String<A>), A>> {
@@ -202,7 +212,10 @@ pub fn from_read<R: Source + Drop, A: Allocator + Clone>(
     reader: R,
     env: &mut Environment<A>,
 ) -> Result<(), A>
+    ensures told { LoadsLeft load_result (fresh (R.ahead reader) Dialect.V15) env.old.names result env.new.names }
+    ensures in_turn { LoadsLeft (run Keep) (fresh (R.ahead reader) Dialect.V15) env.old.names result env.new.names }
     ensures keeps { KeepsNames env.old.names env.new.names }
+    ensures keys { ChangesKeys env.old.names env.new.names }
     ensures mark { env.new.loaded ≡ env.old.loaded }
 {
     Iter::new(alloc, reader)?.load(env)
@@ -214,6 +227,9 @@ pub fn from_read_override<R: Source + Drop, A: Allocator + Clone>(
     reader: R,
     env: &mut Environment<A>,
 ) -> Result<(), A>
+    ensures told { LoadsLeft override_result (fresh (R.ahead reader) Dialect.V15) env.old.names result env.new.names }
+    ensures in_turn { LoadsLeft (run Replace) (fresh (R.ahead reader) Dialect.V15) env.old.names result env.new.names }
+    ensures keys { ChangesKeys env.old.names env.new.names }
     ensures mark { env.new.loaded ≡ env.old.loaded }
 {
     Iter::new(alloc, reader)?.load_override(env)

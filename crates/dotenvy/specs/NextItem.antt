@@ -1,0 +1,65 @@
+-- What the next item is, and what it leaves.
+use Rattle.std.specs.Prelude.{ℕ, ◌≡◌, ◌⊎◌, List, [], ◌∷◌, Option, Some, None, Result, Ok, Err, unwrap_or, string_bytes}
+use Rattle.std.specs.Str.{chars}
+use Rattle.std.specs.IoError.{error_kind}
+use Rattle.std.specs.declared.string.String.{String}
+use Rattle.dotenvy.specs.declared.errors.Error.{Error}
+use Rattle.dotenvy.specs.declared.lines.Stage.TheVariants.{Open, Ended}
+use Rattle.dotenvy.specs.Errors.{IsMemory, IsNulOf, IsIoOf, IsLineParseOf}
+use Rattle.dotenvy.specs.Entries.{Failure, LineParse, Io, Nul, Memory, Entry, Declares, Fails}
+use Rattle.dotenvy.specs.Items.{LookUp, meaning, with_value}
+use Rattle.dotenvy.specs.Environment.{Texts}
+use Rattle.dotenvy.specs.Names.{recalled_of, names_of}
+use Rattle.dotenvy.specs.Source.{Ahead}
+use Rattle.dotenvy.specs.Input.{IsTold, ReadsFit}
+use Rattle.dotenvy.specs.Lines.{GoesOn, FailsFor}
+use Rattle.dotenvy.specs.Reading.{HasLeft}
+use Rattle.dotenvy.specs.Iter.{IterState}
+
+-- the error says this failure
+abbrev pub IsFailure : {A : Type 0} → Failure → Error A → Type 0
+IsFailure (LineParse text index) e = IsLineParseOf text index e
+IsFailure (Io kind) e = IsIoOf (λ fault. error_kind fault ≡ kind) e
+IsFailure (Nul key) e = IsNulOf key e
+IsFailure Memory e = IsMemory e
+
+-- the item is what the entry says, where names stand for these texts
+abbrev pub IsItem : {A : Type 0} → LookUp → Entry → Result (String A × String A) (Error A) → Type 0
+IsItem look_up (Declares key pieces) (Ok pair) = (chars (string_bytes pair.0) ≡ key) × (chars (string_bytes pair.1) ≡ meaning look_up pieces)
+IsItem look_up (Declares key pieces) (Err e) = ⊥
+IsItem look_up (Fails failure) (Ok pair) = ⊥
+IsItem look_up (Fails failure) (Err e) = IsFailure failure e
+
+-- what a name stands for in a value: an absent one for the empty text
+abbrev pub text_of : LookUp → List ℕ → List ℕ
+text_of look_up name = unwrap_or (look_up name) []
+
+-- after a declaration its key stands for the value that it was given, and the other names for what they did; after a fault all do
+abbrev pub RemembersEntry : LookUp → LookUp → LookUp → Entry → Type 0
+RemembersEntry look_up old new (Declares key pieces) = (name : List ℕ) → text_of new name ≡ text_of (with_value old key (meaning look_up pieces)) name
+RemembersEntry look_up old new (Fails failure) = (name : List ℕ) → text_of new name ≡ text_of old name
+
+-- of these entries, which are those of what s has left, the first was taken, and t has the later ones left
+pub record TakesEntry (names : Texts) (a : Ahead) (s : IterState) (entries : List Entry) (entry : Entry) (t : IterState) : Type 0 where
+  pub later : List Entry
+  pub first : entries ≡ entry ∷ later
+  pub left : List ℕ
+  pub is_left : t.lines.input.left ≡ Some (record { bytes = left; fault = a.fault })
+  pub has_left : HasLeft s.dialect a.fault left later
+  pub goes_on : GoesOn t.lines
+  pub reads : ReadsFit a s.lines.input (record { bytes = left; fault = a.fault }) t.lines.input
+  pub remembers : RemembersEntry (names_of names s.remembered) (recalled_of s.remembered) (recalled_of t.remembered) entry
+  pub dialect : t.dialect ≡ s.dialect
+
+-- the item under this environment: the first of the entries left; none where there is none and no fault; or a fault of reading, which is told only where no entry is left
+abbrev pub ItemIs : {A : Type 0} → Texts → Ahead → IterState → List Entry → Option (Result (String A × String A) (Error A)) → IterState → Type 0
+ItemIs names a s entries None t = (entries ≡ []) × (a.fault ≡ None) × (t.lines.stage ≡ Ended)
+ItemIs names a s entries (Some item) t =
+    ((entry : Entry) × IsItem (names_of names s.remembered) entry item × TakesEntry names a s entries entry t)
+    ⊎ FailsFor a s.lines.input item (entries ≡ []) t.lines
+
+-- the same of every iterator: one that has ended or failed gives none, and stays as it is
+abbrev pub NextItem : {A : Type 0} → Texts → IterState → Option (Result (String A × String A) (Error A)) → IterState → Type 0
+NextItem names s item t =
+    (s.lines.stage ≡ Open → (a : Ahead) → IsTold s.lines.input.left a → (entries : List Entry) → HasLeft s.dialect a.fault a.bytes entries → ItemIs names a s entries item t)
+    × ((s.lines.stage ≡ Open → ⊥) → (item ≡ None) × (t ≡ s))
