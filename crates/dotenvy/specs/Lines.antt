@@ -62,9 +62,13 @@ pub record TakesNext (a : Ahead) (s : InputState) (next : Logical) (t : InputSta
   pub is_left : t.left ≡ Some (record { bytes = left; fault = a.fault })
   pub reads : ReadsFit a s (record { bytes = left; fault = a.fault }) t
 
--- no logical line is whole
-abbrev pub IsUndecided : Ahead → Type 0
-IsUndecided a = (count : ℕ) (next : Logical) → whole_lines a ≢ [] → IsNext (whole_lines a) count next → IsOpen next
+-- the physical lines of bytes whose end was not reached: those up to the last line feed
+abbrev pub lines_so_far : List ℕ → List (Option (List ℕ))
+lines_so_far bytes = line_texts (up_to_last_line_feed bytes)
+
+-- of bytes whose end was not reached no logical line is whole
+abbrev pub IsUndecided : List ℕ → Type 0
+IsUndecided bytes = (count : ℕ) (next : Logical) → lines_so_far bytes ≢ [] → IsNext (lines_so_far bytes) count next → IsOpen next
 
 -- a logical line as an answer: a text, empty for a line that is skipped
 abbrev pub TakesText : {A : Type 0} → Ahead → InputState → String A → InputState → Type 0
@@ -87,11 +91,11 @@ abbrev pub GoesOn : LinesState → Type 0
 GoesOn t = (t.stage ≡ stage_open) ⊎ ((t.stage ≡ Ended) × (t.input.left ≡ Some (record { bytes = []; fault = None })))
 
 -- the iterator has failed by a fault that is final: in what is told, no logical line comes whole before it
-abbrev pub FailsFor : {T A : Type 0} → Ahead → InputState → Result T (Error A) → Type 0 → LinesState → Type 0
+abbrev pub FailsFor : {T A : Type 0} → Ahead → InputState → Result T (Error A) → (List ℕ → Type 0) → LinesState → Type 0
 FailsFor a s (Ok x) P t = ⊥
 FailsFor a s (Err e) P t = (t.stage ≡ Failed) × IsFinal a s P e t.input
 
 -- an answer of an open iterator with a left
 abbrev pub NextIs : {A : Type 0} → Ahead → InputState → Option (Result (String A) (Error A)) → LinesState → Type 0
 NextIs a s None t = (a.bytes ≡ []) × (a.fault ≡ None) × (t.stage ≡ Ended)
-NextIs a s (Some r) t = (TakesAnswer a s r t.input × GoesOn t) ⊎ FailsFor a s r (IsUndecided a) t
+NextIs a s (Some r) t = (TakesAnswer a s r t.input × GoesOn t) ⊎ FailsFor a s r IsUndecided t
