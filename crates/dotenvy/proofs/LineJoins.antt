@@ -26,7 +26,7 @@ use Rattle.dotenvy.specs.LogicalLine.{Skip, Text, Open, Broken, IsNext, IsSkippe
 use Rattle.dotenvy.specs.LineModes.{walk, going, ended}
 use Rattle.dotenvy.specs.Source.{Ahead}
 use Rattle.dotenvy.specs.Input.{InputState, IsTold, ReadsFit, IsFinal, TakesLine, end_reads}
-use Rattle.dotenvy.specs.Lines.{whole_before, whole_lines, lines_so_far, IsOpen, TakesNext, IsUndecided, GoesOn, NextIs}
+use Rattle.dotenvy.specs.Lines.{whole_before, whole_lines, lines_so_far, IsOpen, IsNextAlways, TakesNext, IsUndecided, GoesOn, NextIs}
 use Rattle.dotenvy.specs.JoinedLines.{joined_at_end, TakesJoined, stage_after, Answers}
 use Rattle.dotenvy.proofs.Scans as scans
 use Rattle.dotenvy.proofs.Scans.{stops, scan, scan-reads, Reads, Read}
@@ -107,12 +107,12 @@ parts b t v line some k = at k.is_line
         }
 
 -- nothing was left
-none_parts : (b : Ahead) (t v : InputState) → (k : TakesLine b t [] v) → (b.bytes ≡ []) × (k.left ≡ []) × (b.fault ≡ None)
+none_parts : (b : Ahead) (t v : InputState) → (k : TakesLine b t [] v) → (b.bytes ≡ []) × (k.left ≡ []) × (b.fault ≡ None) × (v.at_end ≡ true)
 none_parts b t v k = at k.is_line
   where
-    at : (is_whole_line [] ≡ true) ⊎ ((no_line_feed [] ≡ true) × (k.left ≡ []) × (b.fault ≡ None) × (v.at_end ≡ true)) → (b.bytes ≡ []) × (k.left ≡ []) × (b.fault ≡ None)
+    at : (is_whole_line [] ≡ true) ⊎ ((no_line_feed [] ≡ true) × (k.left ≡ []) × (b.fault ≡ None) × (v.at_end ≡ true)) → (b.bytes ≡ []) × (k.left ≡ []) × (b.fault ≡ None) × (v.at_end ≡ true)
     at (inl whole) = let f : false ≡ true = whole in cc
-    at (inr (none, empty, fault, at_last)) = (k.joins ∙ empty, empty, fault)
+    at (inr (none, empty, fault, at_last)) = (k.joins ∙ empty, empty, fault, at_last)
 
 -- the bytes are whole lines with these texts, and whatever follows them is other lines
 pub record AreWhole (used : List ℕ) (taken : List (List ℕ)) (seen : List ℕ) : Type 0 where
@@ -235,14 +235,63 @@ nothing_left : (line left : List ℕ) → line ≢ [] → line ++ left ≢ []
 nothing_left [] left some h = some refl
 nothing_left (c ∷ line) left some h = cc
 
+lines_first : (line more : List ℕ) → is_whole_line line ≡ true → lines_so_far (line ++ more) ≡ line_text line ∷ lines_so_far more
+lines_first line more w = ap line_texts (up_to_whole line more w) ∙ ap (map line_text) (whole_line line (up_to_last_line_feed more) w)
+
 -- one more whole line
 more_whole : (used line : List ℕ) (taken : List (List ℕ)) (seen : List ℕ) → IsUtf8 line → is_whole_line line ≡ true → AreWhole used taken seen → AreWhole (used ++ line) (taken ++ chars line ∷ []) (seen ++ chars line)
 more_whole used line taken seen u w h = record {
   ends = inr (ends_join seen (chars line) (whole_ends (chars line) (whole_chars line (is_utf8-from_IsUtf8 line u) w)));
   lines = λ more. ap lines_so_far (append_assoc used line more) ∙ h.lines (line ++ more)
-      ∙ ap (λ ls. map Some taken ++ ls) (ap line_texts (up_to_whole line more w) ∙ ap (map line_text) (whole_line line (up_to_last_line_feed more) w) ∙ ap (λ l. l ∷ lines_so_far more) (text_of line u))
+      ∙ ap (λ ls. map Some taken ++ ls) (lines_first line more w ∙ ap (λ l. l ∷ lines_so_far more) (text_of line u))
       ∙ one_more taken (chars line) (lines_so_far more);
 }
+
+-- before a line the end was not read
+whole_so_far : (a : Ahead) (s t v : InputState) (seen line : List ℕ) (m : LineMode) → line ≢ [] → (j : Joining a s seen m t) → TakesLine (ahead_of j.left a.fault) t line v → AreWhole j.used j.taken seen
+whole_so_far a s t v seen line m some j k = elim j.ends [ inl f ↦ absurd (nothing_left line k.left some (sym k.joins ∙ f.1)) | inr h ↦ h ]
+
+some_texts : (taken : List (List ℕ)) (ls : Lines) → taken ≢ [] → map Some taken ++ ls ≢ []
+some_texts [] ls some h = some refl
+some_texts (t ∷ taken) ls some h = cc
+
+some_taken : (taken : List (List ℕ)) (t : List ℕ) → taken ++ t ∷ [] ≢ []
+some_taken [] t h = cc
+some_taken (u ∷ taken) t h = cc
+
+-- the first line alone tells whether it is skipped
+skipped_same : (taken : List (List ℕ)) (ls ms : Lines) → taken ≢ [] → IsSkipped (map Some taken ++ ls) → IsSkipped (map Some taken ++ ms)
+skipped_same [] ls ms some h = absurd (some refl)
+skipped_same (t ∷ taken) ls ms some h = h
+
+skipped_before_broken : (taken : List (List ℕ)) (ls ms : Lines) → IsSkipped (map Some taken ++ None ∷ ls) → IsSkipped (map Some taken ++ None ∷ ms)
+skipped_before_broken [] ls ms h = h
+skipped_before_broken (t ∷ taken) ls ms h = h
+
+-- whole lines stay what they are, whatever follows them
+text_always : (bytes : List ℕ) (taken : List (List ℕ)) (text : List ℕ) (ls : Lines) → taken ≢ [] → ((more : List ℕ) → lines_so_far (bytes ++ more) ≡ map Some taken ++ lines_so_far more) → ¬ (IsSkipped (map Some taken ++ ls)) → ((last : Type 0) → IsWhole (concat taken) text last) → IsNextAlways bytes (length taken) (Text text)
+text_always bytes taken text ls some lines shown whole = λ more.
+    let e = lines more in
+    let ms = lines_so_far more in (
+      λ h. some_texts taken ms some (sym e ∙ h),
+      subst (λ l. IsNext l (length taken) (Text text)) (sym e) (next-text taken ms text (λ h. shown (skipped_same taken ms ls some h)) (whole (length taken ≡ length (map Some taken ++ ms)))),
+      ap (drop (length taken)) e ∙ left_after taken ms,
+    )
+
+skip_always : (bytes text : List ℕ) → ((more : List ℕ) → lines_so_far (bytes ++ more) ≡ Some text ∷ lines_so_far more) → begins_with hash (skip_leading_whitespace text) ≡ true → IsNextAlways bytes 1 Skip
+skip_always bytes text lines comment = λ more.
+    let e = lines more in
+    let ms = lines_so_far more in
+    (λ h. some_after [] (Some text) ms (sym e ∙ h), subst (λ l. IsNext l 1 Skip) (sym e) (next-skip text ms comment), ap (drop 1) e)
+
+broken_always : (bytes : List ℕ) (taken : List (List ℕ)) (m : LineMode) (ls : Lines) → ((more : List ℕ) → lines_so_far (bytes ++ more) ≡ map Some taken ++ None ∷ lines_so_far more) → ¬ (IsSkipped (map Some taken ++ None ∷ ls)) → IsGoing (concat taken) m → IsNextAlways bytes (suc (length taken)) Broken
+broken_always bytes taken m ls lines shown goes = λ more.
+    let e = lines more in
+    let ms = lines_so_far more in (
+      λ h. some_after (map Some taken) None ms (sym e ∙ h),
+      subst (λ l. IsNext l (suc (length taken)) Broken) (sym e) (next-broken taken ms m (subst AreCut e (cut_line_texts (up_to_last_line_feed (bytes ++ more)))) (λ h. shown (skipped_before_broken taken ms ls h)) goes),
+      ap (drop (suc (length taken))) e ∙ left_after_broken taken ms,
+    )
 
 -- a line that goes on
 pub joining_goes : (a : Ahead) (s t v : InputState) (seen line : List ℕ) (m n : LineMode) → line ≢ [] → IsUtf8 line → (seen ≡ [] → begins_with hash (skip_leading_whitespace (chars line)) ≡ false) → walk m seen (chars line) ≡ going n → (j : Joining a s seen m t) → TakesLine (record { bytes = j.left; fault = a.fault }) t line v → Joining a s (seen ++ chars line) n v
@@ -259,7 +308,7 @@ joining_goes a s t v seen line m n some u comment walks j k =
       first = λ e. absurd (chars_some line u some (second_nil seen (chars line) e));
       used = j.used ++ line;
       joins = j.joins ∙ ap (λ l. j.used ++ l) k.joins ∙ sym (append_assoc j.used line k.left);
-      ends = elim p.ends [ inl f ↦ inl f | inr w ↦ elim j.ends [ inl f ↦ absurd (nothing_left line k.left some (sym k.joins ∙ f.1)) | inr h ↦ inr (more_whole j.used line j.taken seen u w h) ] ];
+      ends = elim p.ends [ inl f ↦ inl f | inr w ↦ inr (more_whole j.used line j.taken seen u w (whole_so_far a s t v seen line m some j k)) ];
       reads = fits_more a (ahead_of j.left a.fault) (ahead_of k.left a.fault) s t v j.reads k.reads;
     }
 
@@ -277,7 +326,17 @@ joining_ends a s t v seen line text m some u comment walks j k =
       some = λ h. some_after (map Some j.taken) (Some (chars line)) ls (sym p.lines ∙ h);
       is_next = subst (λ l. IsNext l (length all) (Text text)) (sym e) (next-text all ls text (λ h. shown (subst IsSkipped (sym e) h)) (subst (λ l. IsWhole l text last) (ap (λ l. l ++ chars line) j.joined ∙ sym (concat_more j.taken (chars line))) whole));
       open_at_end = λ h. absurd h;
+      used = j.used ++ line;
       left = k.left;
+      joins = j.joins ∙ ap (λ l. j.used ++ l) k.joins ∙ sym (append_assoc j.used line k.left);
+      stays = elim p.ends [
+        | inl f ↦ inl (f.2, f.1)
+        | inr w ↦ inr (
+          λ h. h,
+          text_always (j.used ++ line) all text ls (some_taken j.taken (chars line)) (more_whole j.used line j.taken seen u w (whole_so_far a s t v seen line m some j k)).lines (λ h. shown (subst IsSkipped (sym e) h))
+          (λ at_last. subst (λ l. IsWhole l text at_last) (ap (λ l. l ++ chars line) j.joined ∙ sym (concat_more j.taken (chars line))) (subst (IsWalked at_last seen (chars line)) walks (walk-is at_last m seen (chars line) j.is_going p.one))),
+        )
+      ];
       rest = p.rest ∙ ap (λ i. drop i (physical_lines a.bytes)) (sym (length_more j.taken (chars line)));
       later = sym (ap (drop (length all)) e ∙ left_after all ls);
       is_left = k.is_left;
@@ -294,7 +353,16 @@ joining_skips a s t v seen line m some u empty comment j k =
       some = λ h. some_after [] (Some (chars line)) ls (sym e ∙ h);
       is_next = subst (λ l. IsNext l 1 Skip) (sym e) (next-skip (chars line) ls comment);
       open_at_end = λ h. absurd h;
+      used = j.used ++ line;
       left = k.left;
+      joins = j.joins ∙ ap (λ l. j.used ++ l) k.joins ∙ sym (append_assoc j.used line k.left);
+      stays = elim p.ends [
+        | inl f ↦ inl (f.2, f.1)
+        | inr w ↦ inr (
+          λ h. h,
+          skip_always (j.used ++ line) (chars line) (λ more. (more_whole j.used line j.taken seen u w (whole_so_far a s t v seen line m some j k)).lines more ∙ ap (λ ts. map Some (ts ++ chars line ∷ []) ++ lines_so_far more) (j.first empty)) comment,
+        )
+      ];
       rest = p.rest ∙ ap (λ ts. drop (suc (length ts)) (physical_lines a.bytes)) (j.first empty);
       later = sym (ap (drop 1) e);
       is_left = k.is_left;
@@ -313,7 +381,17 @@ joining_breaks a s t v seen line m some broken j k =
       is_next = subst (λ l. IsNext l (suc (length j.taken)) Broken) (sym e)
           (next-broken j.taken ls m (subst AreCut e (cut_line_texts (whole_before a.fault a.bytes))) (λ h. shown (subst IsSkipped (sym e) h)) (subst (λ l. IsGoing l m) j.joined j.is_going));
       open_at_end = λ h. absurd h;
+      used = j.used ++ line;
       left = k.left;
+      joins = j.joins ∙ ap (λ l. j.used ++ l) k.joins ∙ sym (append_assoc j.used line k.left);
+      stays = elim n.ends [
+        | inl f ↦ inl (f.2, f.1)
+        | inr w ↦ inr (
+          λ h. h,
+          broken_always (j.used ++ line) j.taken m ls (λ more. ap lines_so_far (append_assoc j.used line more) ∙ (whole_so_far a s t v seen line m some j k).lines (line ++ more) ∙ ap (λ l. map Some j.taken ++ l) (lines_first line more w ∙ ap (λ l. l ∷ lines_so_far more) (no_text line broken)))
+          (λ h. shown (subst IsSkipped (sym e) h)) (subst (λ l. IsGoing l m) j.joined j.is_going),
+        )
+      ];
       rest = n.rest;
       later = sym (ap (drop (suc (length j.taken))) e ∙ left_after_broken j.taken ls);
       is_left = k.is_left;
@@ -343,7 +421,10 @@ joining_end a s t v seen m begun j k =
       is_next = subst (λ l. IsNext l (length j.taken) (at_input_end m seen)) (sym e) (subst (λ l. IsNext (map Some j.taken) (length j.taken) (at_input_end m l)) (sym j.joined)
           (at_end j.taken m lines (subst AreCut e (cut_line_texts (whole_before a.fault a.bytes))) (λ h. j.shown some (subst IsSkipped (sym e) h)) (subst (λ l. IsGoing l m) j.joined j.is_going)));
       open_at_end = λ h. n.2;
+      used = j.used;
       left = k.left;
+      joins = j.joins ∙ ap (λ l. j.used ++ l) (n.0 ∙ sym n.1);
+      stays = inl (n.3, n.1);
       rest = ap physical_lines (n.1 ∙ sym n.0) ∙ j.rest;
       later = ap (λ l. line_texts (whole_before a.fault l)) n.1 ∙ no_texts a.fault ∙ sym (ap (drop (length j.taken)) (e ∙ sym (append-nil (map Some j.taken))) ∙ left_after j.taken []);
       is_left = k.is_left;
