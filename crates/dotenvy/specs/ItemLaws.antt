@@ -41,14 +41,14 @@ pub record LoadsFresh {A : Type 0} (rule : Rule) (dialect : Dialect) (a : Ahead)
   pub not_refused : ¬ (IsMemoryErr answer)
 
 -- both environments have the same values
-abbrev pub HaveTheSame : Texts → Texts → Type 0
-HaveTheSame names others = (name : List ℕ) → values_of others name ≡ values_of names name
+abbrev pub HaveSameValues : Texts → Texts → Type 0
+HaveSameValues names others = (name : List ℕ) → values_of others name ≡ values_of names name
 
 -- two such loads from one environment leave the same values and answer the same
 abbrev pub LoadTheSame : Rule → Type 0 → Type 0
 LoadTheSame rule A =
     (dialect : Dialect) (a : Ahead) (old new other : Texts) (answer another : Result (Unit {0}) (Error A)) → IsReadable a →
-    LoadsFresh rule dialect a old answer new → LoadsFresh rule dialect a old another other → HaveTheSame new other × AnswerTheSame answer another
+    LoadsFresh rule dialect a old answer new → LoadsFresh rule dialect a old another other → HaveSameValues new other × AnswerTheSame answer another
 
 -- what a source tells decides items and loads
 abbrev pub CutsDoNotMatter : Type 0 → Type 0
@@ -67,7 +67,7 @@ LoadsTakeAll A = LoadsAllLeft load_result A × LoadsAllLeft override_result A
 abbrev pub LoadsAgain : Type 0 → Type 0
 LoadsAgain A =
     (dialect : Dialect) (a : Ahead) (old new newer : Texts) (answer another : Result (Unit {0}) (Error A)) → IsReadable a →
-    LoadsFresh load_result dialect a old answer new → LoadsFresh load_result dialect a new another newer → HaveTheSame new newer × AnswerTheSame answer another
+    LoadsFresh load_result dialect a old answer new → LoadsFresh load_result dialect a new another newer → HaveSameValues new newer × AnswerTheSame answer another
 
 -- there are no more entries than physical lines, and each entry is one item
 abbrev pub OneEntryALine : Type 0
