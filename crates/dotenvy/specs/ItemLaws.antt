@@ -60,6 +60,7 @@ LoadsAllLeft rule A =
     (s : IterState) (a : Ahead) (old new : Texts) (answer : Result (Unit {0}) (Error A)) (entries : List Entry) → CanRead s a → HasLeft s.dialect a.fault (without_mark a.bytes) entries →
     LoadsLeft rule s old answer new → ¬ (IsMemoryErr answer) → Leaves (rule (values_of old) (recalled_of s.remembered) (entries ++ told_fault a.fault)) new answer
 
+-- of both loads
 abbrev pub LoadsTakeAll : Type 0 → Type 0
 LoadsTakeAll A = LoadsAllLeft load_result A × LoadsAllLeft override_result A
 
