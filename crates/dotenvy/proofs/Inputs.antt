@@ -225,14 +225,17 @@ fault_before a b s t v P Q used x joins fault fits weaker (inl f) = inl (fault �
 fault_before a b s t v P Q used x joins fault fits weaker (inr (kind, met)) =
     let all = ap length joins in
     let each = met.each_gave in
-    inr (kind, record {
-      front = used ++ met.front;
-      later = met.later;
-      cut = joins ∙ ap (λ l. used ++ l) met.cut ∙ sym (append_assoc used met.front met.later);
-      holds = weaker met.front met.later met.cut (inr each) met.holds;
-      none_left = met.none_left;
-      each_gave = omega (arith, fits, each, all, length-append used b.bytes, length-append used met.front);
-    })
+    inr (
+      kind,
+      record {
+        front = used ++ met.front;
+        later = met.later;
+        cut = joins ∙ ap (λ l. used ++ l) met.cut ∙ sym (append_assoc used met.front met.later);
+        holds = weaker met.front met.later met.cut (inr each) met.holds;
+        none_left = met.none_left;
+        each_gave = omega (arith, fits, each, all, length-append used b.bytes, length-append used met.front);
+      },
+    )
 
 -- so of a final fault
 pub final_before : {A : Type 0} (a b : Ahead) (s t v : InputState) (P Q : List ℕ → Type 0) (used : List ℕ) (e : Error A) → a.bytes ≡ used ++ b.bytes → a.fault ≡ b.fault → ReadsFit a s b t →

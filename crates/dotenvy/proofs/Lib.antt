@@ -35,3 +35,6 @@ pub mod LineTexts
 pub mod LineJoins
 pub mod LineEntries
 pub mod LinePasses
+pub mod ItemRuns
+pub mod WholeLoads
+pub mod LineCounts

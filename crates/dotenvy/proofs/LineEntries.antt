@@ -11,12 +11,17 @@ use Rattle.dotenvy.specs.Source.{Ahead}
 use Rattle.dotenvy.specs.Input.{InputState}
 use Rattle.dotenvy.specs.Reading.{HasLeft}
 use Rattle.dotenvy.specs.Lines.{IsOpen, lines_so_far, IsNextAlways, TakesNext, IsUndecided}
-use Rattle.dotenvy.proofs.EntriesOnce.{lines_within, cut_line_texts, entries_once}
-use Rattle.dotenvy.proofs.DecidedFront.{decided_once}
+use Rattle.dotenvy.proofs.EntriesOnce.{lines_within, cut_line_texts, entries_exist, entries_once}
+use Rattle.dotenvy.proofs.DecidedFront.{decided_exist, decided_once}
 use Rattle.dotenvy.proofs.NextEntries.{entries-none}
 
 abbrev ahead_of : List ℕ → Option ErrorKind → Ahead
 ahead_of bytes fault = record { bytes = bytes; fault = fault }
+
+-- there are entries of what is left
+pub left_exists : (dialect : Dialect) (fault : Option ErrorKind) (bytes : List ℕ) → (entries : List Entry) × HasLeft dialect fault bytes entries
+left_exists dialect None bytes = entries_exist dialect bytes
+left_exists dialect (Some kind) bytes = decided_exist dialect bytes
 
 -- there is one list of them
 pub left_once : (dialect : Dialect) (fault : Option ErrorKind) (bytes : List ℕ) (entries others : List Entry) → HasLeft dialect fault bytes entries → HasLeft dialect fault bytes others → entries ≡ others
@@ -72,3 +77,8 @@ decided-none dialect bytes undecided = at has.0 has.1
     at : (lines : List Logical) → AreLogicalLines (lines_so_far bytes) lines → HasDecided dialect bytes []
     at [] are = record { lines = []; are_lines = are; give = refl }
     at (next ∷ lines) are = first next lines are (undecided are.1 next are.0 are.2)
+
+-- so nothing is left before a fault that is told
+pub left-fault : (dialect : Dialect) (fault : Option ErrorKind) (kind : ErrorKind) (bytes : List ℕ) (entries : List Entry) → fault ≡ Some kind → HasLeft dialect fault bytes entries → HasDecided dialect bytes [] → entries ≡ []
+left-fault dialect None kind bytes entries is has none = absurd (none-some kind is)
+left-fault dialect (Some told) kind bytes entries is has none = decided_once dialect bytes entries [] has none

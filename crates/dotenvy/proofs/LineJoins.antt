@@ -334,7 +334,7 @@ joining_ends a s t v seen line text m some u comment walks j k =
         | inr w ↦ inr (
           λ h. h,
           text_always (j.used ++ line) all text ls (some_taken j.taken (chars line)) (more_whole j.used line j.taken seen u w (whole_so_far a s t v seen line m some j k)).lines (λ h. shown (subst IsSkipped (sym e) h))
-          (λ at_last. subst (λ l. IsWhole l text at_last) (ap (λ l. l ++ chars line) j.joined ∙ sym (concat_more j.taken (chars line))) (subst (IsWalked at_last seen (chars line)) walks (walk-is at_last m seen (chars line) j.is_going p.one))),
+              (λ at_last. subst (λ l. IsWhole l text at_last) (ap (λ l. l ++ chars line) j.joined ∙ sym (concat_more j.taken (chars line))) (subst (IsWalked at_last seen (chars line)) walks (walk-is at_last m seen (chars line) j.is_going p.one))),
         )
       ];
       rest = p.rest ∙ ap (λ i. drop i (physical_lines a.bytes)) (sym (length_more j.taken (chars line)));
@@ -389,7 +389,7 @@ joining_breaks a s t v seen line m some broken j k =
         | inr w ↦ inr (
           λ h. h,
           broken_always (j.used ++ line) j.taken m ls (λ more. ap lines_so_far (append_assoc j.used line more) ∙ (whole_so_far a s t v seen line m some j k).lines (line ++ more) ∙ ap (λ l. map Some j.taken ++ l) (lines_first line more w ∙ ap (λ l. l ∷ lines_so_far more) (no_text line broken)))
-          (λ h. shown (subst IsSkipped (sym e) h)) (subst (λ l. IsGoing l m) j.joined j.is_going),
+              (λ h. shown (subst IsSkipped (sym e) h)) (subst (λ l. IsGoing l m) j.joined j.is_going),
         )
       ];
       rest = n.rest;

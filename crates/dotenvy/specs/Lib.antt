@@ -27,7 +27,9 @@ pub mod Names
 pub mod Reading
 pub mod NextItem
 pub mod LoadsLeft
+pub mod ItemRuns
 pub mod Laws
+pub mod ItemLaws
 pub mod WorkedFiles
 pub mod WorkedLoads
 pub mod WorkedSearches
