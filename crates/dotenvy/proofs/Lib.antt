@@ -37,3 +37,4 @@ pub mod LineEntries
 pub mod LinePasses
 pub mod LookUps
 pub mod LineItems
+pub mod NextItems
