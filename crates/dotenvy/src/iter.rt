@@ -114,7 +114,10 @@ impl<R: Source, A: Allocator + Clone> Iter<R, A> {
     ///     let (key, value) = item?;
     /// }
     /// ```
-    pub fn items<'a>(&'a mut self, env: &'a Environment<A>) -> Items<'a, R, A> {
+    pub fn items<'a>(&'a mut self, env: &'a Environment<A>) -> Items<'a, R, A>
+        ensures file { (result.file.now ≡ self.old) × (result.file.ghost_name ≡ self.entry.ghost_name) }
+        ensures env { result.env.now ≡ env.now }
+    {
         Items { file: self, env }
     }
 
@@ -214,7 +217,7 @@ pub struct Items<'a, R: Source, A: Allocator = Global> {
 impl<'a, R: Source, A: Allocator + Clone> Iterator for Items<'a, R, A> {
     type Item = Result<(String<A>, String<A>), A>;
 
-    ghost next_gives = { λ s item t. NextItem s.env.now.names s.file.now item t.file.now };
+    ghost next_gives = { λ s item t. NextItem s.env.now.names s.file.now item t.file.now × (t.file.ghost_name ≡ s.file.ghost_name) × (t.env.now ≡ s.env.now) };
 
     ghost remaining = { λ s. at_most (item_fuel s.file.now) };
 
