@@ -26,6 +26,7 @@ pub mod Iter
 pub mod Names
 pub mod Reading
 pub mod NextItem
+pub mod LineItem
 pub mod LoadsLeft
 pub mod ItemRuns
 pub mod Laws
