@@ -26,7 +26,7 @@ use Rattle.dotenvy.specs.LogicalLine.{Skip, Text, Open, Broken, IsNext, IsSkippe
 use Rattle.dotenvy.specs.LineModes.{walk, going, ended}
 use Rattle.dotenvy.specs.Source.{Ahead}
 use Rattle.dotenvy.specs.Input.{InputState, IsTold, ReadsFit, IsFinal, TakesLine, end_reads}
-use Rattle.dotenvy.specs.Lines.{whole_before, whole_lines, lines_so_far, IsOpen, IsNextAlways, TakesNext, IsUndecided, GoesOn, NextIs}
+use Rattle.dotenvy.specs.Lines.{whole_before, whole_lines, lines_so_far, IsOpen, IsAtEnd, IsNextAlways, TakesNext, IsUndecided, GoesOn, NextIs}
 use Rattle.dotenvy.specs.JoinedLines.{joined_at_end, TakesJoined, stage_after, Answers}
 use Rattle.dotenvy.proofs.Scans as scans
 use Rattle.dotenvy.proofs.Scans.{stops, scan, scan-reads, Reads, Read}
@@ -74,10 +74,6 @@ last_line_texts (Some kind) line h e = absurd (none-some kind (sym e))
 no_texts : (fault : Option ErrorKind) → line_texts (whole_before fault []) ≡ []
 no_texts None = refl
 no_texts (Some kind) = refl
-
--- the end was read, and nothing is left
-abbrev pub IsAtEnd : Option ErrorKind → List ℕ → InputState → Type 0
-IsAtEnd fault left t = (fault ≡ None) × (left ≡ []) × (t.at_end ≡ true)
 
 -- the line that was taken, and those that are left
 record Parts (b : Ahead) (line left : List ℕ) (v : InputState) : Type 0 where
@@ -330,7 +326,7 @@ joining_ends a s t v seen line text m some u comment walks j k =
       left = k.left;
       joins = j.joins ∙ ap (λ l. j.used ++ l) k.joins ∙ sym (append_assoc j.used line k.left);
       stays = elim p.ends [
-        | inl f ↦ inl (f.2, f.1)
+        | inl f ↦ inl f
         | inr w ↦ inr (
           λ h. h,
           text_always (j.used ++ line) all text ls (some_taken j.taken (chars line)) (more_whole j.used line j.taken seen u w (whole_so_far a s t v seen line m some j k)).lines (λ h. shown (subst IsSkipped (sym e) h))
@@ -357,7 +353,7 @@ joining_skips a s t v seen line m some u empty comment j k =
       left = k.left;
       joins = j.joins ∙ ap (λ l. j.used ++ l) k.joins ∙ sym (append_assoc j.used line k.left);
       stays = elim p.ends [
-        | inl f ↦ inl (f.2, f.1)
+        | inl f ↦ inl f
         | inr w ↦ inr (
           λ h. h,
           skip_always (j.used ++ line) (chars line) (λ more. (more_whole j.used line j.taken seen u w (whole_so_far a s t v seen line m some j k)).lines more ∙ ap (λ ts. map Some (ts ++ chars line ∷ []) ++ lines_so_far more) (j.first empty)) comment,
@@ -385,7 +381,7 @@ joining_breaks a s t v seen line m some broken j k =
       left = k.left;
       joins = j.joins ∙ ap (λ l. j.used ++ l) k.joins ∙ sym (append_assoc j.used line k.left);
       stays = elim n.ends [
-        | inl f ↦ inl (f.2, f.1)
+        | inl f ↦ inl f
         | inr w ↦ inr (
           λ h. h,
           broken_always (j.used ++ line) j.taken m ls (λ more. ap lines_so_far (append_assoc j.used line more) ∙ (whole_so_far a s t v seen line m some j k).lines (line ++ more) ∙ ap (λ l. map Some j.taken ++ l) (lines_first line more w ∙ ap (λ l. l ∷ lines_so_far more) (no_text line broken)))
@@ -424,7 +420,7 @@ joining_end a s t v seen m begun j k =
       used = j.used;
       left = k.left;
       joins = j.joins ∙ ap (λ l. j.used ++ l) (n.0 ∙ sym n.1);
-      stays = inl (n.3, n.1);
+      stays = inl (n.2, n.1, n.3);
       rest = ap physical_lines (n.1 ∙ sym n.0) ∙ j.rest;
       later = ap (λ l. line_texts (whole_before a.fault l)) n.1 ∙ no_texts a.fault ∙ sym (ap (drop (length j.taken)) (e ∙ sym (append-nil (map Some j.taken))) ∙ left_after j.taken []);
       is_left = k.is_left;

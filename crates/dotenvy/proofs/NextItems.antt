@@ -1,5 +1,5 @@
 -- The next item: the lines that add nothing are passed, and the first that adds one gives it.
-use Rattle.std.proofs.Common.{◌≡◌, ◌≢◌, ℕ, true, false, List, [], ◌∷◌, ◌++◌, Option, Some, None, Result, Ok, Err, ◌⊎◌, inl, inr, refl, sym, ◌∙◌, ap, subst, arith, string_bytes}
+use Rattle.std.proofs.Common.{◌≡◌, ◌≢◌, ℕ, ◌+◌, ◌≤◌, true, false, List, [], ◌∷◌, ◌++◌, length, length-append, append_assoc, Option, Some, None, Result, Ok, Err, ◌⊎◌, inl, inr, refl, sym, ◌∙◌, ap, subst, arith, string_bytes}
 use Rattle.std.specs.Str.{chars}
 use Rattle.std.specs.declared.string.String.{String}
 use Rattle.std.specs.declared.io.Error.{Error as IoError}
@@ -16,20 +16,20 @@ use Rattle.dotenvy.specs.Errors.{IsMemoryErr}
 use Rattle.dotenvy.specs.LogicalLine.{Logical, Skip, Text, Open as OpenEnd, Broken}
 use Rattle.dotenvy.specs.Line.{Outcome, Nothing, Pair, Fault, Says}
 use Rattle.dotenvy.specs.Entries.{Entry, Fails, LineParse as FailsLine, Io as FailsIo, outcome_entries, Gives}
+use Rattle.dotenvy.specs.PhysicalLines.{line_texts}
+use Rattle.dotenvy.specs.Decided.{HasDecided}
 use Rattle.dotenvy.specs.Environment.{Texts}
 use Rattle.dotenvy.specs.Remembered.{Remembered}
 use Rattle.dotenvy.specs.Source.{Ahead}
-use Rattle.dotenvy.specs.Input.{InputState, IsTold, ReadsFit, IsReadFault, IsFinal}
-use Rattle.dotenvy.specs.Lines.{LinesState, TakesNext, TakesAnswer, IsUndecided, GoesOn, FailsFor, NextIs}
+use Rattle.dotenvy.specs.Input.{InputState, IsTold, ReadsFit, IsFinal, end_reads}
+use Rattle.dotenvy.specs.Lines.{LinesState, whole_lines, lines_so_far, IsOpen, IsAtEnd, IsNextAlways, TakesNext, TakesAnswer, IsUndecided, GoesOn, FailsFor, NextIs}
 use Rattle.dotenvy.specs.Reading.{HasLeft}
 use Rattle.dotenvy.specs.Names.{names_of, recalled_of}
 use Rattle.dotenvy.specs.Iter.{IterState}
-use Rattle.dotenvy.specs.NextItem.{IsItem, text_of, RemembersEntry, TakesEntry, ItemIs}
+use Rattle.dotenvy.specs.NextItem.{IsItem, text_of, RemembersEntry, DecideFirst, TakesEntry, ItemIs}
 use Rattle.dotenvy.specs.LineItem.{lines_after, AddsEntries, IsRefused, AddsLine}
-use Rattle.dotenvy.proofs.Inputs.{fits_more, bound_before, io_weaker}
-use Rattle.dotenvy.proofs.EntriesOnce.{entries_exist}
-use Rattle.dotenvy.proofs.DecidedFront.{decided_exist}
-use Rattle.dotenvy.proofs.LineEntries.{left_once, left-none, left-next, left-undecided}
+use Rattle.dotenvy.proofs.Inputs.{fits_more, final_before}
+use Rattle.dotenvy.proofs.LineEntries.{left_once, left_exists, left-none, left-next, decided-next, decided-none}
 use Rattle.dotenvy.proofs.Outcomes.{one_outcome}
 
 abbrev ahead_of : List ℕ → Option ErrorKind → Ahead
@@ -37,7 +37,10 @@ ahead_of bytes fault = record { bytes = bytes; fault = fault }
 
 -- from s, where these entries are left, lines that add nothing were passed
 pub record Passed (a : Ahead) (s : IterState) (entries : List Entry) (t : IterState) : Type 0 where
+  pub used : List ℕ
   pub left : List ℕ
+  pub joins : a.bytes ≡ used ++ left
+  pub stays : IsAtEnd a.fault left t.lines.input ⊎ DecideFirst s.dialect used []
   pub is_left : t.lines.input.left ≡ Some (record { bytes = left; fault = a.fault })
   pub has_left : HasLeft s.dialect a.fault left entries
   pub goes_on : GoesOn t.lines
@@ -48,7 +51,10 @@ pub record Passed (a : Ahead) (s : IterState) (entries : List Entry) (t : IterSt
 -- at first none
 pub none_passed : (a : Ahead) (s : IterState) (entries : List Entry) → s.lines.stage ≡ Open → s.lines.input.left ≡ Some a → HasLeft s.dialect a.fault a.bytes entries → Passed a s entries s
 none_passed a s entries is_open told has = record {
+  used = [];
   left = a.bytes;
+  joins = refl;
+  stays = inr (λ more decided has. has);
   is_left = told;
   has_left = has;
   goes_on = inl is_open;
@@ -76,14 +82,10 @@ passed_all a s t u entries p shut told = at p.goes_on
         let not_open : t.lines.stage ≢ Open = λ h. (let f : Ended ≡ Open = sym ended ∙ h in cc) in
         (no_entries s.dialect a.fault p.left entries p.has_left (ap (λ b. b.bytes) same) (ap (λ b. b.fault) same), ap (λ b. b.fault) same, ap (λ l. l.stage) (shut not_open) ∙ ended)
 
-left_exist : (dialect : Dialect) (fault : Option ErrorKind) (bytes : List ℕ) → (entries : List Entry) × HasLeft dialect fault bytes entries
-left_exist dialect None bytes = entries_exist dialect bytes
-left_exist dialect (Some kind) bytes = decided_exist dialect bytes
-
 -- a logical line was taken: the entries left are its own, and then those of what it leaves
 took : (dialect : Dialect) (fault : Option ErrorKind) (bytes : List ℕ) (entries : List Entry) (s t : InputState) (next : Logical) (front : List Entry) → (k : TakesNext (record { bytes = bytes; fault = fault }) s next t) → Gives dialect next front → HasLeft dialect fault bytes entries → (later : List Entry) × HasLeft dialect fault k.left later × (entries ≡ front ++ later)
 took dialect fault bytes entries s t next front k gives has =
-    let l = left_exist dialect fault k.left in
+    let l = left_exists dialect fault k.left in
     (l.0, l.1, left_once dialect fault bytes entries (front ++ l.0) has (left-next dialect fault bytes s t next front l.0 k gives l.1))
 
 -- what one more line leads to: an item, or all that was passed
@@ -91,11 +93,33 @@ abbrev pub LeadsTo : {A : Type 0} → Texts → Ahead → IterState → List Ent
 LeadsTo names a s entries None v = Passed a s entries v
 LeadsTo names a s entries (Some item) v = ItemIs names a s entries (Some item) v
 
+-- with one more logical line
+decide_more : (dialect : Dialect) (used bytes : List ℕ) (count : ℕ) (next : Logical) (front : List Entry) → DecideFirst dialect used [] → (IsOpen next → ⊥) → IsNextAlways bytes count next → Gives dialect next front → DecideFirst dialect (used ++ bytes) front
+decide_more dialect used bytes count next front first no_open always gives more decided has =
+    subst (λ all. HasDecided dialect all (front ++ decided)) (sym (append_assoc used bytes more)) (first (bytes ++ more) (front ++ decided) (decided-next dialect bytes more count next front decided no_open always gives has))
+
+no_lines : (fault : Option ErrorKind) (left : List ℕ) → left ≡ [] → whole_lines (ahead_of left fault) ≡ []
+no_lines None left empty = ap line_texts empty
+no_lines (Some kind) left empty = ap lines_so_far empty
+
+-- the bytes before which a line was taken decide what was passed
+passed_stays : (a : Ahead) (s t : IterState) (entries : List Entry) (next : Logical) (m : InputState) → (p : Passed a s entries t) → TakesNext (record { bytes = p.left; fault = a.fault }) t.lines.input next m → DecideFirst s.dialect p.used []
+passed_stays a s t entries next m p k = elim p.stays [ inl ended ↦ absurd (k.some (no_lines a.fault p.left ended.1)) | inr first ↦ first ]
+
+taken_stays : (a : Ahead) (s t : IterState) (entries front : List Entry) (next : Logical) (m : InputState) → (p : Passed a s entries t) → (k : TakesNext (record { bytes = p.left; fault = a.fault }) t.lines.input next m) → Gives s.dialect next front → IsAtEnd a.fault k.left m ⊎ DecideFirst s.dialect (p.used ++ k.used) front
+taken_stays a s t entries front next m p k gives = elim k.stays [ inl ended ↦ inl ended | inr always ↦ inr (decide_more s.dialect p.used k.used k.count next front (passed_stays a s t entries next m p k) always.0 always.1 gives) ]
+
+taken_joins : (a : Ahead) (s t : IterState) (entries : List Entry) (next : Logical) (m : InputState) → (p : Passed a s entries t) → (k : TakesNext (record { bytes = p.left; fault = a.fault }) t.lines.input next m) → a.bytes ≡ (p.used ++ k.used) ++ k.left
+taken_joins a s t entries next m p k = p.joins ∙ ap (λ bytes. p.used ++ bytes) k.joins ∙ sym (append_assoc p.used k.used k.left)
+
 -- a line whose own entries are these was taken
 added : {A : Type 0} (names : Texts) (a : Ahead) (s t v : IterState) (m : LinesState) (entries front : List Entry) (next : Logical) (item : Option (Result (String A × String A) (Error A))) → (p : Passed a s entries t) → TakesNext (record { bytes = p.left; fault = a.fault }) t.lines.input next m.input → GoesOn m → Gives s.dialect next front → AddsEntries names s.remembered front item v.remembered → v.lines ≡ m → v.dialect ≡ s.dialect → LeadsTo names a s entries item v
 added names a s t v m entries [] next None p k goes_on gives adds lines dialect =
     let l = took s.dialect a.fault p.left entries t.lines.input m.input next [] k gives p.has_left in record {
+      used = p.used ++ k.used;
       left = k.left;
+      joins = taken_joins a s t entries next m.input p k;
+      stays = subst (λ n. IsAtEnd a.fault k.left n.input ⊎ DecideFirst s.dialect (p.used ++ k.used) []) (sym lines) (taken_stays a s t entries [] next m.input p k gives);
       is_left = ap (λ n. n.input.left) lines ∙ k.is_left;
       has_left = subst (HasLeft s.dialect a.fault k.left) (sym l.2) l.1;
       goes_on = subst GoesOn (sym lines) goes_on;
@@ -113,7 +137,10 @@ added names a s t v m entries (entry ∷ later) next (Some item) p k goes_on giv
       record {
         later = l.0;
         first = l.2 ∙ ap (λ es. entry ∷ (es ++ l.0)) one;
+        used = p.used ++ k.used;
         left = k.left;
+        joins = taken_joins a s t entries next m.input p k;
+        stays = subst (λ n. IsAtEnd a.fault k.left n.input ⊎ DecideFirst s.dialect (p.used ++ k.used) (entry ∷ [])) (sym lines) (subst (λ es. IsAtEnd a.fault k.left m.input ⊎ DecideFirst s.dialect (p.used ++ k.used) (entry ∷ es)) one (taken_stays a s t entries (entry ∷ later) next m.input p k gives));
         is_left = ap (λ n. n.input.left) lines ∙ k.is_left;
         has_left = l.1;
         goes_on = subst GoesOn (sym lines) goes_on;
@@ -159,18 +186,24 @@ after_input (EnvVar e) m = refl
 after_input (Nul key) m = refl
 after_input (Memory e) m = refl
 
-none_decided : (dialect : Dialect) (fault : Option ErrorKind) (kind : ErrorKind) (left : List ℕ) (entries : List Entry) → HasLeft dialect fault left entries → fault ≡ Some kind → IsUndecided (record { bytes = left; fault = fault }) → entries ≡ []
-none_decided dialect fault kind left entries has is undecided = left_once dialect (Some kind) left entries [] (subst (λ f. HasLeft dialect f left entries) is has) (left-undecided dialect kind left (subst (λ f. IsUndecided (ahead_of left f)) is undecided))
+-- where no logical line is whole before a fault, nothing more is decided
+none_decided : (dialect : Dialect) (fault : Option ErrorKind) (kind : ErrorKind) (t : InputState) (used left front later : List ℕ) → left ≡ front ++ later → (fault ≡ Some kind) ⊎ (t.reads + t.unread + end_reads t.at_end ≤ length front) → IsAtEnd fault left t ⊎ DecideFirst dialect used [] → IsUndecided front → HasDecided dialect (used ++ front) []
+none_decided dialect fault kind t used left front later cut why (inr first) undecided = first front [] (decided-none dialect front undecided)
+none_decided dialect fault kind t used left front later cut (inl told) (inl ended) undecided = absurd (none-some kind (sym ended.0 ∙ told))
+none_decided dialect fault kind t used left front later cut (inr each) (inl ended) undecided =
+    let read = ap end_reads ended.2 in
+    let empty = ap length (sym cut ∙ ended.1) in
+    absurd (omega (arith, each, read, empty, length-append front later))
 
--- a final fault adds itself, and no entry is left where it is told
-final_added : {A : Type 0} (names : Texts) (a : Ahead) (s t v : IterState) (m : LinesState) (entries : List Entry) (e : Error A) → (p : Passed a s entries t) → FailsFor {T = String A} (record { bytes = p.left; fault = a.fault }) t.lines.input (Err e) (IsUndecided (record { bytes = p.left; fault = a.fault })) m → v.lines ≡ lines_after e m → LeadsTo names a s entries (Some (Err e)) v
+-- a final fault adds itself, and the bytes before it decide no entry
+final_added : {A : Type 0} (names : Texts) (a : Ahead) (s t v : IterState) (m : LinesState) (entries : List Entry) (e : Error A) → (p : Passed a s entries t) → FailsFor {T = String A} (record { bytes = p.left; fault = a.fault }) t.lines.input (Err e) IsUndecided m → v.lines ≡ lines_after e m → LeadsTo names a s entries (Some (Err e)) v
 final_added names a s t v m entries e p (failed, final) lines =
     let b = ahead_of p.left a.fault in
     inr (
       ap (λ n. n.stage) lines ∙ after_failed e m failed,
-      subst (λ n. IsFinal a s.lines.input (entries ≡ []) e n) (sym (ap (λ n. n.input) lines ∙ after_input e m))
-          (io_weaker (IsReadFault b t.lines.input (IsUndecided b) m.input) (IsReadFault a s.lines.input (entries ≡ []) m.input) e
-          (λ x h. elim h [ inl f ↦ inl (f.0, none_decided s.dialect a.fault _ p.left entries p.has_left f.0 f.1) | inr met ↦ inr (bound_before a b s.lines.input t.lines.input m.input x p.reads met) ])
+      subst (λ n. IsFinal a s.lines.input (λ bytes. HasDecided s.dialect bytes []) e n) (sym (ap (λ n. n.input) lines ∙ after_input e m))
+          (final_before a b s.lines.input t.lines.input m.input IsUndecided (λ bytes. HasDecided s.dialect bytes []) p.used e p.joins refl p.reads
+          (λ kind front later cut why undecided. none_decided s.dialect a.fault kind t.lines.input p.used p.left front later cut why p.stays undecided)
           final),
     )
 

@@ -54,6 +54,10 @@ fuel_of s = stage_fuel s.stage (supply s.input)
 abbrev pub lines_so_far : List ℕ → List (Option (List ℕ))
 lines_so_far bytes = line_texts (up_to_last_line_feed bytes)
 
+-- the end was read, no fault stands there, and nothing is left
+abbrev pub IsAtEnd : Option ErrorKind → List ℕ → InputState → Type 0
+IsAtEnd fault left t = (fault ≡ None) × (left ≡ []) × (t.at_end ≡ true)
+
 -- whatever follows the bytes, their first physical lines, so many, are this logical line
 abbrev pub IsNextAlways : List ℕ → ℕ → Logical → Type 0
 IsNextAlways bytes count next = (more : List ℕ) → (lines_so_far (bytes ++ more) ≢ []) × IsNext (lines_so_far (bytes ++ more)) count next × (drop count (lines_so_far (bytes ++ more)) ≡ lines_so_far more)
@@ -69,7 +73,7 @@ pub record TakesNext (a : Ahead) (s : InputState) (next : Logical) (t : InputSta
   pub joins : a.bytes ≡ used ++ left
   pub rest : physical_lines left ≡ drop count (physical_lines a.bytes)
   pub later : whole_lines (record { bytes = left; fault = a.fault }) ≡ drop count (whole_lines a)
-  pub stays : ((t.at_end ≡ true) × (left ≡ [])) ⊎ ((IsOpen next → ⊥) × IsNextAlways used count next)
+  pub stays : IsAtEnd a.fault left t ⊎ ((IsOpen next → ⊥) × IsNextAlways used count next)
   pub is_left : t.left ≡ Some (record { bytes = left; fault = a.fault })
   pub reads : ReadsFit a s (record { bytes = left; fault = a.fault }) t
 

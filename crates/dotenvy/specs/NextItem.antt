@@ -1,5 +1,5 @@
 -- What the next item is, and what it leaves.
-use Rattle.std.specs.Prelude.{ℕ, ◌≡◌, ◌⊎◌, true, List, [], ◌∷◌, ◌++◌, Option, Some, None, Result, Ok, Err, unwrap_or, string_bytes}
+use Rattle.std.specs.Prelude.{ℕ, ◌≡◌, ◌⊎◌, List, [], ◌∷◌, ◌++◌, Option, Some, None, Result, Ok, Err, unwrap_or, string_bytes}
 use Rattle.std.specs.Str.{chars}
 use Rattle.std.specs.IoError.{error_kind}
 use Rattle.std.specs.declared.string.String.{String}
@@ -14,7 +14,7 @@ use Rattle.dotenvy.specs.Environment.{Texts}
 use Rattle.dotenvy.specs.Names.{recalled_of, names_of}
 use Rattle.dotenvy.specs.Source.{Ahead}
 use Rattle.dotenvy.specs.Input.{IsTold, ReadsFit}
-use Rattle.dotenvy.specs.Lines.{GoesOn, FailsFor}
+use Rattle.dotenvy.specs.Lines.{IsAtEnd, GoesOn, FailsFor}
 use Rattle.dotenvy.specs.Reading.{HasLeft}
 use Rattle.dotenvy.specs.Iter.{IterState}
 
@@ -41,9 +41,9 @@ abbrev pub RemembersEntry : LookUp → LookUp → LookUp → Entry → Type 0
 RemembersEntry look_up old new (Declares key pieces) = (name : List ℕ) → text_of new name ≡ text_of (with_value old key (meaning look_up pieces)) name
 RemembersEntry look_up old new (Fails failure) = (name : List ℕ) → text_of new name ≡ text_of old name
 
--- whatever follows the bytes, this is the first entry that is decided
-abbrev pub DecidesFirst : Dialect → List ℕ → Entry → Type 0
-DecidesFirst dialect bytes entry = (more : List ℕ) (decided : List Entry) → HasDecided dialect more decided → HasDecided dialect (bytes ++ more) (entry ∷ decided)
+-- whatever follows the bytes, these are the first entries that are decided
+abbrev pub DecideFirst : Dialect → List ℕ → List Entry → Type 0
+DecideFirst dialect bytes entries = (more : List ℕ) (decided : List Entry) → HasDecided dialect more decided → HasDecided dialect (bytes ++ more) (entries ++ decided)
 
 -- of these entries, which are those of what s has left, the first was taken, and t has the later ones left; unless the end was read, the bytes that were used decide it whatever follows
 pub record TakesEntry (names : Texts) (a : Ahead) (s : IterState) (entries : List Entry) (entry : Entry) (t : IterState) : Type 0 where
@@ -52,7 +52,7 @@ pub record TakesEntry (names : Texts) (a : Ahead) (s : IterState) (entries : Lis
   pub used : List ℕ
   pub left : List ℕ
   pub joins : a.bytes ≡ used ++ left
-  pub stays : ((t.lines.input.at_end ≡ true) × (left ≡ [])) ⊎ DecidesFirst s.dialect used entry
+  pub stays : IsAtEnd a.fault left t.lines.input ⊎ DecideFirst s.dialect used (entry ∷ [])
   pub is_left : t.lines.input.left ≡ Some (record { bytes = left; fault = a.fault })
   pub has_left : HasLeft s.dialect a.fault left later
   pub goes_on : GoesOn t.lines
