@@ -35,3 +35,5 @@ pub mod LineTexts
 pub mod LineJoins
 pub mod LineEntries
 pub mod LinePasses
+pub mod KeyLookUps
+pub mod LoadRuns

@@ -1,6 +1,8 @@
 use Rattle.std.proofs.Common.{rules}
 use Rattle.std.proofs.lemmas.Str.{IsUtf8-string_bytes}
 use Rattle.dotenvy.proofs.Keys.{name_ok-key}
+use Rattle.dotenvy.proofs.KeyLookUps as key_look_ups
+use Rattle.dotenvy.proofs.LoadRuns as load_runs
 use Rattle.dotenvy.proofs.TextMaps.{keeps_insert}
 use Rattle.dotenvy.proofs.iter.Iter.load.Goals as goal
 
