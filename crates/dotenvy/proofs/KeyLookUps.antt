@@ -3,7 +3,7 @@ use Rattle.std.proofs.Common.{◌≡◌, ℕ, Bool, true, false, cond, List, Opt
 use Rattle.std.specs.Prelude.{bytes_eq, encode_utf8_all, option_map, is_none, is_some, not}
 use Rattle.std.specs.Str.{chars, IsUtf8}
 use Rattle.std.specs.Ordering.{eq_by_cmp, nat_cmp}
-use Rattle.std.specs.Cmp.Lexicographic.{slice_cmp}
+use Rattle.std.specs.Cmp.Lexicographic.{slice_cmp, same_text}
 use Rattle.std.specs.Cmp.{eq_by_cmp_equiv}
 use Rattle.std.specs.FinMap.{get, insert, contains_key, get-insert}
 use Rattle.std.proofs.lemmas.Cmp.{nat_list_cmp_total}
@@ -12,8 +12,11 @@ use Rattle.std.proofs.lemmas.Str.{encodes-chars, encodes_same}
 use Rattle.std.proofs.lemmas.Slice.Eq.{bytes_eq-Decides}
 use Rattle.std.proofs.lemmas.Bool.Decides.{same_from_decides}
 use Rattle.dotenvy.specs.Environment.{Texts}
+use Rattle.dotenvy.specs.Statement.{is_key}
 use Rattle.dotenvy.specs.Items.{with_value}
 use Rattle.dotenvy.specs.Names.{values_of}
+use Rattle.dotenvy.specs.LoadsLeft.{ChangesKeys}
+use Rattle.dotenvy.proofs.Keys.{chars-key}
 
 -- a text's bytes are those of a name where its characters are the name's
 pub bytes_eq-chars : (bs name : List ℕ) → IsUtf8 bs → bytes_eq bs (encode_utf8_all name) ≡ bytes_eq (chars bs) name
@@ -49,3 +52,12 @@ is_none-values_of names key utf8 = ap (λ k. is_none (option_map chars (get name
     mapped : (o : Option (List ℕ)) → is_none (option_map chars o) ≡ not (is_some o)
     mapped None = refl
     mapped (Some x) = refl
+
+-- where a key is set, the names that are no keys have the values that they had
+pub changes_keys-insert : (old names : Texts) (key value : List ℕ) → ChangesKeys old names → IsUtf8 key → is_key (chars key) ≡ true → ChangesKeys old (insert names key value)
+changes_keys-insert old names key value changes utf8 is name other =
+    get-insert nat_list_cmp_total names key value name ∙ ap (λ b. cond b (Some value) (get names name)) (eq_by_cmp-bytes name key) ∙ at (bytes_eq key name) refl
+  where
+    at : (b : Bool) → b ≡ bytes_eq key name → cond b (Some value) (get names name) ≡ get old name
+    at true h = let e : true ≡ false = sym is ∙ ap is_key (chars-key key utf8 is ∙ same_text key name h) ∙ other in cc
+    at false h = changes name other

@@ -37,3 +37,4 @@ pub mod LineEntries
 pub mod LinePasses
 pub mod KeyLookUps
 pub mod LoadRuns
+pub mod LoadSteps

@@ -33,7 +33,8 @@ sets-same : (mode : Mode) (e f : LookUp) (key : List ℕ) → ((n : List ℕ) �
 sets-same Keep e f key same = ap is_none (same key)
 sets-same Replace e f key same = refl
 
-after-same : (e f : LookUp) (key v w n : List ℕ) (b c : Bool) → b ≡ c → v ≡ w → e n ≡ f n → (if b then with_value e key v else e) n ≡ (if c then with_value f key w else f) n
+-- a declaration after which names have the same values
+pub after-same : (e f : LookUp) (key v w n : List ℕ) (b c : Bool) → b ≡ c → v ≡ w → e n ≡ f n → (if b then with_value e key v else e) n ≡ (if c then with_value f key w else f) n
 after-same e f key v w n true true h k same = ap (λ t. cond (bytes_eq key n) (Some t) (e n)) k ∙ ap (λ o. cond (bytes_eq key n) (Some w) o) same
 after-same e f key v w n false false h k same = same
 after-same e f key v w n true false h k same = absurd (cc)
