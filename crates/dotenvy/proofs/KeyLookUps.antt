@@ -46,8 +46,9 @@ values_of-insert names key value utf8 name =
     mapped false o = refl
 
 -- a name is absent by its characters where it is by its bytes
-pub is_none-values_of : (names : Texts) (key : List ℕ) → IsUtf8 key → is_none (values_of names (chars key)) ≡ not (contains_key names key)
-is_none-values_of names key utf8 = ap (λ k. is_none (option_map chars (get names k))) (encodes-chars key utf8) ∙ mapped (get names key)
+pub is_none-contains : (names : Texts) (key bytes : List ℕ) (found : Bool) → IsUtf8 key → bytes ≡ key → found ≡ contains_key names bytes → is_none (values_of names (chars key)) ≡ not found
+is_none-contains names key bytes found utf8 same is =
+    ap (λ k. is_none (option_map chars (get names k))) (encodes-chars key utf8) ∙ mapped (get names key) ∙ ap not (sym (is ∙ ap (contains_key names) same))
   where
     mapped : (o : Option (List ℕ)) → is_none (option_map chars o) ≡ not (is_some o)
     mapped None = refl

@@ -1,9 +1,10 @@
 -- How far a load came, what each item adds, and how a load ends.
 use Rattle.std.proofs.Common.{◌≡◌, ℕ, Bool, true, false, ◌&&◌, List, [], ◌∷◌, ◌++◌, length, Option, Some, None, Result, Ok, Err, refl, sym, ◌∙◌, ap, subst, inl, inr, append-nil, append_assoc, arith}
 use Rattle.std.proofs.lemmas.Bool.{ltb-true}
-use Rattle.std.specs.Prelude.{◌==◌, nat_eq, nat_lt, string_bytes, if◌then◌else◌}
+use Rattle.std.specs.Prelude.{◌==◌, not, nat_eq, nat_lt, string_bytes, if◌then◌else◌}
 use Rattle.std.specs.Str.{chars, IsUtf8}
 use Rattle.std.specs.List.{starts_with}
+use Rattle.std.specs.FinMap.{insert}
 use Rattle.std.specs.IoError.{error_kind}
 use Rattle.std.specs.declared.io.ErrorKind.{ErrorKind}
 use Rattle.std.specs.declared.io.ErrorKind.TheVariants.{Other}
@@ -40,6 +41,7 @@ use Rattle.dotenvy.proofs.Nuls.{value_ok-chars}
 use Rattle.dotenvy.proofs.Keys.{chars-key}
 use Rattle.dotenvy.proofs.Inputs.{the_bytes, the_fault, io_weaker, fits_more, bound_before}
 use Rattle.dotenvy.proofs.LineEntries.{left_once, left-none, left-undecided}
+use Rattle.dotenvy.proofs.KeyLookUps.{values_of-insert}
 use Rattle.dotenvy.proofs.LoadRuns.{run-same, after-same}
 
 abbrev ahead_of : List ℕ → Option ErrorKind → Ahead
@@ -143,16 +145,15 @@ came_item l names t u item k next = at k.goes_on
     at (inr ended) = absurd (none-some item (sym (next.1 (λ opened. open_ended (sym opened ∙ ended.0))).0))
 
 -- no item ends a load
-pub ends_none : {A : Type 0} (l : Load) (names : Texts) (t u : IterState) (item : Option (Result (String A × String A) (Error A))) (answer : Result (Unit {0}) (Error A)) → item ≡ None → answer ≡ Ok tt → Came l names t → NextItem names t item u → Ends l names answer
-ends_none l names t u item answer none ok k next = subst (λ r. Ends l names r) (sym ok) (
-  let rest = at k.goes_on in
-  ends_read l names t.remembered (Ok tt) k.loaded (Ok tt)
-  (ap (run_on l names t.remembered) (ap (λ es. es ++ told_fault l.ahead.fault) rest.0 ∙ ap told_fault rest.1)) tt
-)
+ends_none : {A : Type 0} (l : Load) (names : Texts) (t u : IterState) → Came l names t → NextItem {A = A} names t None u → Ends {A = A} l names (Ok tt)
+ends_none {A = A} l names t u k next =
+    let rest = at k.goes_on in
+    ends_read l names t.remembered (Ok tt) k.loaded (Ok tt)
+    (ap (run_on l names t.remembered) (ap (λ es. es ++ told_fault l.ahead.fault) rest.0 ∙ ap told_fault rest.1)) tt
   where
     at : GoesOn t.lines → (k.loaded.later ≡ []) × (l.ahead.fault ≡ None)
     at (inl opened) =
-        let is = subst (λ o. ItemIs names (ahead_of k.left l.ahead.fault) t k.loaded.later o u) none (next.0 opened (ahead_of k.left l.ahead.fault) k.is_told k.loaded.later k.has_left) in
+        let is = next.0 opened (ahead_of k.left l.ahead.fault) k.is_told k.loaded.later k.has_left in
         (is.0, is.1)
     at (inr ended) =
         let same = sym k.is_told.0 ∙ ended.1 in
@@ -166,7 +167,7 @@ final_before a b s t v P e same fits final =
     (λ x h. elim h [ inl f ↦ inl (sym same ∙ f.0, f.1) | inr m ↦ inr (bound_before a b s t v x fits m) ]) final
 
 -- a fault ends a load
-pub ends_fault : {A : Type 0} (l : Load) (names : Texts) (t u : IterState) (e : Error A) → Came l names t → NextItem names t (Some (Err e)) u → Ends l names (Err e)
+ends_fault : {A : Type 0} (l : Load) (names : Texts) (t u : IterState) (e : Error A) → Came l names t → NextItem names t (Some (Err e)) u → Ends l names (Err e)
 ends_fault l names t u e k next = at (came_item l names t u (Err e) k next)
   where
     at : ItemIs names (record { bytes = k.left; fault = l.ahead.fault }) t k.loaded.later (Some (Err e)) u → Ends l names (Err e)
@@ -177,10 +178,10 @@ ends_fault l names t u e k next = at (came_item l names t u (Err e) k next)
     at (inr fails) = ends_final l u.lines.input names t.remembered e k.loaded (final_before l.ahead (ahead_of k.left l.ahead.fault) l.start t.lines.input u.lines.input (k.loaded.later ≡ []) e refl k.reads fails.1)
 
 -- a pair is what the first of the later entries declares
-pub record Pair {A : Type 0} (names : Texts) (b : Ahead) (t : IterState) (later : List Entry) (pair : String A × String A) (u : IterState) : Type 0 where
-  pub pieces : List Piece
-  pub value : chars (string_bytes pair.1) ≡ meaning (names_of names t.remembered) pieces
-  pub takes : TakesEntry names b t later (Declares (chars (string_bytes pair.0)) pieces) u
+record Pair {A : Type 0} (names : Texts) (b : Ahead) (t : IterState) (later : List Entry) (pair : String A × String A) (u : IterState) : Type 0 where
+  pieces : List Piece
+  value : chars (string_bytes pair.1) ≡ meaning (names_of names t.remembered) pieces
+  takes : TakesEntry names b t later (Declares (chars (string_bytes pair.0)) pieces) u
 
 came_pair : {A : Type 0} (l : Load) (names : Texts) (t u : IterState) (pair : String A × String A) (k : Came l names t) → NextItem {A = A} names t (Some (Ok pair)) u → Pair names (record { bytes = k.left; fault = l.ahead.fault }) t k.loaded.later pair u
 came_pair {A = A} l names t u pair k next = at (came_item {A = A} l names t u (Ok pair) k next)
@@ -231,7 +232,7 @@ declared_done l names new recall now key value pieces rest b k first means is go
     after = after_declaration l.mode (values_of names) key v
 
 -- a pair that is set or passed by leads on
-pub came_on : {A : Type 0} (l : Load) (names new : Texts) (t u : IterState) (pair : String A × String A) (b : Bool) → Came l names t → NextItem {A = A} names t (Some (Ok pair)) u → sets l.mode (values_of names) (chars (string_bytes pair.0)) ≡ b → (b && has_nul (chars (string_bytes pair.1))) ≡ false →
+came_on : {A : Type 0} (l : Load) (names new : Texts) (t u : IterState) (pair : String A × String A) (b : Bool) → Came l names t → NextItem {A = A} names t (Some (Ok pair)) u → sets l.mode (values_of names) (chars (string_bytes pair.0)) ≡ b → (b && has_nul (chars (string_bytes pair.1))) ≡ false →
     ((n : List ℕ) → values_of new n ≡ (if b then with_value (values_of names) (chars (string_bytes pair.0)) (chars (string_bytes pair.1)) else values_of names) n) → Came l new u
 unfolding declared_done came_pair
 came_on {A = A} l names new t u pair b k next is good values =
@@ -247,7 +248,7 @@ came_on {A = A} l names new t u pair b k next is good values =
     }
 
 -- an answer of `set`, where the value has a NUL or memory is refused, ends a load
-pub ends_set : {A : Type 0} (l : Load) (names : Texts) (t u : IterState) (pair : String A × String A) (e : Error A) → Came l names t → NextItem {A = A} names t (Some (Ok pair)) u → sets l.mode (values_of names) (chars (string_bytes pair.0)) ≡ true → is_key (chars (string_bytes pair.0)) ≡ true →
+ends_set : {A : Type 0} (l : Load) (names : Texts) (t u : IterState) (pair : String A × String A) (e : Error A) → Came l names t → NextItem {A = A} names t (Some (Ok pair)) u → sets l.mode (values_of names) (chars (string_bytes pair.0)) ≡ true → is_key (chars (string_bytes pair.0)) ≡ true →
     (value_ok (string_bytes pair.1) ≡ true → IsMemory e) → (value_ok (string_bytes pair.1) ≡ false → IsNulOf (string_bytes pair.0) e) → Ends l names (Err e)
 ends_set {A = A} l names t u pair e k next is key good nul = at (value_ok (string_bytes pair.1)) refl
   where
@@ -295,15 +296,49 @@ came_start A mode s t old stage recall dialect drops opened a told entries has =
     }
 
 -- a fault before the mark is decided ends a load
-pub ends_mark : {A : Type 0} (mode : Mode) (s : IterState) (v : InputState) (old : Texts) (a : Ahead) (entries : List Entry) (e : Error A) → HasLeft s.dialect a.fault (without_mark a.bytes) entries → DropsMark a s.lines.input (Err e) v → Ends (load_of mode s old a entries) old (Err e)
+ends_mark : {A : Type 0} (mode : Mode) (s : IterState) (v : InputState) (old : Texts) (a : Ahead) (entries : List Entry) (e : Error A) → HasLeft s.dialect a.fault (without_mark a.bytes) entries → DropsMark a s.lines.input (Err e) v → Ends (load_of mode s old a entries) old (Err e)
 ends_mark mode s v old a entries e has drops =
     ends_final (load_of mode s old a entries) v old s.remembered e (none_done mode s old a entries)
     (io_weaker (IsReadFault a s.lines.input (begins_mark a.bytes ≡ true) v) (IsReadFault a s.lines.input (entries ≡ []) v) e
     (λ x h. elim h [ inl f ↦ inl (f.0, mark_left s.dialect a.fault (error_kind x) a.bytes entries f.0 f.1 has) | inr m ↦ inr m ]) drops)
 
--- refused memory at the start
-pub loads_none : {A : Type 0} (mode : Mode) (s : IterState) (old : Texts) (e : Error A) → IsMemory e → LoadsLeft (run mode) s old (Err e) old
-loads_none mode s old e is = λ a told entries has. ends_memory (load_of mode s old a entries) old s.remembered e (none_done mode s old a entries) is
+-- a load of what s has left, which came to t: the next pair is set
+pub came_set : {A : Type 0} (mode : Mode) (s t u : IterState) (old names : Texts) (key value : String A) (item : Result (String A × String A) (Error A)) → CameTo mode s old names t → NextItem names t (Some item) u → item ≡ Ok (key, value) → sets mode (values_of names) (chars (string_bytes key)) ≡ true → (value_ok (string_bytes value) ≡ false → ⊥) → CameTo mode s old (insert names (string_bytes key) (string_bytes value)) u
+came_set {A = A} mode s t u old names key value item came next is set good opened a told entries has =
+    came_on {A = A} (load_of mode s old a entries) names (insert names (string_bytes key) (string_bytes value)) t u (key, value) true (came opened a told entries has)
+    (subst (λ r. NextItem names t (Some r) u) is next) set (no_nul (value_ok (string_bytes value)) (has_nul (chars (string_bytes value))) (value_ok-chars (string_bytes value) (IsUtf8-string_bytes value)) good)
+    (values_of-insert names (string_bytes key) (string_bytes value) (IsUtf8-string_bytes key))
+  where
+    no_nul : (b c : Bool) → b ≡ not c → (b ≡ false → ⊥) → c ≡ false
+    no_nul b false h k = refl
+    no_nul b true h k = absurd (k h)
+
+-- it is passed by
+pub came_passed : {A : Type 0} (mode : Mode) (s t u : IterState) (old names : Texts) (key value : String A) (item : Result (String A × String A) (Error A)) → CameTo mode s old names t → NextItem names t (Some item) u → item ≡ Ok (key, value) → sets mode (values_of names) (chars (string_bytes key)) ≡ false → CameTo mode s old names u
+came_passed {A = A} mode s t u old names key value item came next is passed opened a told entries has =
+    came_on {A = A} (load_of mode s old a entries) names names t u (key, value) false (came opened a told entries has) (subst (λ r. NextItem names t (Some r) u) is next) passed refl (λ n. refl)
+
+-- there is none
+pub loads_none : {A : Type 0} (mode : Mode) (s t u : IterState) (old names : Texts) → s.lines.stage ≡ Open → CameTo mode s old names t → NextItem {A = A} names t None u → LoadsLeft {A = A} (run mode) s old (Ok tt) names
+loads_none {A = A} mode s t u old names opened came next = λ a told entries has. ends_none {A = A} (load_of mode s old a entries) names t u (came opened a told entries has) next
+
+-- there is a fault
+pub loads_fault : {A : Type 0} (mode : Mode) (s t u : IterState) (old names : Texts) (e : Error A) (item : Result (String A × String A) (Error A)) → s.lines.stage ≡ Open → CameTo mode s old names t → NextItem names t (Some item) u → item ≡ Err e → LoadsLeft (run mode) s old (Err e) names
+loads_fault mode s t u old names e item opened came next is = λ a told entries has. ends_fault (load_of mode s old a entries) names t u e (came opened a told entries has) (subst (λ r. NextItem names t (Some r) u) is next)
+
+-- the next pair is not set, as memory is refused or its value has a NUL
+pub loads_unset : {A : Type 0} (mode : Mode) (s t u : IterState) (old names : Texts) (key value : String A) (item : Result (String A × String A) (Error A)) (e : Error A) → s.lines.stage ≡ Open → CameTo mode s old names t → NextItem names t (Some item) u → item ≡ Ok (key, value) → sets mode (values_of names) (chars (string_bytes key)) ≡ true → is_key (chars (string_bytes key)) ≡ true →
+    (value_ok (string_bytes value) ≡ true → IsMemory e) → (value_ok (string_bytes value) ≡ false → IsNulOf (string_bytes key) e) → LoadsLeft (run mode) s old (Err e) names
+loads_unset mode s t u old names key value item e opened came next is set is_key good nul = λ a told entries has.
+    ends_set (load_of mode s old a entries) names t u (key, value) e (came opened a told entries has) (subst (λ r. NextItem names t (Some r) u) is next) set is_key good nul
+
+-- a fault comes before the mark is decided
+pub loads_mark : {A : Type 0} (mode : Mode) (s : IterState) (v : InputState) (old : Texts) (e : Error A) → ((a : Ahead) → IsTold s.lines.input.left a → DropsMark a s.lines.input (Err e) v) → LoadsLeft (run mode) s old (Err e) old
+loads_mark mode s v old e drops = λ a told entries has. ends_mark mode s v old a entries e has (drops a told)
+
+-- memory is refused at the start
+pub loads_refused : {A : Type 0} (mode : Mode) (s : IterState) (old : Texts) (e : Error A) → IsMemory e → LoadsLeft (run mode) s old (Err e) old
+loads_refused mode s old e is = λ a told entries has. ends_memory (load_of mode s old a entries) old s.remembered e (none_done mode s old a entries) is
 
 -- rules that say the same allow the same loads
 pub loads_by : {A : Type 0} (f g : Rule) (s : IterState) (old new : Texts) (answer : Result (Unit {0}) (Error A)) → ((env remembered : LookUp) (entries : List Entry) → SameLoad (f env remembered entries) (g env remembered entries)) → LoadsLeft f s old answer new → LoadsLeft g s old answer new
