@@ -340,6 +340,9 @@ loads_mark mode s v old e drops = λ a told entries has. ends_mark mode s v old 
 pub loads_refused : {A : Type 0} (mode : Mode) (s : IterState) (old : Texts) (e : Error A) → IsMemory e → LoadsLeft (run mode) s old (Err e) old
 loads_refused mode s old e is = λ a told entries has. ends_memory (load_of mode s old a entries) old s.remembered e (none_done mode s old a entries) is
 
+pub same-back : (x y : Loaded) → SameLoad x y → SameLoad y x
+same-back x y h = record { env = λ n. sym (h.env n); answer = sym h.answer }
+
 -- rules that say the same allow the same loads
 pub loads_by : {A : Type 0} (f g : Rule) (s : IterState) (old new : Texts) (answer : Result (Unit {0}) (Error A)) → ((env remembered : LookUp) (entries : List Entry) → SameLoad (f env remembered entries) (g env remembered entries)) → LoadsLeft f s old answer new → LoadsLeft g s old answer new
 loads_by f g s old new answer same loads = λ a told entries has.

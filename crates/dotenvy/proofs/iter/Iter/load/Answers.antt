@@ -50,7 +50,7 @@ items-preserved-in-Continue-branch-3 g c =
       λ shut. absurd (search rules),
       changes_keys-insert _ _ _ _ c.items.invariant.3 utf8 (rw c.in_ok-key.was at c.in-Some.ensures.key),
       came_set Keep c.args.self c.items.self c.next_item.new.self c.args.env.now.names c.items.env.names key c.in_ok-key.value c.in-Some.item c.items.invariant.4 next c.in_ok-key.was
-      (is_none-contains c.items.env.names _ _ c.contains.result utf8 c.as_str.ensures.value c.contains.ensures ∙ ap not c.if-not-contains.true) c.in_ok-set.ensures.nul,
+          (is_none-contains c.items.env.names _ _ c.contains.result utf8 c.as_str.ensures.value c.contains.ensures ∙ ap not c.if-not-contains.true) c.in_ok-set.ensures.nul,
     )
 
 pub items-preserved : goal.items-preserved
@@ -62,7 +62,7 @@ items-preserved g c =
       λ shut. absurd (search rules),
       c.items.invariant.3,
       came_passed Keep c.args.self c.items.self c.next_item.new.self c.args.env.now.names c.items.env.names key c.in_ok-key.value c.in-Some.item c.items.invariant.4 next c.in_ok-key.was
-      (is_none-contains c.items.env.names _ _ c.contains.result (IsUtf8-string_bytes key) c.as_str.ensures.value c.contains.ensures ∙ ap not c.if-not-contains.false),
+          (is_none-contains c.items.env.names _ _ c.contains.result (IsUtf8-string_bytes key) c.as_str.ensures.value c.contains.ensures ∙ ap not c.if-not-contains.false),
     )
 
 pub returns-in_err-set-clause-told : goal.returns-in_err-set-clause-told
