@@ -1,5 +1,5 @@
 -- A load, one item after another.
-use Rattle.std.proofs.Common.{◌≡◌, ℕ, Bool, true, false, ◌&&◌, cond, List, [], ◌∷◌, ◌++◌, Option, Some, None, Result, Ok, Err, refl, sym, ◌∙◌, ap}
+use Rattle.std.proofs.Common.{◌≡◌, ℕ, Bool, true, false, ◌&&◌, cond, List, [], ◌∷◌, ◌++◌, Option, Some, None, Err, refl, ◌∙◌, ap}
 use Rattle.std.specs.Prelude.{bytes_eq, unwrap_or, is_none, if◌then◌else◌}
 use Rattle.std.specs.Option.{option_or}
 use Rattle.dotenvy.specs.Value.{Piece, Text, Name}

@@ -1,8 +1,8 @@
 -- How far a load came, what each item adds, and how a load ends.
-use Rattle.std.proofs.Common.{◌≡◌, ℕ, Bool, true, false, ◌&&◌, List, [], ◌∷◌, ◌++◌, length, Option, Some, None, Result, Ok, Err, refl, sym, ◌∙◌, ap, subst, inl, inr, append-nil, append_assoc, arith}
+use Rattle.std.proofs.Common.{◌≡◌, ℕ, Bool, true, false, ◌&&◌, List, [], ◌∷◌, ◌++◌, length, Option, Some, None, Result, Ok, Err, refl, sym, ◌∙◌, ap, subst, inl, inr, append_assoc, arith}
 use Rattle.std.proofs.lemmas.Bool.{ltb-true}
 use Rattle.std.specs.Prelude.{◌==◌, not, nat_eq, nat_lt, string_bytes, if◌then◌else◌}
-use Rattle.std.specs.Str.{chars, IsUtf8}
+use Rattle.std.specs.Str.{chars}
 use Rattle.std.specs.List.{starts_with}
 use Rattle.std.specs.FinMap.{insert}
 use Rattle.std.specs.IoError.{error_kind}
@@ -14,24 +14,23 @@ use Rattle.std.proofs.lemmas.Str.{IsUtf8-string_bytes}
 use Rattle.dotenvy.specs.declared.dialect.Dialect.{Dialect}
 use Rattle.dotenvy.specs.declared.errors.Error.{Error}
 use Rattle.dotenvy.specs.declared.errors.Error.TheVariants as error
-use Rattle.dotenvy.specs.declared.lines.Stage.TheVariants.{Open, Ended, Failed}
-use Rattle.dotenvy.specs.Errors.{IsMemory, IsNulOf, IsIoOf}
-use Rattle.dotenvy.specs.Characters.{line_feed}
+use Rattle.dotenvy.specs.declared.lines.Stage.TheVariants.{Open, Ended}
+use Rattle.dotenvy.specs.Errors.{IsMemory, IsNulOf}
 use Rattle.dotenvy.specs.Statement.{is_key}
 use Rattle.dotenvy.specs.Value.{Piece}
 use Rattle.dotenvy.specs.Entries.{Failure, LineParse, Io, Nul, Memory, Entry, Declares, Fails}
 use Rattle.dotenvy.specs.Decided.{up_to_last_line_feed}
 use Rattle.dotenvy.specs.Marks.{byte_order_mark, without_mark}
-use Rattle.dotenvy.specs.Items.{LookUp, meaning, or_else, with_value}
+use Rattle.dotenvy.specs.Items.{LookUp, meaning, with_value}
 use Rattle.dotenvy.specs.Run.{Mode, Loaded, sets, after_declaration, run, has_nul}
 use Rattle.dotenvy.specs.Loads.{SameLoad}
 use Rattle.dotenvy.specs.Environment.{Texts, value_ok}
 use Rattle.dotenvy.specs.Remembered.{Remembered}
 use Rattle.dotenvy.specs.Names.{values_of, recalled_of, names_of}
 use Rattle.dotenvy.specs.Source.{Ahead}
-use Rattle.dotenvy.specs.Input.{InputState, IsTold, ReadsFit, IsReadFault, IsFinal, end_reads, begins_mark, DropsMark}
+use Rattle.dotenvy.specs.Input.{InputState, IsTold, ReadsFit, IsReadFault, IsFinal, begins_mark, DropsMark}
 use Rattle.dotenvy.specs.PhysicalLines.{line_texts}
-use Rattle.dotenvy.specs.Lines.{GoesOn, LinesState}
+use Rattle.dotenvy.specs.Lines.{GoesOn}
 use Rattle.dotenvy.specs.Reading.{HasLeft, told_fault, CutsShort, IsReading}
 use Rattle.dotenvy.specs.NextItem.{RemembersEntry, TakesEntry, ItemIs, NextItem}
 use Rattle.dotenvy.specs.LoadsLeft.{IsAnswer, Leaves, Rule, LoadsLeft}

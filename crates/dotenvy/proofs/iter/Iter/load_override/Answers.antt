@@ -1,4 +1,4 @@
-use Rattle.std.proofs.Common.{◌≡◌, ◌∙◌, Err, Ok, ap, refl, rules, subst}
+use Rattle.std.proofs.Common.{◌∙◌, Err, Ok, ap, refl, rules, subst}
 use Rattle.std.proofs.lemmas.Str.{IsUtf8-string_bytes}
 use Rattle.std.proofs.lemmas.Result.{err_from_is_err_and}
 use Rattle.dotenvy.specs.Run.{Replace, run}
@@ -26,8 +26,8 @@ returns-in_err-drop_mark-clause-told g c = λ opened.
     (loads_by (run Replace) override_result inside names names (Err e) run-replace
     (loads_mark Replace inside c.drop_mark.new.self.input names e (λ a told. c.in_err-drop_mark.ensures.told a (ap (λ (s : IterState). s.lines.stage) view ∙ opened) told))))
 
-pub items-init : goal.items-init
-items-init g c =
+pub replacing-init : goal.replacing-init
+replacing-init g c =
     let names = c.args.env.now.names in
     let inside : IterState = record { lines = c.self.inside.lines; remembered = remembered_of c.self.inside.remembered.entries; dialect = c.self.inside.dialect } in
     let start : IterState = record inside { lines = c.drop_mark.new.self } in (
@@ -37,15 +37,15 @@ items-init g c =
       subst (λ s. CameTo Replace s names names start) c.self.view_is (came_start g.row.A.Denot Replace inside start names c.in_ok-drop_mark.ensures.ok refl refl c.in_ok-drop_mark.ensures.told),
     )
 
-pub items-preserved : goal.items-preserved
-items-preserved g c =
+pub replacing-preserved : goal.replacing-preserved
+replacing-preserved g c =
     let key = c.in_ok-key.key in
     let next = c.in-Some.ensures.next in
     rw c.in_ok-set.ensures.ok (
-      c.items.invariant.0,
+      c.replacing.invariant.0,
       λ shut. absurd (search rules),
-      changes_keys-insert _ _ _ _ c.items.invariant.2 (IsUtf8-string_bytes key) (rw c.in_ok-key.was at c.in-Some.ensures.key),
-      came_set Replace c.args.self c.items.self c.next_item.new.self c.args.env.now.names c.items.env.names key c.in_ok-key.value c.in-Some.item c.items.invariant.3 next c.in_ok-key.was refl c.in_ok-set.ensures.nul,
+      changes_keys-insert _ _ _ _ c.replacing.invariant.2 (IsUtf8-string_bytes key) (rw c.in_ok-key.was at c.in-Some.ensures.key),
+      came_set Replace c.args.self c.replacing.self c.next_item.new.self c.args.env.now.names c.replacing.env.names key c.in_ok-key.value c.in-Some.item c.replacing.invariant.3 next c.in_ok-key.was refl c.in_ok-set.ensures.nul,
     )
 
 pub returns-in_err-set-clause-shut : goal.returns-in_err-set-clause-shut
@@ -55,18 +55,18 @@ pub returns-in_err-set-clause-told : goal.returns-in_err-set-clause-told
 returns-in_err-set-clause-told g c = λ opened.
     let p = err_from_is_err_and c.from_residual-in_err-set.result c.from_residual-in_err-set.ensures.1 in
     let e = c.in_err-set.field-0.0 in
-    rw (p.1, p.2, c.in_err-set.ensures.same) (loads_by (run Replace) override_result c.args.self c.args.env.now.names c.items.env.names (Err e) run-replace
-    (loads_unset Replace c.args.self c.items.self c.next_item.new.self c.args.env.now.names c.items.env.names c.in_ok-key.key c.in_ok-key.value c.in-Some.item e opened c.items.invariant.3 c.in-Some.ensures.next c.in_ok-key.was refl
+    rw (p.1, p.2, c.in_err-set.ensures.same) (loads_by (run Replace) override_result c.args.self c.args.env.now.names c.replacing.env.names (Err e) run-replace
+    (loads_unset Replace c.args.self c.replacing.self c.next_item.new.self c.args.env.now.names c.replacing.env.names c.in_ok-key.key c.in_ok-key.value c.in-Some.item e opened c.replacing.invariant.3 c.in-Some.ensures.next c.in_ok-key.was refl
     (rw c.in_ok-key.was at c.in-Some.ensures.key) c.in_err-set.ensures.good c.in_err-set.ensures.nul))
 
 pub returns-in_err-key-clause-told : goal.returns-in_err-key-clause-told
 returns-in_err-key-clause-told g c = λ opened.
     let p = err_from_is_err_and c.from_residual-in_err-key.result c.from_residual-in_err-key.ensures.1 in
     let e = c.in_err-key.field-0.0 in
-    rw (p.1, p.2) (loads_by (run Replace) override_result c.args.self c.args.env.now.names c.items.env.names (Err e) run-replace
-    (loads_fault Replace c.args.self c.items.self c.next_item.new.self c.args.env.now.names c.items.env.names e c.in-Some.item opened c.items.invariant.3 c.in-Some.ensures.next c.in_err-key.was))
+    rw (p.1, p.2) (loads_by (run Replace) override_result c.args.self c.args.env.now.names c.replacing.env.names (Err e) run-replace
+    (loads_fault Replace c.args.self c.replacing.self c.next_item.new.self c.args.env.now.names c.replacing.env.names e c.in-Some.item opened c.replacing.invariant.3 c.in-Some.ensures.next c.in_err-key.was))
 
 pub returns-clause-told : goal.returns-clause-told
 returns-clause-told g c = λ opened.
-    loads_by {A = g.row.A.Denot} (run Replace) override_result c.args.self c.args.env.now.names c.items.env.names (Ok tt) run-replace
-    (loads_none {A = g.row.A.Denot} Replace c.args.self c.items.self c.next_item.new.self c.args.env.now.names c.items.env.names opened c.items.invariant.3 c.in_default.ensures.next)
+    loads_by {A = g.row.A.Denot} (run Replace) override_result c.args.self c.args.env.now.names c.replacing.env.names (Ok tt) run-replace
+    (loads_none {A = g.row.A.Denot} Replace c.args.self c.replacing.self c.next_item.new.self c.args.env.now.names c.replacing.env.names opened c.replacing.invariant.3 c.in_default.ensures.next)
