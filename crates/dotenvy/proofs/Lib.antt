@@ -41,3 +41,6 @@ pub mod LineCounts
 pub mod LookUps
 pub mod LineItems
 pub mod NextItems
+pub mod KeyLookUps
+pub mod LoadRuns
+pub mod LoadSteps

@@ -178,7 +178,7 @@ impl<R: Source + Drop, A: Allocator + Clone> Iter<R, A> {
         ensures mark { env.new.loaded ≡ env.old.loaded }
     {
         self.lines.drop_mark()?;
-        'items: while let Some(item) = self.next_item(env) {
+        'keeping: while let Some(item) = self.next_item(env) {
             let (key, value) = item?;
             if !env.contains(key.as_str()) {
                 env.set(key, value)?;
@@ -199,7 +199,7 @@ impl<R: Source + Drop, A: Allocator + Clone> Iter<R, A> {
         ensures mark { env.new.loaded ≡ env.old.loaded }
     {
         self.lines.drop_mark()?;
-        'items: while let Some(item) = self.next_item(env) {
+        'replacing: while let Some(item) = self.next_item(env) {
             let (key, value) = item?;
             env.set(key, value)?;
         }
