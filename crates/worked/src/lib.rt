@@ -8,6 +8,10 @@ mod environments;
 #[cfg(test)]
 mod errors;
 #[cfg(test)]
+mod failing_readers;
+#[cfg(test)]
+mod failing_writers;
+#[cfg(test)]
 mod lines;
 #[cfg(test)]
 mod loads;
@@ -21,5 +25,7 @@ mod statements;
 mod substitution;
 #[cfg(test)]
 mod values;
+#[cfg(test)]
+mod writer;
 #[cfg(test)]
 mod written;

@@ -1,6 +1,6 @@
 //! The written form, and the list of a file.
 
-use crate::reader::CutReader;
+use crate::reader::PlayedReader;
 use crate::shown::items;
 use dotenvy::{Plain, is_key};
 use std::alloc::Global;
@@ -9,7 +9,7 @@ use std::test::Fail;
 /// What `list` writes of a file.
 fn listed(alloc: Global, input: &[u8]) -> Result<Vec<u8>, Fail> {
     let mut writer = Plain::new(Vec::new(alloc));
-    dotenvy::list(alloc, CutReader::by_byte(input), &mut writer)?;
+    dotenvy::list(alloc, PlayedReader::by_byte(alloc, input)?, &mut writer)?;
     Ok(writer.into_inner())
 }
 
@@ -52,7 +52,7 @@ fn nothing_is_written_of_a_file_with_a_fault(rt: HostRuntime) -> Result<(), Fail
     let mut writer = Plain::new(Vec::new(rt.alloc()));
     let answer = dotenvy::list(
         rt.alloc(),
-        CutReader::by_byte(b"A=1\n.B=2\nC=3\n"),
+        PlayedReader::by_byte(rt.alloc(), b"A=1\n.B=2\nC=3\n")?,
         &mut writer,
     );
     assert!(rt; answer.is_err());
