@@ -18,6 +18,8 @@ mod loads;
 #[cfg(test)]
 mod reader;
 #[cfg(test)]
+mod recorded;
+#[cfg(test)]
 mod shown;
 #[cfg(test)]
 mod statements;

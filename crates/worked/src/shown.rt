@@ -22,6 +22,17 @@ pub fn answer(alloc: Global, answer: Result<()>) -> std::result::Result<String, 
     }
 }
 
+/// A pair, as `A=1`, or the fault.
+pub fn item(
+    alloc: Global,
+    item: Result<(String, String)>,
+) -> std::result::Result<String, AllocError> {
+    match item {
+        Ok((key, value)) => format!(in alloc; "{key}={value}"),
+        Err(error) => fault(alloc, &error),
+    }
+}
+
 /// The names and values, as `A=1, B=2`.
 pub fn pairs<A: Allocator>(
     alloc: Global,
@@ -58,12 +69,8 @@ pub fn items_of<R: Source + Drop>(
 ) -> std::result::Result<String, Fail> {
     let mut entries = Iter::with_dialect(alloc, reader, dialect)?;
     let mut shown: Vec<String> = Vec::new(alloc);
-    for item in entries.items(environment) {
-        let text = match item {
-            Ok((key, value)) => format!(in alloc; "{key}={value}")?,
-            Err(error) => fault(alloc, &error)?,
-        };
-        shown.push(text)?;
+    for answered in entries.items(environment) {
+        shown.push(item(alloc, answered)?)?;
     }
     if entries.next_item(environment).is_some() {
         shown.push(String::from_str(alloc, "an item after the end")?)?;
