@@ -54,7 +54,8 @@ fn names_in_values_of_several_names(rt: HostRuntime) -> Result<(), Fail> {
             "KEY1=new_value1\nKEY_U=$KEY+valueU\nS={quote}{value}{quote}\n"
         )?;
         let mut environment = environment(alloc, &[("KEY", "value"), ("KEY1", "value1")])?;
-        dotenvy::from_read(alloc, Bytes::new(input.as_bytes()), &mut environment)?;
+        let reader = PlayedReader::interrupted(alloc, input.as_bytes())?;
+        dotenvy::from_read(alloc, reader, &mut environment)?;
         assert_eq!(rt; environment.get("KEY1").ok_or("absent")?, "value1");
         assert_eq!(rt; environment.get("KEY_U").ok_or("absent")?, "value+valueU");
         assert_eq!(rt; environment.get("S").ok_or("absent")?, want, "in {quote:?}");
@@ -118,7 +119,7 @@ fn a_nul_in_a_value(rt: HostRuntime) -> Result<(), Fail> {
 fn loads_of_what_is_left(rt: HostRuntime) -> Result<(), Fail> {
     let alloc = rt.alloc();
     for (input, want) in [("A=1\nC=$A\n", "C=1"), ("A=1\n\u{feff}B=2\n", "B=2")] {
-        let mut entries = Iter::new(alloc, PlayedReader::by_byte(alloc, input.as_bytes())?)?;
+        let mut entries = Iter::new(alloc, PlayedReader::interrupted(alloc, input.as_bytes())?)?;
         let mut environment = Environment::new(alloc);
         let (key, value) = entries.next_item(&environment).ok_or("no item")??;
         assert!(rt; (key.as_str(), value.as_str()) == ("A", "1"));

@@ -1,6 +1,6 @@
 //! Cases that were recorded from a model of the format, and are played again (docs/DIFFERENCES.md).
 //!
-//! A case is a line of fields between `|`. In a field `%` and two digits stand for a byte, as `%0A`
+//! A case is a line of fields between `|`. In a field `%` and two digits stand for a byte, as `%0a`
 //! for a line feed.
 
 mod failing;

@@ -35,6 +35,19 @@ fn pairs_are_written_and_read_back(rt: HostRuntime) -> Result<(), Fail> {
 }
 
 #[test]
+fn a_list_has_each_name_once_in_order(rt: HostRuntime) -> Result<(), Fail> {
+    for (input, want) in [
+        ("", ""),
+        ("B=2\nA=1\nA=3\n", "A=\"1\"\nB=\"2\"\n"),
+        ("\u{feff}A=1\n", "A=\"1\"\n"),
+    ] {
+        let output = listed(rt.alloc(), input.as_bytes())?;
+        assert_eq!(rt; output.as_slice(), want.as_bytes(), "at {input:?}");
+    }
+    Ok(())
+}
+
+#[test]
 fn a_list_is_listed_as_itself(rt: HostRuntime) -> Result<(), Fail> {
     let alloc = rt.alloc();
     let first = listed(alloc, b"B=2\nA=1\nA=3\nC='$x\"\\\n'\n")?;

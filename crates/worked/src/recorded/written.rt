@@ -94,92 +94,92 @@ fn texts_with_a_nul_are_read_back_and_not_listed(rt: HostRuntime) -> Result<(), 
 
 /// One pair.
 const ONE_PAIR: &str = r##"
-_x="A%E2%80%A8.export\$''\$"%0A|_x=A%E2%80%A8.export$''$
-export=":%CC%81 #\$A%0B\${A}\\\$\\\\"%0A|export=:%CC%81 #$A%0B${A}\$\\
-A.b="\$C1A\"%C2%85n%0CA\$"%0A|A.b=$C1A"%C2%85n%0CA$
-B="%0C\"\""%0A|B=%0C""
-export="\\ "%0A|export=\%20
-A.b="%EF%BB%BF"%0A|A.b=%EF%BB%BF
-B=""%0A|B=
-export="%0C"%0A|export=%0C
-A.b=""%0A|A.b=
-A="%1CC1}"%0A|A=%1CC1}
-A.b="\$ \$n\\\\export\\\\"%0A|A.b=$ $n\\export\\
-_x="%E2%85%A7%09%0D%1CA"%0A|_x=%E2%85%A7%09%0D%1CA
-A.b="# #"%0A|A.b=# #
-B=">%0D\\ \$C1\\\\:%1C \${"%0A|B=>%0D\ $C1\\:%1C ${
-export="\\'.%0D%09"%0A|export=\'.%0D%09
-_x="\$A''%CD%85%0B"%0A|_x=$A''%CD%85%0B
-export=""%0A|export=
-K="\$C1\${>\"#%C2%BD%09\\\$"%0A|K=$C1${>"#%C2%BD%09\$
-AA="\\ %0B''''\\n"%0A|AA=\ %0B''''\n
-K="%E3%80%80%E2%85%A7:}%E3%80%80%E3%80%80\$C1 "%0A|K=%E3%80%80%E2%85%A7:}%E3%80%80%E3%80%80$C1%20
-KEY="''\\\\"%0A|KEY=''\\
-export="=%0A\$B:"%0A|export==%0A$B:
+_x="A%e2%80%a8.export\$''\$"%0a|_x=A%e2%80%a8.export$''$
+export=":%cc%81 #\$A%0b\${A}\\\$\\\\"%0a|export=:%cc%81 #$A%0b${A}\$\\
+A.b="\$C1A\"%c2%85n%0cA\$"%0a|A.b=$C1A"%c2%85n%0cA$
+B="%0c\"\""%0a|B=%0c""
+export="\\ "%0a|export=\%20
+A.b="%ef%bb%bf"%0a|A.b=%ef%bb%bf
+B=""%0a|B=
+export="%0c"%0a|export=%0c
+A.b=""%0a|A.b=
+A="%1cC1}"%0a|A=%1cC1}
+A.b="\$ \$n\\\\export\\\\"%0a|A.b=$ $n\\export\\
+_x="%e2%85%a7%09%0d%1cA"%0a|_x=%e2%85%a7%09%0d%1cA
+A.b="# #"%0a|A.b=# #
+B=">%0d\\ \$C1\\\\:%1c \${"%0a|B=>%0d\ $C1\\:%1c ${
+export="\\'.%0d%09"%0a|export=\'.%0d%09
+_x="\$A''%cd%85%0b"%0a|_x=$A''%cd%85%0b
+export=""%0a|export=
+K="\$C1\${>\"#%c2%bd%09\\\$"%0a|K=$C1${>"#%c2%bd%09\$
+AA="\\ %0b''''\\n"%0a|AA=\ %0b''''\n
+K="%e3%80%80%e2%85%a7:}%e3%80%80%e3%80%80\$C1 "%0a|K=%e3%80%80%e2%85%a7:}%e3%80%80%e3%80%80$C1%20
+KEY="''\\\\"%0a|KEY=''\\
+export="=%0a\$B:"%0a|export==%0a$B:
 "##;
 
 /// Several pairs, one after another.
 const SEVERAL_PAIRS: &str = r##"
-_x="\\n_%CD%85%E3%80%80\\n\${"%0A_x="%00A#\\\""%0A_x="aexport%E2%80%8B%E2%85%A7%C2%85>ß export"%0A|_x=\n_%CD%85%E3%80%80\n${|_x=%00A#\"|_x=aexport%E2%80%8B%E2%85%A7%C2%85>ß export
-KEY="é%EF%BB%BFaB  #\${A}\\'"%0AKEY="%0D:\\ %00\$\$%0D#B"%0A|KEY=é%EF%BB%BFaB  #${A}\'|KEY=%0D:\ %00$$%0D#B
-KEY="\$a\\'%D9%A3\$_%F0%9F%98%80%E2%85%A7"%0AB=" %C2%A0"%0AA=""%0A|KEY=$a\'%D9%A3$_%F0%9F%98%80%E2%85%A7|B= %C2%A0|A=
-A="\$\\\\\${%CD%85"%0AK="  #."%0A|A=$\\${%CD%85|K=  #.
-_x="=%C2%A0''"%0AKEY="%E3%80%80B"%0A|_x==%C2%A0''|KEY=%E3%80%80B
-AA="\\\\\$\$%E6%BC%A2>{\\ "%0AA="\$B%F0%9F%98%80\$C1"%0A|AA=\\$$%E6%BC%A2>{\%20|A=$B%F0%9F%98%80$C1
-K="\$B\"%0Aé\\"%0AA="\"\\ %C2%85_exportA\\'%CC%81"%0AKEY="\\\\\"\"1%1C\""%0A|K=$B"%0Aé\|A="\ %C2%85_exportA\'%CC%81|KEY=\\""1%1C"
-AA="'%C2%A0%C2%85%CC%81%0B\$B"%0AA="%E2%80%A8é_"%0AAA="  #"%0A|AA='%C2%A0%C2%85%CC%81%0B$B|A=%E2%80%A8é_|AA=  #
-KEY="1\\\"\\n"%0Aexport="1"%0Aexport="\\%E6%BC%A2%C2%BD\$  #  #"%0A|KEY=1\"\n|export=1|export=\%E6%BC%A2%C2%BD$  #  #
-AA="#%0Bß\"%C2%85}%0D"%0AKEY="a\\\$%EF%BB%BF%09\"\"é\$C11>"%0A|AA=#%0Bß"%C2%85}%0D|KEY=a\$%EF%BB%BF%09""é$C11>
-B="é%E3%80%80_'%C2%BD%0A"%0AK="%D9%A3"%0A|B=é%E3%80%80_'%C2%BD%0A|K=%D9%A3
-B="%E6%BC%A2C1\\\$%0B\\'\${n"%0A_x="ß{%0C\$B"%0A|B=%E6%BC%A2C1\$%0B\'${n|_x=ß{%0C$B
-AA="%E2%80%8B%E2%80%8B1\$%E2%80%8B"%0AKEY="\\\"\$%0D\\\\%C2%A0%C2%85"%0AB="a%0B"%0A|AA=%E2%80%8B%E2%80%8B1$%E2%80%8B|KEY=\"$%0D\\%C2%A0%C2%85|B=a%0B
-A="\${A}%E2%85%A7%E3%80%80:"%0AB="A%0B"%0A|A=${A}%E2%85%A7%E3%80%80:|B=A%0B
-B=" #\\'''na1é%0Aé"%0AA.b="\\\" C1%C2%85%0Cé"%0AC1="%EF%BB%BF\\'%E2%80%8B-\$"%0A|B= #\'''na1é%0Aé|A.b=\" C1%C2%85%0Cé|C1=%EF%BB%BF\'%E2%80%8B-$
-KEY="%0C\$C1\\%E2%85%A7%E2%80%A8%E6%BC%A2\$%0D"%0AB="%0B"%0A|KEY=%0C$C1\%E2%85%A7%E2%80%A8%E6%BC%A2$%0D|B=%0B
-export="%0A.%CD%85%C2%A0\$"%0AKEY="=\"export\$A"%0A|export=%0A.%CD%85%C2%A0$|KEY=="export$A
-AA="%C2%BD}\\\\%E3%80%80A\\\$"%0AK="{\$%0D\"%C2%85"%0AAA=".é%CD%85C1\$\$B\$"%0A|AA=%C2%BD}\\%E3%80%80A\$|K={$%0D"%C2%85|AA=.é%CD%85C1$$B$
-K="\\'%1C\"\""%0AAA=""%0AB="ß_%D9%A3%D9%A3%0D%C2%BD'\$"%0A|K=\'%1C""|AA=|B=ß_%D9%A3%D9%A3%0D%C2%BD'$
-B="_\\'ß"%0AB="''a%0A"%0AB="%00%00\$C1%C2%BD\${A}%D9%A3{%E3%80%80'"%0A|B=_\'ß|B=''a%0A|B=%00%00$C1%C2%BD${A}%D9%A3{%E3%80%80'
-A.b="%C2%A0"%0AC1="\\\\%1C\$C1"%0A|A.b=%C2%A0|C1=\\%1C$C1
-_x="\\\"-_é%1CC1"%0AA.b=""%0AKEY=".export"%0A|_x=\"-_é%1CC1|A.b=|KEY=.export
-A="%E6%BC%A2%EF%BB%BF%C2%A0%C2%BD%E6%BC%A2}%0A#\$"%0AA.b="\"\\\$A>>\$ "%0AA="ß1 %09#%CD%85\\\"\\n>"%0A|A=%E6%BC%A2%EF%BB%BF%C2%A0%C2%BD%E6%BC%A2}%0A#$|A.b="\$A>>$%20|A=ß1 %09#%CD%85\"\n>
-A.b="1:\\>"%0AKEY="\\n_\\\$export%0A%C2%BD-%E2%80%A8"%0A|A.b=1:\>|KEY=\n_\$export%0A%C2%BD-%E2%80%A8
-A="A%CC%81':"%0AC1="%CD%85}\$C1%E2%80%A8"%0Aexport="\$%0B"%0A|A=A%CC%81':|C1=%CD%85}$C1%E2%80%A8|export=$%0B
-B="%C2%A0%1C\"%C2%A0\\\"''\\\\"%0AKEY="n  #%C2%A0%0D:C1\$%E2%80%8B"%0A|B=%C2%A0%1C"%C2%A0\"''\\|KEY=n  #%C2%A0%0D:C1$%E2%80%8B
-A.b="%E2%80%8B\\\$\\%E2%85%A7%C2%85"%0AC1="\\ \$B\\ \$\\  "%0AA=" # %E3%80%80%1C"%0A|A.b=%E2%80%8B\$\%E2%85%A7%C2%85|C1=\ $B\ $\ %20|A= # %E3%80%80%1C
-AA=" #\$A"%0AKEY="%1C%0B%0A-%09%09%E6%BC%A2"%0A|AA= #$A|KEY=%1C%0B%0A-%09%09%E6%BC%A2
-_x="1."%0AKEY="%F0%9F%98%80\\n\${A}A\${\\\$\""%0AA="\\'%0D\\\$\\'=.\$A"%0A|_x=1.|KEY=%F0%9F%98%80\n${A}A${\$"|A=\'%0D\$\'=.$A
-K="\\\"%EF%BB%BF%0A #\${%D9%A3\\  "%0AC1="%E2%80%8B%1C\$\\\"''%CC%81%E6%BC%A2"%0A|K=\"%EF%BB%BF%0A #${%D9%A3\ %20|C1=%E2%80%8B%1C$\"''%CC%81%E6%BC%A2
-A="\$%CC%81{"%0AA.b=" \$A\\\"%09"%0A|A=$%CC%81{|A.b= $A\"%09
-B="%EF%BB%BF%0A}C1\"\\\"\${A}\${"%0AB="%0B"%0A|B=%EF%BB%BF%0A}C1"\"${A}${|B=%0B
-C1="\${ %E6%BC%A2%E6%BC%A2\\C1%C2%85''"%0AK="A.{\$C1%EF%BB%BF\\ "%0A|C1=${ %E6%BC%A2%E6%BC%A2\C1%C2%85''|K=A.{$C1%EF%BB%BF\%20
-C1="%CC%81\${ß}1"%0AK="%EF%BB%BFA%0C%E2%80%A8ßexport"%0AKEY="ß"%0A|C1=%CC%81${ß}1|K=%EF%BB%BFA%0C%E2%80%A8ßexport|KEY=ß
-B="%C2%85._"%0A_x="%0D%CD%85%EF%BB%BF\$\\\$\\\$\\\$%E2%80%A8"%0AAA="%E2%85%A7\$\"\\ BB.%0D"%0A|B=%C2%85._|_x=%0D%CD%85%EF%BB%BF$\$\$\$%E2%80%A8|AA=%E2%85%A7$"\ BB.%0D
-K=""%0AKEY="%CC%81 ''%E6%BC%A2''"%0A|K=|KEY=%CC%81 ''%E6%BC%A2''
-A.b=" \$%1C"%0AKEY="a}1%0D"%0A|A.b= $%1C|KEY=a}1%0D
-AA="\\ %C2%85C1\\\""%0AKEY=""%0AC1=""%0A|AA=\ %C2%85C1\"|KEY=|C1=
-C1="'\${%E2%85%A7%E2%80%A8.\"\"%0C"%0AA.b="%0C"%0A|C1='${%E2%85%A7%E2%80%A8.""%0C|A.b=%0C
-KEY="%C2%85"%0A_x=" %C2%A0.-C1"%0AK=" %C2%BD'%E3%80%80%D9%A3"%0A|KEY=%C2%85|_x= %C2%A0.-C1|K= %C2%BD'%E3%80%80%D9%A3
-A.b="%E6%BC%A2' \"\"''''C1"%0AKEY=" 1%0A%1C%C2%BD"%0A|A.b=%E6%BC%A2' ""''''C1|KEY= 1%0A%1C%C2%BD
-B="\":%D9%A3%E2%80%8B"%0AKEY="%E2%80%A8\$"%0A|B=":%D9%A3%E2%80%8B|KEY=%E2%80%A8$
-KEY="\\n%0D''>"%0AA="\$_%E3%80%80 #'%E2%80%8BB\\ \\\$"%0A|KEY=\n%0D''>|A=$_%E3%80%80 #'%E2%80%8BB\ \$
-_x="%C2%A0\\ '=:\$C1%E2%80%A8é%0D"%0AK="%E6%BC%A2\\ {%E6%BC%A2%D9%A3C1é"%0A|_x=%C2%A0\ '=:$C1%E2%80%A8é%0D|K=%E6%BC%A2\ {%E6%BC%A2%D9%A3C1é
-K=":%CC%81  #\\n%09{\${A}"%0AB="1"%0AB="%E3%80%80\\n%0D_\$%E2%85%A7=%1C\"\""%0A|K=:%CC%81  #\n%09{${A}|B=1|B=%E3%80%80\n%0D_$%E2%85%A7=%1C""
-A=":%E2%85%A7%E6%BC%A2 #\\\"-{"%0AB="\${A}export%0A%CC%81\$>-\\ "%0A|A=:%E2%85%A7%E6%BC%A2 #\"-{|B=${A}export%0A%CC%81$>-\%20
-_x=""%0AK="="%0AKEY="#"%0A|_x=|K==|KEY=#
+_x="\\n_%cd%85%e3%80%80\\n\${"%0a_x="%00A#\\\""%0a_x="aexport%e2%80%8b%e2%85%a7%c2%85>ß export"%0a|_x=\n_%cd%85%e3%80%80\n${|_x=%00A#\"|_x=aexport%e2%80%8b%e2%85%a7%c2%85>ß export
+KEY="é%ef%bb%bfaB  #\${A}\\'"%0aKEY="%0d:\\ %00\$\$%0d#B"%0a|KEY=é%ef%bb%bfaB  #${A}\'|KEY=%0d:\ %00$$%0d#B
+KEY="\$a\\'%d9%a3\$_%f0%9f%98%80%e2%85%a7"%0aB=" %c2%a0"%0aA=""%0a|KEY=$a\'%d9%a3$_%f0%9f%98%80%e2%85%a7|B= %c2%a0|A=
+A="\$\\\\\${%cd%85"%0aK="  #."%0a|A=$\\${%cd%85|K=  #.
+_x="=%c2%a0''"%0aKEY="%e3%80%80B"%0a|_x==%c2%a0''|KEY=%e3%80%80B
+AA="\\\\\$\$%e6%bc%a2>{\\ "%0aA="\$B%f0%9f%98%80\$C1"%0a|AA=\\$$%e6%bc%a2>{\%20|A=$B%f0%9f%98%80$C1
+K="\$B\"%0aé\\"%0aA="\"\\ %c2%85_exportA\\'%cc%81"%0aKEY="\\\\\"\"1%1c\""%0a|K=$B"%0aé\|A="\ %c2%85_exportA\'%cc%81|KEY=\\""1%1c"
+AA="'%c2%a0%c2%85%cc%81%0b\$B"%0aA="%e2%80%a8é_"%0aAA="  #"%0a|AA='%c2%a0%c2%85%cc%81%0b$B|A=%e2%80%a8é_|AA=  #
+KEY="1\\\"\\n"%0aexport="1"%0aexport="\\%e6%bc%a2%c2%bd\$  #  #"%0a|KEY=1\"\n|export=1|export=\%e6%bc%a2%c2%bd$  #  #
+AA="#%0bß\"%c2%85}%0d"%0aKEY="a\\\$%ef%bb%bf%09\"\"é\$C11>"%0a|AA=#%0bß"%c2%85}%0d|KEY=a\$%ef%bb%bf%09""é$C11>
+B="é%e3%80%80_'%c2%bd%0a"%0aK="%d9%a3"%0a|B=é%e3%80%80_'%c2%bd%0a|K=%d9%a3
+B="%e6%bc%a2C1\\\$%0b\\'\${n"%0a_x="ß{%0c\$B"%0a|B=%e6%bc%a2C1\$%0b\'${n|_x=ß{%0c$B
+AA="%e2%80%8b%e2%80%8b1\$%e2%80%8b"%0aKEY="\\\"\$%0d\\\\%c2%a0%c2%85"%0aB="a%0b"%0a|AA=%e2%80%8b%e2%80%8b1$%e2%80%8b|KEY=\"$%0d\\%c2%a0%c2%85|B=a%0b
+A="\${A}%e2%85%a7%e3%80%80:"%0aB="A%0b"%0a|A=${A}%e2%85%a7%e3%80%80:|B=A%0b
+B=" #\\'''na1é%0aé"%0aA.b="\\\" C1%c2%85%0cé"%0aC1="%ef%bb%bf\\'%e2%80%8b-\$"%0a|B= #\'''na1é%0aé|A.b=\" C1%c2%85%0cé|C1=%ef%bb%bf\'%e2%80%8b-$
+KEY="%0c\$C1\\%e2%85%a7%e2%80%a8%e6%bc%a2\$%0d"%0aB="%0b"%0a|KEY=%0c$C1\%e2%85%a7%e2%80%a8%e6%bc%a2$%0d|B=%0b
+export="%0a.%cd%85%c2%a0\$"%0aKEY="=\"export\$A"%0a|export=%0a.%cd%85%c2%a0$|KEY=="export$A
+AA="%c2%bd}\\\\%e3%80%80A\\\$"%0aK="{\$%0d\"%c2%85"%0aAA=".é%cd%85C1\$\$B\$"%0a|AA=%c2%bd}\\%e3%80%80A\$|K={$%0d"%c2%85|AA=.é%cd%85C1$$B$
+K="\\'%1c\"\""%0aAA=""%0aB="ß_%d9%a3%d9%a3%0d%c2%bd'\$"%0a|K=\'%1c""|AA=|B=ß_%d9%a3%d9%a3%0d%c2%bd'$
+B="_\\'ß"%0aB="''a%0a"%0aB="%00%00\$C1%c2%bd\${A}%d9%a3{%e3%80%80'"%0a|B=_\'ß|B=''a%0a|B=%00%00$C1%c2%bd${A}%d9%a3{%e3%80%80'
+A.b="%c2%a0"%0aC1="\\\\%1c\$C1"%0a|A.b=%c2%a0|C1=\\%1c$C1
+_x="\\\"-_é%1cC1"%0aA.b=""%0aKEY=".export"%0a|_x=\"-_é%1cC1|A.b=|KEY=.export
+A="%e6%bc%a2%ef%bb%bf%c2%a0%c2%bd%e6%bc%a2}%0a#\$"%0aA.b="\"\\\$A>>\$ "%0aA="ß1 %09#%cd%85\\\"\\n>"%0a|A=%e6%bc%a2%ef%bb%bf%c2%a0%c2%bd%e6%bc%a2}%0a#$|A.b="\$A>>$%20|A=ß1 %09#%cd%85\"\n>
+A.b="1:\\>"%0aKEY="\\n_\\\$export%0a%c2%bd-%e2%80%a8"%0a|A.b=1:\>|KEY=\n_\$export%0a%c2%bd-%e2%80%a8
+A="A%cc%81':"%0aC1="%cd%85}\$C1%e2%80%a8"%0aexport="\$%0b"%0a|A=A%cc%81':|C1=%cd%85}$C1%e2%80%a8|export=$%0b
+B="%c2%a0%1c\"%c2%a0\\\"''\\\\"%0aKEY="n  #%c2%a0%0d:C1\$%e2%80%8b"%0a|B=%c2%a0%1c"%c2%a0\"''\\|KEY=n  #%c2%a0%0d:C1$%e2%80%8b
+A.b="%e2%80%8b\\\$\\%e2%85%a7%c2%85"%0aC1="\\ \$B\\ \$\\  "%0aA=" # %e3%80%80%1c"%0a|A.b=%e2%80%8b\$\%e2%85%a7%c2%85|C1=\ $B\ $\ %20|A= # %e3%80%80%1c
+AA=" #\$A"%0aKEY="%1c%0b%0a-%09%09%e6%bc%a2"%0a|AA= #$A|KEY=%1c%0b%0a-%09%09%e6%bc%a2
+_x="1."%0aKEY="%f0%9f%98%80\\n\${A}A\${\\\$\""%0aA="\\'%0d\\\$\\'=.\$A"%0a|_x=1.|KEY=%f0%9f%98%80\n${A}A${\$"|A=\'%0d\$\'=.$A
+K="\\\"%ef%bb%bf%0a #\${%d9%a3\\  "%0aC1="%e2%80%8b%1c\$\\\"''%cc%81%e6%bc%a2"%0a|K=\"%ef%bb%bf%0a #${%d9%a3\ %20|C1=%e2%80%8b%1c$\"''%cc%81%e6%bc%a2
+A="\$%cc%81{"%0aA.b=" \$A\\\"%09"%0a|A=$%cc%81{|A.b= $A\"%09
+B="%ef%bb%bf%0a}C1\"\\\"\${A}\${"%0aB="%0b"%0a|B=%ef%bb%bf%0a}C1"\"${A}${|B=%0b
+C1="\${ %e6%bc%a2%e6%bc%a2\\C1%c2%85''"%0aK="A.{\$C1%ef%bb%bf\\ "%0a|C1=${ %e6%bc%a2%e6%bc%a2\C1%c2%85''|K=A.{$C1%ef%bb%bf\%20
+C1="%cc%81\${ß}1"%0aK="%ef%bb%bfA%0c%e2%80%a8ßexport"%0aKEY="ß"%0a|C1=%cc%81${ß}1|K=%ef%bb%bfA%0c%e2%80%a8ßexport|KEY=ß
+B="%c2%85._"%0a_x="%0d%cd%85%ef%bb%bf\$\\\$\\\$\\\$%e2%80%a8"%0aAA="%e2%85%a7\$\"\\ BB.%0d"%0a|B=%c2%85._|_x=%0d%cd%85%ef%bb%bf$\$\$\$%e2%80%a8|AA=%e2%85%a7$"\ BB.%0d
+K=""%0aKEY="%cc%81 ''%e6%bc%a2''"%0a|K=|KEY=%cc%81 ''%e6%bc%a2''
+A.b=" \$%1c"%0aKEY="a}1%0d"%0a|A.b= $%1c|KEY=a}1%0d
+AA="\\ %c2%85C1\\\""%0aKEY=""%0aC1=""%0a|AA=\ %c2%85C1\"|KEY=|C1=
+C1="'\${%e2%85%a7%e2%80%a8.\"\"%0c"%0aA.b="%0c"%0a|C1='${%e2%85%a7%e2%80%a8.""%0c|A.b=%0c
+KEY="%c2%85"%0a_x=" %c2%a0.-C1"%0aK=" %c2%bd'%e3%80%80%d9%a3"%0a|KEY=%c2%85|_x= %c2%a0.-C1|K= %c2%bd'%e3%80%80%d9%a3
+A.b="%e6%bc%a2' \"\"''''C1"%0aKEY=" 1%0a%1c%c2%bd"%0a|A.b=%e6%bc%a2' ""''''C1|KEY= 1%0a%1c%c2%bd
+B="\":%d9%a3%e2%80%8b"%0aKEY="%e2%80%a8\$"%0a|B=":%d9%a3%e2%80%8b|KEY=%e2%80%a8$
+KEY="\\n%0d''>"%0aA="\$_%e3%80%80 #'%e2%80%8bB\\ \\\$"%0a|KEY=\n%0d''>|A=$_%e3%80%80 #'%e2%80%8bB\ \$
+_x="%c2%a0\\ '=:\$C1%e2%80%a8é%0d"%0aK="%e6%bc%a2\\ {%e6%bc%a2%d9%a3C1é"%0a|_x=%c2%a0\ '=:$C1%e2%80%a8é%0d|K=%e6%bc%a2\ {%e6%bc%a2%d9%a3C1é
+K=":%cc%81  #\\n%09{\${A}"%0aB="1"%0aB="%e3%80%80\\n%0d_\$%e2%85%a7=%1c\"\""%0a|K=:%cc%81  #\n%09{${A}|B=1|B=%e3%80%80\n%0d_$%e2%85%a7=%1c""
+A=":%e2%85%a7%e6%bc%a2 #\\\"-{"%0aB="\${A}export%0a%cc%81\$>-\\ "%0a|A=:%e2%85%a7%e6%bc%a2 #\"-{|B=${A}export%0a%cc%81$>-\%20
+_x=""%0aK="="%0aKEY="#"%0a|_x=|K==|KEY=#
 "##;
 
 /// The first text of a name has a NUL.
 const WITH_A_NUL: &str = r##"
-KEY="  #\$\\'\\'\${\$C1\\\$}"%0AB="%00%C2%85\${A}"%0A|KEY=  #$\'\'${$C1\$}|B=%00%C2%85${A}
-A=""%0Aexport="{\$A-%0B\"\"%00%D9%A3"%0A|A=|export={$A-%0B""%00%D9%A3
-AA="C1%00 "%0Aexport=" %E2%85%A7%0CBC1"%0A|AA=C1%00%20|export= %E2%85%A7%0CBC1
-AA="export_%0D"%0AA="\\é%F0%9F%98%80B\$}\\ "%0AC1="%C2%A0\$B%00}"%0A|AA=export_%0D|A=\é%F0%9F%98%80B$}\%20|C1=%C2%A0$B%00}
-B="%0B%00\\. #B"%0A|B=%0B%00\. #B
-B="%1C''%00%E2%80%A8 %D9%A3%E3%80%80{#"%0Aexport="A%E6%BC%A2.\${A}\"%09"%0A|B=%1C''%00%E2%80%A8 %D9%A3%E3%80%80{#|export=A%E6%BC%A2.${A}"%09
-A.b="%00%C2%BD #"%0A_x="_%0A%CC%81%E2%80%A8"%0A|A.b=%00%C2%BD #|_x=_%0A%CC%81%E2%80%A8
-B="A"%0Aexport="%CC%81%0C=%00"%0A|B=A|export=%CC%81%0C=%00
-export="\\\\%09a%E2%80%8B}\\\"\\n%E2%85%A7%00"%0AA.b="C1export%C2%BD%E2%85%A7%C2%BD\${A}'\$"%0A|export=\\%09a%E2%80%8B}\"\n%E2%85%A7%00|A.b=C1export%C2%BD%E2%85%A7%C2%BD${A}'$
-C1=""%0Aexport=""%0AB="%00export%C2%85"%0A|C1=|export=|B=%00export%C2%85
-export="  #B\$B"%0AAA="%C2%85\\\$\\\$\"\"%00"%0AB=" \\\" #\\\\'>\\n%E6%BC%A2"%0A|export=  #B$B|AA=%C2%85\$\$""%00|B= \" #\\'>\n%E6%BC%A2
+KEY="  #\$\\'\\'\${\$C1\\\$}"%0aB="%00%c2%85\${A}"%0a|KEY=  #$\'\'${$C1\$}|B=%00%c2%85${A}
+A=""%0aexport="{\$A-%0b\"\"%00%d9%a3"%0a|A=|export={$A-%0b""%00%d9%a3
+AA="C1%00 "%0aexport=" %e2%85%a7%0cBC1"%0a|AA=C1%00%20|export= %e2%85%a7%0cBC1
+AA="export_%0d"%0aA="\\é%f0%9f%98%80B\$}\\ "%0aC1="%c2%a0\$B%00}"%0a|AA=export_%0d|A=\é%f0%9f%98%80B$}\%20|C1=%c2%a0$B%00}
+B="%0b%00\\. #B"%0a|B=%0b%00\. #B
+B="%1c''%00%e2%80%a8 %d9%a3%e3%80%80{#"%0aexport="A%e6%bc%a2.\${A}\"%09"%0a|B=%1c''%00%e2%80%a8 %d9%a3%e3%80%80{#|export=A%e6%bc%a2.${A}"%09
+A.b="%00%c2%bd #"%0a_x="_%0a%cc%81%e2%80%a8"%0a|A.b=%00%c2%bd #|_x=_%0a%cc%81%e2%80%a8
+B="A"%0aexport="%cc%81%0c=%00"%0a|B=A|export=%cc%81%0c=%00
+export="\\\\%09a%e2%80%8b}\\\"\\n%e2%85%a7%00"%0aA.b="C1export%c2%bd%e2%85%a7%c2%bd\${A}'\$"%0a|export=\\%09a%e2%80%8b}\"\n%e2%85%a7%00|A.b=C1export%c2%bd%e2%85%a7%c2%bd${A}'$
+C1=""%0aexport=""%0aB="%00export%c2%85"%0a|C1=|export=|B=%00export%c2%85
+export="  #B\$B"%0aAA="%c2%85\\\$\\\$\"\"%00"%0aB=" \\\" #\\\\'>\\n%e6%bc%a2"%0a|export=  #B$B|AA=%c2%85\$\$""%00|B= \" #\\'>\n%e6%bc%a2
 "##;
