@@ -1,5 +1,5 @@
 -- What a logical line says, as the item that it adds.
-use Rattle.std.proofs.Common.{◌≡◌, ℕ, Bool, true, false, cond, List, [], Option, Some, None, Result, Ok, Err, ◌⊎◌, inl, inr, ⊎_elim, refl, sym, ◌∙◌, ap, subst, unwrap_or, string_bytes}
+use Rattle.std.proofs.Common.{◌≡◌, ℕ, Bool, true, false, cond, List, [], Option, Some, None, Result, Ok, Err, ◌⊎◌, inl, inr, refl, sym, ◌∙◌, ap, subst, unwrap_or, string_bytes}
 use Rattle.std.specs.Prelude.{IfOk, IfErr, option_map, bytes_eq, if◌then◌else◌}
 use Rattle.std.specs.Str.{chars}
 use Rattle.std.specs.Result.{result_transpose}
@@ -31,10 +31,10 @@ use Rattle.dotenvy.proofs.Statements.{one_statement}
 use Rattle.dotenvy.proofs.LookUps.{changed_key, recalled-inserted}
 
 -- a key that is declared with nothing stands for the empty text, as where it is remembered
-remembered_text : (dialect : Dialect) (rest bytes value : List ℕ) (pieces : List Piece) (look_up : LookUp) → Assigns dialect rest pieces → chars bytes ≡ meaning look_up pieces → (b : Bool) → is_empty_or_comment rest ≡ b → unwrap_or (option_map chars (if b then None else Some bytes)) [] ≡ meaning look_up pieces
-remembered_text dialect rest bytes value pieces look_up assigns means false h = means
-remembered_text dialect rest bytes value pieces look_up (inl empty) means true h = ap (meaning look_up) (sym empty.1)
-remembered_text dialect rest bytes value pieces look_up (inr some) means true h = let f : true ≡ false = sym h ∙ not_is (is_empty_or_comment rest) some.0 in cc
+remembered_text : (dialect : Dialect) (rest bytes : List ℕ) (pieces : List Piece) (look_up : LookUp) → Assigns dialect rest pieces → chars bytes ≡ meaning look_up pieces → (b : Bool) → is_empty_or_comment rest ≡ b → unwrap_or (option_map chars (if b then None else Some bytes)) [] ≡ meaning look_up pieces
+remembered_text dialect rest bytes pieces look_up assigns means false h = means
+remembered_text dialect rest bytes pieces look_up (inl empty) means true h = ap (meaning look_up) (sym empty.1)
+remembered_text dialect rest bytes pieces look_up (inr some) means true h = let f : true ≡ false = sym h ∙ not_is (is_empty_or_comment rest) some.0 in cc
 
 -- a declaration's key stands for its value from then on
 remembers_pair : (dialect : Dialect) (line rest bytes key : List ℕ) (pieces : List Piece) (look_up : LookUp) (old new : Remembered) → is_key key ≡ true → IsStatement (trimmed line) key rest → Says dialect line (Pair key pieces) → chars bytes ≡ meaning look_up pieces → new ≡ fin.insert old key (if is_empty_or_comment rest then None else Some bytes) → (name : List ℕ) → text_of (recalled_of new) name ≡ text_of (with_value (recalled_of old) key (meaning look_up pieces)) name
@@ -47,7 +47,7 @@ remembers_pair dialect line rest bytes key pieces look_up old new is statement s
     text = if is_empty_or_comment rest then None else Some bytes
 
     stands_for : unwrap_or (option_map chars text) [] ≡ meaning look_up pieces
-    stands_for = remembered_text dialect rest bytes bytes pieces look_up (subst (λ r. Assigns dialect r pieces) ((one_statement (trimmed line) key says.1 key rest says.2 statement).1) says.3) means (is_empty_or_comment rest) refl
+    stands_for = remembered_text dialect rest bytes pieces look_up (subst (λ r. Assigns dialect r pieces) ((one_statement (trimmed line) key says.1 key rest says.2 statement).1) says.3) means (is_empty_or_comment rest) refl
 
     at : (b : Bool) → unwrap_or (cond b (option_map chars text) (recalled_of old name)) [] ≡ unwrap_or (cond b (Some (meaning look_up pieces)) (recalled_of old name)) []
     at true = stands_for

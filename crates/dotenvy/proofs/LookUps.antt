@@ -1,9 +1,9 @@
 -- Look-ups by bytes and by characters: a change of a key's text is the same change in both.
-use Rattle.std.proofs.Common.{◌≡◌, ℕ, ◌+◌, ◌<◌, ◌≤◌, ◌/◌, ◌%◌, Bool, true, false, cond, ◌&&◌, List, [], ◌∷◌, ◌++◌, Option, Some, None, refl, sym, ◌∙◌, ap, arith, ltb}
-use Rattle.std.specs.Prelude.{◌==◌, option_map, encode_utf8_all, IsTrue}
+use Rattle.std.proofs.Common.{◌≡◌, ℕ, ◌+◌, ◌<◌, ◌≤◌, ◌/◌, ◌%◌, Bool, true, false, cond, ◌&&◌, List, [], ◌∷◌, ◌++◌, Option, Some, refl, sym, ◌∙◌, ap, arith, ltb}
+use Rattle.std.specs.Prelude.{◌==◌, option_map, encode_utf8_all}
 use Rattle.std.specs.Option.{option_flatten}
 use Rattle.std.specs.List.{list_all}
-use Rattle.std.specs.Str.{chars, bytes_eq, IsUtf8}
+use Rattle.std.specs.Str.{chars, bytes_eq}
 use Rattle.std.specs.Ordering.{nat_cmp, eq_by_cmp}
 use Rattle.std.specs.Cmp.{eq_by_cmp_equiv}
 use Rattle.std.specs.Cmp.Lexicographic.{slice_cmp}

@@ -1,10 +1,9 @@
 -- The next item: the lines that add nothing are passed, and the first that adds one gives it.
-use Rattle.std.proofs.Common.{◌≡◌, ◌≢◌, ℕ, true, false, List, [], ◌∷◌, ◌++◌, Option, Some, None, Result, Ok, Err, ◌⊎◌, inl, inr, refl, sym, ◌∙◌, ap, subst, arith, string_bytes}
+use Rattle.std.proofs.Common.{◌≡◌, ◌≢◌, ℕ, true, false, List, [], ◌∷◌, ◌++◌, Option, Some, None, Result, Ok, Err, inl, inr, refl, sym, ◌∙◌, ap, subst, arith, string_bytes}
 use Rattle.std.specs.Str.{chars}
 use Rattle.std.specs.declared.string.String.{String}
-use Rattle.std.specs.declared.io.Error.{Error as IoError}
 use Rattle.std.specs.declared.io.ErrorKind.{ErrorKind}
-use Rattle.std.specs.declared.io.ErrorKind.TheVariants.{Interrupted, InvalidData}
+use Rattle.std.specs.declared.io.ErrorKind.TheVariants.{InvalidData}
 use Rattle.std.specs.Prelude.{is_some}
 use Rattle.std.proofs.lemmas.Str.{chars-nil}
 use Rattle.std.proofs.lemmas.Option.{none-some}
@@ -12,19 +11,17 @@ use Rattle.dotenvy.specs.declared.dialect.Dialect.{Dialect}
 use Rattle.dotenvy.specs.declared.errors.Error.{Error}
 use Rattle.dotenvy.specs.declared.errors.Error.TheVariants.{LineParse, Io, EnvVar, Nul, Memory}
 use Rattle.dotenvy.specs.declared.lines.Stage.TheVariants.{Open, Ended, Failed}
-use Rattle.dotenvy.specs.Errors.{IsMemoryErr}
 use Rattle.dotenvy.specs.LogicalLine.{Logical, Skip, Text, Open as OpenEnd, Broken}
-use Rattle.dotenvy.specs.Line.{Outcome, Nothing, Pair, Fault, Says}
+use Rattle.dotenvy.specs.Line.{Outcome, Nothing, Says}
 use Rattle.dotenvy.specs.Entries.{Entry, Fails, LineParse as FailsLine, Io as FailsIo, outcome_entries, Gives}
 use Rattle.dotenvy.specs.Environment.{Texts}
-use Rattle.dotenvy.specs.Remembered.{Remembered}
 use Rattle.dotenvy.specs.Source.{Ahead}
 use Rattle.dotenvy.specs.Input.{InputState, IsTold, ReadsFit, IsReadFault, IsFinal}
 use Rattle.dotenvy.specs.Lines.{LinesState, TakesNext, TakesAnswer, IsUndecided, GoesOn, FailsFor, NextIs}
 use Rattle.dotenvy.specs.Reading.{HasLeft}
-use Rattle.dotenvy.specs.Names.{names_of, recalled_of}
+use Rattle.dotenvy.specs.Names.{recalled_of}
 use Rattle.dotenvy.specs.Iter.{IterState}
-use Rattle.dotenvy.specs.NextItem.{IsItem, text_of, RemembersEntry, TakesEntry, ItemIs}
+use Rattle.dotenvy.specs.NextItem.{text_of, ItemIs}
 use Rattle.dotenvy.specs.LineItem.{lines_after, AddsEntries, IsRefused, AddsLine}
 use Rattle.dotenvy.proofs.Inputs.{fits_more, bound_before, io_weaker}
 use Rattle.dotenvy.proofs.EntriesOnce.{entries_exist}
