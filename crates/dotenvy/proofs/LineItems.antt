@@ -53,6 +53,7 @@ remembers_pair dialect line rest bytes key pieces look_up old new is statement s
     at true = stands_for
     at false = refl
 
+-- a pair is the item of its declaration
 pair_added : {A : Type 0} (dialect : Dialect) (names : Texts) (line key : List ℕ) (pieces : List Piece) (old new : Remembered) (pair : String A × String A) → Says dialect line (Pair key pieces) → IsLineAnswer (names_of names old) (Pair key pieces) (Ok (Some pair)) → Remembers line old new (Ok (Some pair)) → AddsEntries names old (outcome_entries (Pair key pieces)) (Some (Ok pair)) new
 pair_added dialect names line key pieces old new pair says (key_is, means) (rest, statement, inserted) =
     let same : chars (string_bytes pair.0) ≡ string_bytes pair.0 = chars-key (string_bytes pair.0) (IsUtf8-string_bytes pair.0) statement.is_key in
@@ -75,6 +76,7 @@ abbrev pub lines_said : {T A : Type 0} → Result T (Error A) → LinesState →
 lines_said (Ok said) s = s
 lines_said (Err e) s = lines_after e s
 
+-- they have failed where memory was refused
 pub refused_lines : {T A : Type 0} (said : Result T (Error A)) (s t : LinesState) → IsMemoryErr said → t ≡ record { input = s.input; stage = Failed } → t ≡ lines_said said s
 refused_lines (Ok x) s t is h = absurd is
 refused_lines (Err (LineParse text index)) s t is h = absurd is
@@ -83,6 +85,7 @@ refused_lines (Err (EnvVar e)) s t is h = absurd is
 refused_lines (Err (Nul key)) s t is h = absurd is
 refused_lines (Err (Memory e)) s t is h = h
 
+-- and are as before where it was not
 pub kept_lines : {T A : Type 0} (said : Result T (Error A)) (s t : LinesState) → ¬ (IsMemoryErr said) → t ≡ s → t ≡ lines_said said s
 kept_lines (Ok x) s t other h = h
 kept_lines (Err (LineParse text index)) s t other h = h
@@ -91,6 +94,7 @@ kept_lines (Err (EnvVar e)) s t other h = h
 kept_lines (Err (Nul key)) s t other h = h
 kept_lines (Err (Memory e)) s t other h = absurd (other tt)
 
+-- what a line says leaves them as they are
 answer_lines : {A : Type 0} (look_up : LookUp) (outcome : Outcome) (said : Result (Option (String A × String A)) (Error A)) (s t : LinesState) → IsLineAnswer look_up outcome said → t ≡ lines_said said s → t ≡ s
 answer_lines look_up outcome (Ok said) s t is h = h
 answer_lines look_up Nothing (Err e) s t is h = absurd is

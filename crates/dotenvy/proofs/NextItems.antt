@@ -156,6 +156,7 @@ after_input (EnvVar e) m = refl
 after_input (Nul key) m = refl
 after_input (Memory e) m = refl
 
+-- where no logical line is whole before a fault, no entry is left
 none_decided : (dialect : Dialect) (fault : Option ErrorKind) (kind : ErrorKind) (left : List ℕ) (entries : List Entry) → HasLeft dialect fault left entries → fault ≡ Some kind → IsUndecided (record { bytes = left; fault = fault }) → entries ≡ []
 none_decided dialect fault kind left entries has is undecided = left_once dialect (Some kind) left entries [] (subst (λ f. HasLeft dialect f left entries) is has) (left-undecided dialect kind left (subst (λ f. IsUndecided (ahead_of left f)) is undecided))
 
@@ -193,10 +194,12 @@ next_leads names s t v m line item shut next adds dialect a told entries p =
     goes (inl is_open) = is_open
     goes (inr (ended, nothing)) = absurd (none-some line (sym (shut (λ h. (let f : Ended ≡ Open = sym ended ∙ h in cc)))))
 
+-- where an item came, it is the next one
 pub leads_item : {A : Type 0} (names : Texts) (a : Ahead) (s v : IterState) (entries : List Entry) (item : Option (Result (String A × String A) (Error A))) → is_some item ≡ true → LeadsTo names a s entries item v → ItemIs names a s entries item v
 leads_item names a s v entries None is l = cc
 leads_item names a s v entries (Some item) is l = l
 
+-- where none came, the line was passed
 pub leads_on : {A : Type 0} (names : Texts) (a : Ahead) (s v : IterState) (entries : List Entry) (item : Option (Result (String A × String A) (Error A))) → is_some item ≡ false → LeadsTo names a s entries item v → Passed a s entries v
 leads_on names a s v entries None is l = l
 leads_on names a s v entries (Some item) is l = cc
