@@ -1,5 +1,5 @@
 -- What a logical line says, as the item that it adds.
-use Rattle.std.proofs.Common.{◌≡◌, ℕ, Bool, true, false, cond, List, [], Option, Some, None, Result, Ok, Err, ◌⊎◌, inl, inr, ⊎_elim, refl, sym, ◌∙◌, ap, subst, unwrap_or, string_bytes}
+use Rattle.std.proofs.Common.{◌≡◌, ℕ, Bool, true, false, cond, List, [], Option, Some, None, Result, Ok, Err, ◌⊎◌, inl, inr, refl, sym, ◌∙◌, ap, subst, unwrap_or, string_bytes}
 use Rattle.std.specs.Prelude.{IfOk, IfErr, option_map, bytes_eq, if◌then◌else◌}
 use Rattle.std.specs.Str.{chars}
 use Rattle.std.specs.Result.{result_transpose}
@@ -31,10 +31,10 @@ use Rattle.dotenvy.proofs.Statements.{one_statement}
 use Rattle.dotenvy.proofs.LookUps.{changed_key, recalled-inserted}
 
 -- a key that is declared with nothing stands for the empty text, as where it is remembered
-remembered_text : (dialect : Dialect) (rest bytes value : List ℕ) (pieces : List Piece) (look_up : LookUp) → Assigns dialect rest pieces → chars bytes ≡ meaning look_up pieces → (b : Bool) → is_empty_or_comment rest ≡ b → unwrap_or (option_map chars (if b then None else Some bytes)) [] ≡ meaning look_up pieces
-remembered_text dialect rest bytes value pieces look_up assigns means false h = means
-remembered_text dialect rest bytes value pieces look_up (inl empty) means true h = ap (meaning look_up) (sym empty.1)
-remembered_text dialect rest bytes value pieces look_up (inr some) means true h = let f : true ≡ false = sym h ∙ not_is (is_empty_or_comment rest) some.0 in cc
+remembered_text : (dialect : Dialect) (rest bytes : List ℕ) (pieces : List Piece) (look_up : LookUp) → Assigns dialect rest pieces → chars bytes ≡ meaning look_up pieces → (b : Bool) → is_empty_or_comment rest ≡ b → unwrap_or (option_map chars (if b then None else Some bytes)) [] ≡ meaning look_up pieces
+remembered_text dialect rest bytes pieces look_up assigns means false h = means
+remembered_text dialect rest bytes pieces look_up (inl empty) means true h = ap (meaning look_up) (sym empty.1)
+remembered_text dialect rest bytes pieces look_up (inr some) means true h = let f : true ≡ false = sym h ∙ not_is (is_empty_or_comment rest) some.0 in cc
 
 -- a declaration's key stands for its value from then on
 remembers_pair : (dialect : Dialect) (line rest bytes key : List ℕ) (pieces : List Piece) (look_up : LookUp) (old new : Remembered) → is_key key ≡ true → IsStatement (trimmed line) key rest → Says dialect line (Pair key pieces) → chars bytes ≡ meaning look_up pieces → new ≡ fin.insert old key (if is_empty_or_comment rest then None else Some bytes) → (name : List ℕ) → text_of (recalled_of new) name ≡ text_of (with_value (recalled_of old) key (meaning look_up pieces)) name
@@ -47,12 +47,13 @@ remembers_pair dialect line rest bytes key pieces look_up old new is statement s
     text = if is_empty_or_comment rest then None else Some bytes
 
     stands_for : unwrap_or (option_map chars text) [] ≡ meaning look_up pieces
-    stands_for = remembered_text dialect rest bytes bytes pieces look_up (subst (λ r. Assigns dialect r pieces) ((one_statement (trimmed line) key says.1 key rest says.2 statement).1) says.3) means (is_empty_or_comment rest) refl
+    stands_for = remembered_text dialect rest bytes pieces look_up (subst (λ r. Assigns dialect r pieces) ((one_statement (trimmed line) key says.1 key rest says.2 statement).1) says.3) means (is_empty_or_comment rest) refl
 
     at : (b : Bool) → unwrap_or (cond b (option_map chars text) (recalled_of old name)) [] ≡ unwrap_or (cond b (Some (meaning look_up pieces)) (recalled_of old name)) []
     at true = stands_for
     at false = refl
 
+-- a pair is the item of its declaration
 pair_added : {A : Type 0} (dialect : Dialect) (names : Texts) (line key : List ℕ) (pieces : List Piece) (old new : Remembered) (pair : String A × String A) → Says dialect line (Pair key pieces) → IsLineAnswer (names_of names old) (Pair key pieces) (Ok (Some pair)) → Remembers line old new (Ok (Some pair)) → AddsEntries names old (outcome_entries (Pair key pieces)) (Some (Ok pair)) new
 pair_added dialect names line key pieces old new pair says (key_is, means) (rest, statement, inserted) =
     let same : chars (string_bytes pair.0) ≡ string_bytes pair.0 = chars-key (string_bytes pair.0) (IsUtf8-string_bytes pair.0) statement.is_key in
@@ -75,6 +76,7 @@ abbrev pub lines_said : {T A : Type 0} → Result T (Error A) → LinesState →
 lines_said (Ok said) s = s
 lines_said (Err e) s = lines_after e s
 
+-- they have failed where memory was refused
 pub refused_lines : {T A : Type 0} (said : Result T (Error A)) (s t : LinesState) → IsMemoryErr said → t ≡ record { input = s.input; stage = Failed } → t ≡ lines_said said s
 refused_lines (Ok x) s t is h = absurd is
 refused_lines (Err (LineParse text index)) s t is h = absurd is
@@ -83,6 +85,7 @@ refused_lines (Err (EnvVar e)) s t is h = absurd is
 refused_lines (Err (Nul key)) s t is h = absurd is
 refused_lines (Err (Memory e)) s t is h = h
 
+-- and are as before where it was not
 pub kept_lines : {T A : Type 0} (said : Result T (Error A)) (s t : LinesState) → ¬ (IsMemoryErr said) → t ≡ s → t ≡ lines_said said s
 kept_lines (Ok x) s t other h = h
 kept_lines (Err (LineParse text index)) s t other h = h
@@ -91,6 +94,7 @@ kept_lines (Err (EnvVar e)) s t other h = h
 kept_lines (Err (Nul key)) s t other h = h
 kept_lines (Err (Memory e)) s t other h = absurd (other tt)
 
+-- what a line says leaves them as they are
 answer_lines : {A : Type 0} (look_up : LookUp) (outcome : Outcome) (said : Result (Option (String A × String A)) (Error A)) (s t : LinesState) → IsLineAnswer look_up outcome said → t ≡ lines_said said s → t ≡ s
 answer_lines look_up outcome (Ok said) s t is h = h
 answer_lines look_up Nothing (Err e) s t is h = absurd is

@@ -1,9 +1,9 @@
 -- Look-ups by bytes and by characters: a change of a key's text is the same change in both.
-use Rattle.std.proofs.Common.{◌≡◌, ℕ, ◌+◌, ◌<◌, ◌≤◌, ◌/◌, ◌%◌, Bool, true, false, cond, ◌&&◌, List, [], ◌∷◌, ◌++◌, Option, Some, None, refl, sym, ◌∙◌, ap, arith, ltb}
-use Rattle.std.specs.Prelude.{◌==◌, option_map, encode_utf8_all, IsTrue}
+use Rattle.std.proofs.Common.{◌≡◌, ℕ, ◌+◌, ◌<◌, ◌≤◌, ◌/◌, ◌%◌, Bool, true, false, cond, ◌&&◌, List, [], ◌∷◌, ◌++◌, Option, Some, refl, sym, ◌∙◌, ap, arith, ltb}
+use Rattle.std.specs.Prelude.{◌==◌, option_map, encode_utf8_all}
 use Rattle.std.specs.Option.{option_flatten}
 use Rattle.std.specs.List.{list_all}
-use Rattle.std.specs.Str.{chars, bytes_eq, IsUtf8}
+use Rattle.std.specs.Str.{chars, bytes_eq}
 use Rattle.std.specs.Ordering.{nat_cmp, eq_by_cmp}
 use Rattle.std.specs.Cmp.{eq_by_cmp_equiv}
 use Rattle.std.specs.Cmp.Lexicographic.{slice_cmp}
@@ -43,6 +43,7 @@ lower k n h high = grind (arith, nat_tests)
 not_low : (c : ℕ) → ltb c 128 ≡ false → 128 ≤ c
 not_low c h = grind (arith, nat_tests, h)
 
+-- an ASCII byte is the first of a character's bytes exactly where it is the character
 first_same : (k c : ℕ) (ks cs : List ℕ) (b : Bool) → k < 128 → ltb c 128 ≡ b → bytes_eq ks (encode_utf8_all cs) ≡ bytes_eq ks cs → bytes_eq (k ∷ ks) (encode c ++ encode_utf8_all cs) ≡ bytes_eq (k ∷ ks) (c ∷ cs)
 first_same k c ks cs true low h rest = ap (λ bs. bytes_eq (k ∷ ks) (bs ++ encode_utf8_all cs)) (encode_ascii c (ltb-true c 128 h)) ∙ ap (λ t. (k == c) && t) rest
 first_same k c ks cs false low h rest =
@@ -84,6 +85,7 @@ get-inserted m key value q =
     let tie : eq_by_cmp (slice_cmp nat_cmp) q key ≡ bytes_eq key q = (eq_by_cmp_equiv nat_list_cmp_total).symm q key ∙ is_eq-slice_cmp key q in
     fin.get-insert nat_list_cmp_total m key value q ∙ ap (λ b. cond b (Some value) (fin.get m q)) tie
 
+-- and what is remembered then
 pub recalled-inserted : (m : Remembered) (key : List ℕ) (text : Option (List ℕ)) (q : List ℕ) → recalled (fin.insert m key text) q ≡ cond (bytes_eq key q) text (recalled m q)
 recalled-inserted m key text q = ap option_flatten (get-inserted m key text q) ∙ at (bytes_eq key q)
   where

@@ -2,9 +2,8 @@
 use Rattle.std.proofs.Common.{◌≡◌, ◌≢◌, ℕ, ◌+◌, ◌≤◌, true, false, List, [], ◌∷◌, ◌++◌, length, length-append, append_assoc, Option, Some, None, Result, Ok, Err, ◌⊎◌, inl, inr, refl, sym, ◌∙◌, ap, subst, arith, string_bytes}
 use Rattle.std.specs.Str.{chars}
 use Rattle.std.specs.declared.string.String.{String}
-use Rattle.std.specs.declared.io.Error.{Error as IoError}
 use Rattle.std.specs.declared.io.ErrorKind.{ErrorKind}
-use Rattle.std.specs.declared.io.ErrorKind.TheVariants.{Interrupted, InvalidData}
+use Rattle.std.specs.declared.io.ErrorKind.TheVariants.{InvalidData}
 use Rattle.std.specs.Prelude.{is_some}
 use Rattle.std.proofs.lemmas.Str.{chars-nil}
 use Rattle.std.proofs.lemmas.Option.{none-some}
@@ -12,21 +11,19 @@ use Rattle.dotenvy.specs.declared.dialect.Dialect.{Dialect}
 use Rattle.dotenvy.specs.declared.errors.Error.{Error}
 use Rattle.dotenvy.specs.declared.errors.Error.TheVariants.{LineParse, Io, EnvVar, Nul, Memory}
 use Rattle.dotenvy.specs.declared.lines.Stage.TheVariants.{Open, Ended, Failed}
-use Rattle.dotenvy.specs.Errors.{IsMemoryErr}
 use Rattle.dotenvy.specs.LogicalLine.{Logical, Skip, Text, Open as OpenEnd, Broken}
-use Rattle.dotenvy.specs.Line.{Outcome, Nothing, Pair, Fault, Says}
+use Rattle.dotenvy.specs.Line.{Outcome, Nothing, Says}
 use Rattle.dotenvy.specs.Entries.{Entry, Fails, LineParse as FailsLine, Io as FailsIo, outcome_entries, Gives}
 use Rattle.dotenvy.specs.PhysicalLines.{line_texts}
 use Rattle.dotenvy.specs.Decided.{HasDecided}
 use Rattle.dotenvy.specs.Environment.{Texts}
-use Rattle.dotenvy.specs.Remembered.{Remembered}
 use Rattle.dotenvy.specs.Source.{Ahead}
 use Rattle.dotenvy.specs.Input.{InputState, IsTold, ReadsFit, IsFinal, end_reads}
 use Rattle.dotenvy.specs.Lines.{LinesState, whole_lines, lines_so_far, IsOpen, IsAtEnd, IsNextAlways, TakesNext, TakesAnswer, IsUndecided, GoesOn, FailsFor, NextIs}
 use Rattle.dotenvy.specs.Reading.{HasLeft}
-use Rattle.dotenvy.specs.Names.{names_of, recalled_of}
+use Rattle.dotenvy.specs.Names.{recalled_of}
 use Rattle.dotenvy.specs.Iter.{IterState}
-use Rattle.dotenvy.specs.NextItem.{IsItem, text_of, RemembersEntry, DecideFirst, TakesEntry, ItemIs}
+use Rattle.dotenvy.specs.NextItem.{text_of, DecideFirst, ItemIs}
 use Rattle.dotenvy.specs.LineItem.{lines_after, AddsEntries, IsRefused, AddsLine}
 use Rattle.dotenvy.proofs.Inputs.{fits_more, final_before}
 use Rattle.dotenvy.proofs.LineEntries.{left_once, left_exists, left-none, left-next, decided-next, decided-none}
@@ -229,10 +226,12 @@ next_leads names s t v m line item shut next adds dialect a told entries p =
     goes (inl is_open) = is_open
     goes (inr (ended, nothing)) = absurd (none-some line (sym (shut (λ h. (let f : Ended ≡ Open = sym ended ∙ h in cc)))))
 
+-- where an item came, it is the next one
 pub leads_item : {A : Type 0} (names : Texts) (a : Ahead) (s v : IterState) (entries : List Entry) (item : Option (Result (String A × String A) (Error A))) → is_some item ≡ true → LeadsTo names a s entries item v → ItemIs names a s entries item v
 leads_item names a s v entries None is l = cc
 leads_item names a s v entries (Some item) is l = l
 
+-- where none came, the line was passed
 pub leads_on : {A : Type 0} (names : Texts) (a : Ahead) (s v : IterState) (entries : List Entry) (item : Option (Result (String A × String A) (Error A))) → is_some item ≡ false → LeadsTo names a s entries item v → Passed a s entries v
 leads_on names a s v entries None is l = l
 leads_on names a s v entries (Some item) is l = cc

@@ -1,5 +1,4 @@
 use Rattle.std.proofs.Common.{ap}
-use Rattle.dotenvy.specs.Remembered.{remembered_of}
 use Rattle.dotenvy.specs.Iter.{IterState}
 use Rattle.dotenvy.proofs.iter.Iter.said_by.Goals as goal
 
