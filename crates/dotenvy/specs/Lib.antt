@@ -27,6 +27,7 @@ pub mod Names
 pub mod Reading
 pub mod NextItem
 pub mod LoadsLeft
+pub mod Listed
 pub mod Laws
 pub mod WorkedFiles
 pub mod WorkedLoads
