@@ -1,7 +1,7 @@
 -- The written form by its bytes: character by character, pair by pair, and how many there are.
 use Rattle.std.proofs.Common.{◌≡◌, ℕ, ◌+◌, Bool, true, false, cond, List, [], ◌∷◌, ◌++◌, ◌≤◌, map, filter, refl, sym, ◌∙◌, ap, subst, arith, length, length-append, append_assoc}
 use lib.Utf8.{encode}
-use Rattle.std.specs.Prelude.{encode_utf8, encode_utf8_all, Result, Ok, is_ok}
+use Rattle.std.specs.Prelude.{encode_utf8, encode_utf8_all, Result, Ok, is_ok, ◌-◌, ◌^◌}
 use Rattle.std.specs.List.{flat_map}
 use Rattle.std.specs.Str.{chars, IsUtf8}
 use Rattle.std.proofs.lemmas.List.{append-nil}
@@ -103,3 +103,48 @@ last_bytes out new whole (b ∷ rest) none h left = absurd (omega arith)
 -- what a push that succeeded leaves
 pub when_ok : {X T E : Type 0} (r : Result T E) (t : T) (x y : X) → r ≡ Ok t → cond (is_ok r) x y ≡ x
 when_ok r t x y h = ap (λ q. cond (is_ok q) x y) h
+
+-- pairs by their characters
+abbrev pub texts : List (List ℕ × List ℕ) → List (List ℕ × List ℕ)
+texts = map (λ p. (chars p.0, chars p.1))
+
+-- the written form of a pair and of those after it
+pub bytes_of_first : (pair : List ℕ × List ℕ) (pairs : List (List ℕ × List ℕ)) → written_bytes (pair ∷ pairs) ≡ written_bytes (pair ∷ []) ++ written_bytes pairs
+bytes_of_first pair pairs =
+    encodes-append (written_pair pair) (written_text pairs)
+    ∙ ap (λ cs. encode_utf8_all cs ++ written_bytes pairs) (sym (append-nil (written_pair pair)))
+
+first_len : (pair : List ℕ × List ℕ) (pairs : List (List ℕ × List ℕ)) → byte_len (written_text (pair ∷ pairs)) ≡ byte_len (written_text (pair ∷ [])) + byte_len (written_text pairs)
+first_len pair pairs = ap length (bytes_of_first pair pairs) ∙ length-append (written_bytes (pair ∷ [])) (written_bytes pairs)
+
+-- the first of the pairs that are left, where the code holds its texts
+left_first : (key value key' value' : List ℕ) (rest pairs : List (List ℕ × List ℕ)) → key' ≡ key → value' ≡ value → pairs ≡ (key, value) ∷ rest → texts pairs ≡ (chars key', chars value') ∷ texts rest
+left_first key value key' value' rest pairs k v first = ap texts first ∙ ap (λ t. (chars t, chars value) ∷ texts rest) (sym k) ∙ ap (λ t. (chars key', chars t) ∷ texts rest) (sym v)
+
+saturated_more : (len add new one rest left whole : ℕ) → add ≡ saturated one → new ≡ saturated (len + add) → left ≡ one + rest → saturated (len + left) ≡ saturated whole → saturated (new + rest) ≡ saturated whole
+saturated_more len add new one rest left whole h k l e = omega arith
+
+-- one pair more was counted
+pub counted_first : (key value key' value' : List ℕ) (rest pairs : List (List ℕ × List ℕ)) (len add new whole : ℕ) → key' ≡ key → value' ≡ value → pairs ≡ (key, value) ∷ rest → add ≡ saturated (byte_len (written_text ((chars key', chars value') ∷ []))) → new ≡ saturated (len + add) → saturated (len + byte_len (written_text (texts pairs))) ≡ saturated whole → saturated (new + byte_len (written_text (texts rest))) ≡ saturated whole
+counted_first key value key' value' rest pairs len add new whole k v first h e w =
+    saturated_more len add new (byte_len (written_text ((chars key', chars value') ∷ []))) (byte_len (written_text (texts rest))) (byte_len (written_text (texts pairs))) whole h e (ap (λ ps. byte_len (written_text ps)) (left_first key value key' value' rest pairs k v first) ∙ first_len (chars key', chars value') (texts rest)) w
+
+-- where none is left, all were counted
+pub counted_all : (pairs : List (List ℕ × List ℕ)) (len whole : ℕ) → pairs ≡ [] → len ≤ 2 ^ 64 - 1 → saturated (len + byte_len (written_text (texts pairs))) ≡ saturated whole → len ≡ saturated whole
+counted_all pairs len whole none fits w = let z : byte_len (written_text (texts pairs)) ≡ 0 = ap (λ ps. byte_len (written_text (texts ps))) none in omega arith
+
+-- where there is room for all of the pairs that are left, there is for the first
+pub room_for_first : (key value key' value' : List ℕ) (rest pairs : List (List ℕ × List ℕ)) (out whole : List ℕ) (capacity : ℕ) → key' ≡ key → value' ≡ value → pairs ≡ (key, value) ∷ rest → out ++ written_bytes (texts pairs) ≡ whole → length whole ≤ capacity → length out + byte_len (written_text ((chars key', chars value') ∷ [])) ≤ capacity
+room_for_first key value key' value' rest pairs out whole capacity k v first w fits =
+    let l = ap (λ ps. byte_len (written_text ps)) (left_first key value key' value' rest pairs k v first) ∙ first_len (chars key', chars value') (texts rest) in
+    let a = length-append out (written_bytes (texts pairs)) in
+    let e = ap length w in
+    omega (arith, l, a, e)
+
+-- one pair more leaves the others
+pub listed_first : (key value key' value' : List ℕ) (rest pairs : List (List ℕ × List ℕ)) (out new whole : List ℕ) → key' ≡ key → value' ≡ value → pairs ≡ (key, value) ∷ rest → new ≡ out ++ written_bytes ((chars key', chars value') ∷ []) → out ++ written_bytes (texts pairs) ≡ whole → new ++ written_bytes (texts rest) ≡ whole
+listed_first key value key' value' rest pairs out new whole k v first h w =
+    ap (λ bs. bs ++ written_bytes (texts rest)) h
+    ∙ append_assoc out (written_bytes ((chars key', chars value') ∷ [])) (written_bytes (texts rest))
+    ∙ ap (λ bs. out ++ bs) (sym (ap written_bytes (left_first key value key' value' rest pairs k v first) ∙ bytes_of_first (chars key', chars value') (texts rest)))
+    ∙ w
