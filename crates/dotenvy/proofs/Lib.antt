@@ -6,6 +6,7 @@ pub mod ReadBack
 pub mod ReadBackLines
 pub mod WrittenTexts
 pub mod WrittenBytes
+pub mod ListedLoads
 pub mod Scans
 pub mod NameCharacters
 pub mod Values

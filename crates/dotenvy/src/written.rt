@@ -8,7 +8,7 @@ ghost use Rattle.dotenvy.specs.Names.{saturated};
 ghost use Rattle.dotenvy.specs.Errors.{IsIoOf};
 ghost use Rattle.dotenvy.specs.Written.{needs_backslash, written_character, written_text, written_bytes};
 ghost use Rattle.dotenvy.specs.Sent.{Sends, IsWriteFault, Writes};
-ghost use Rattle.dotenvy.specs.Listed.{pairs_of, Lists, ListsSome};
+ghost use Rattle.dotenvy.specs.Listed.{AreTexts, pairs_of, Lists, ListsSome};
 
 use crate::dialect::Dialect;
 use crate::environment::Environment;
@@ -67,7 +67,8 @@ fn push_written<A: Allocator>(out: &mut String<A>, key: &str, text: &str)
 }
 
 fn listing_len<A: Allocator>(env: &Environment<A>) -> usize
-    ensures { result ≡ saturated (byte_len (written_text (pairs_of env.now.names))) }
+    ensures len { result ≡ saturated (byte_len (written_text (pairs_of env.now.names))) }
+    ensures texts { AreTexts env.now.names }
 {
     let mut len = 0usize;
     'pairs: for (key, value) in env.iter() {
@@ -81,7 +82,8 @@ fn listing<A: Allocator + Clone>(
     alloc: A,
     env: &Environment<A>,
 ) -> std::result::Result<String<A>, AllocError>
-    ensures { IfOk result (λ text. string_bytes text ≡ written_bytes (pairs_of env.now.names)) }
+    ensures bytes { IfOk result (λ text. string_bytes text ≡ written_bytes (pairs_of env.now.names)) }
+    ensures texts { AreTexts env.now.names }
 {
     let mut out = String::with_capacity(alloc, listing_len(env))?;
     'pairs: for (key, value) in env.iter() {

@@ -6,6 +6,7 @@ use Rattle.dotenvy.specs.Written.{written_text}
 use Rattle.dotenvy.specs.Environment.{text_entries}
 use Rattle.dotenvy.specs.Listed.{pairs_of}
 use Rattle.dotenvy.proofs.WrittenBytes.{texts, counted_first, counted_all}
+use Rattle.dotenvy.proofs.ListedLoads.{listed_texts}
 use Rattle.dotenvy.proofs.written.listing_len.Goals as goal
 
 pub pairs-init : goal.pairs-init
@@ -17,5 +18,8 @@ pairs-preserved g c = record {
   fits = omega (arith, c.saturating_add-len.ensures);
 }
 
-pub returns : goal.returns
-returns g c = counted_all (text_entries c.pairs.key-iterator) c.pairs.len _ (search rules) c.pairs.invariant.fits c.pairs.invariant.whole
+pub returns-clause-len : goal.returns-clause-len
+returns-clause-len g c = counted_all (text_entries c.pairs.key-iterator) c.pairs.len _ (search rules) c.pairs.invariant.fits c.pairs.invariant.whole
+
+pub returns-clause-texts : goal.returns-clause-texts
+returns-clause-texts g c = listed_texts c.iter-key-items.result c.args.env.now.names c.iter-key-items.ensures.pairs

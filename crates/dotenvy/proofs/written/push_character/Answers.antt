@@ -36,15 +36,15 @@ unwrap-requires-2 g c =
 pub returns : goal.returns
 returns g c = record {
   bytes = (c.push-2.ensures.bytes ∙ when_ok c.push-2.result c.unwrap-2.result _ _ c.unwrap-2.ensures)
-    ∙ elim c.if-needs_backslash.branch as (λ x. string_bytes c.if-needs_backslash.out ++ encode_utf8 c.args.c ≡ string_bytes c.args.out.now ++ encode_utf8_all (written_character c.args.c)) [
-      | then-needs_backslash w ↦
-          ap (λ bs. bs ++ encode_utf8 c.args.c) (ap string_bytes w.out-is ∙ w.push.ensures.bytes ∙ when_ok w.push.result w.unwrap.result _ _ w.unwrap.ensures ∙ ap (λ bs. string_bytes c.args.out.now ++ bs) (encode_ascii backslash (omega arith)))
-          ∙ append_assoc (string_bytes c.args.out.now) (backslash ∷ []) (encode_utf8 c.args.c)
-          ∙ ap (λ bs. string_bytes c.args.out.now ++ bs) (sym (escaped_bytes c.args.c (search rules)))
-      | else-needs_backslash w ↦
-          ap (λ out. string_bytes out ++ encode_utf8 c.args.c) w.out-is
-          ∙ ap (λ bs. string_bytes c.args.out.now ++ bs) (sym (unescaped_bytes c.args.c (search rules)))
-    ];
+      ∙ elim c.if-needs_backslash.branch as (λ x. string_bytes c.if-needs_backslash.out ++ encode_utf8 c.args.c ≡ string_bytes c.args.out.now ++ encode_utf8_all (written_character c.args.c)) [
+        | then-needs_backslash w ↦
+            ap (λ bs. bs ++ encode_utf8 c.args.c) (ap string_bytes w.out-is ∙ w.push.ensures.bytes ∙ when_ok w.push.result w.unwrap.result _ _ w.unwrap.ensures ∙ ap (λ bs. string_bytes c.args.out.now ++ bs) (encode_ascii backslash (omega arith)))
+            ∙ append_assoc (string_bytes c.args.out.now) (backslash ∷ []) (encode_utf8 c.args.c)
+            ∙ ap (λ bs. string_bytes c.args.out.now ++ bs) (sym (escaped_bytes c.args.c (search rules)))
+        | else-needs_backslash w ↦
+            ap (λ out. string_bytes out ++ encode_utf8 c.args.c) w.out-is
+            ∙ ap (λ bs. string_bytes c.args.out.now ++ bs) (sym (unescaped_bytes c.args.c (search rules)))
+      ];
   capacity = elim c.if-needs_backslash.branch [
     | then-needs_backslash w ↦
         let capacity = ap string_capacity w.out-is in
