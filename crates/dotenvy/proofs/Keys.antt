@@ -13,7 +13,7 @@ use Rattle.dotenvy.specs.Environment.{name_ok}
 begins-continues : (c : ℕ) → begins_key c ≡ true → continues_key c ≡ true
 begins-continues c h = grind (arith, nat_tests, h)
 
-continues-ascii : (c : ℕ) → continues_key c ≡ true → c < 128
+pub continues-ascii : (c : ℕ) → continues_key c ≡ true → c < 128
 continues-ascii c h = grind (arith, nat_tests, h)
 
 continues-no_equals : (c : ℕ) → continues_key c ≡ true → (c == equals_sign) ≡ false
@@ -36,7 +36,7 @@ none-continuing b other (c ∷ cs) h =
     let parts = and_parts (continues_key c) (list_all continues_key cs) h in
     ap (λ t. t || list_any (λ c. c == b) cs) (other c parts.0) ∙ none-continuing b other cs parts.1
 
-key-continues : (cs : List ℕ) → is_key cs ≡ true → list_all continues_key cs ≡ true
+pub key-continues : (cs : List ℕ) → is_key cs ≡ true → list_all continues_key cs ≡ true
 key-continues [] h = refl
 key-continues (c ∷ cs) h =
     let parts = and_parts (begins_key c) (list_all continues_key cs) h in

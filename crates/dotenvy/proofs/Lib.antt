@@ -37,3 +37,12 @@ pub mod LineTexts
 pub mod LineJoins
 pub mod LineEntries
 pub mod LinePasses
+pub mod ItemRuns
+pub mod WholeLoads
+pub mod LineCounts
+pub mod LookUps
+pub mod LineItems
+pub mod NextItems
+pub mod KeyLookUps
+pub mod LoadRuns
+pub mod LoadSteps

@@ -25,7 +25,6 @@ use Rattle.dotenvy.specs.Names.{values_of, recalled_of}
 use Rattle.dotenvy.specs.Source.{Ahead}
 use Rattle.dotenvy.specs.declared.lines.Stage.TheVariants.{Open}
 use Rattle.dotenvy.specs.Iter.{IterState, fresh}
-use Rattle.dotenvy.specs.Reading.{IsCutShort}
 use Rattle.dotenvy.specs.Run.{Loaded}
 use Rattle.dotenvy.specs.Loads.{load_result}
 use Rattle.dotenvy.specs.NextItem.{IsFailure}
@@ -65,7 +64,7 @@ some_listed held has_failed old new names (Err e) s f = (names, s, inr f)
 pub unread_lists : {A W : Type 0} (dialect : Dialect) (ahead : Option Ahead) (held : W → Option (List ℕ)) (has_failed : W → Bool) (old : W) (answer : Result (Unit {0}) (Error A)) → IsErrAnd answer IsMemory → Lists dialect ahead held has_failed old old answer
 unread_lists dialect ahead held has_failed old (Ok done) h = absurd h
 unread_lists dialect ahead held has_failed old (Err e) h = λ a told entries has.
-    (Fails Memory ∷ [], inr (record { front = []; back = entries; failure = Memory; cut = refl; ends = refl; cuts_short = inl refl }), (h, refl))
+    (Fails Memory ∷ [], inr (inl (record { front = []; back = entries; cut = refl; ends = refl })), (h, refl))
 
 empty_values : values_of fin.empty ≡ no_values
 empty_values = λ i name. ap (option_map chars) (fin.get-empty (slice_cmp nat_cmp) (encode_utf8_all name)) i

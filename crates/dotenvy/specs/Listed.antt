@@ -39,7 +39,7 @@ ListsLoaded held has_failed old new look (Ok done) answer = (names : Texts) × H
 abbrev pub Lists : {A W : Type 0} → Dialect → Option Ahead → (W → Option (List ℕ)) → (W → Bool) → W → W → Result (Unit {0}) (Error A) → Type 0
 Lists dialect ahead held has_failed old new answer =
     (a : Ahead) → IsTold ahead a → (entries : List Entry) → HasLeft dialect a.fault (without_mark a.bytes) entries →
-    (read : List Entry) × IsReading a (fresh ahead dialect).lines.input entries read
+    (read : List Entry) × IsReading dialect a (fresh ahead dialect).lines.input entries read
     × (let loaded = load_result no_values no_values read in ListsLoaded held has_failed old new loaded.env loaded.answer answer)
 
 -- a listing of any source: the written form of some pairs is sent, in byte order of the names; an error leaves the sink as it was, or is a fault of writing
