@@ -1,11 +1,13 @@
 -- How far a load came, what each item adds, and how a load ends.
-use Rattle.std.proofs.Common.{◌≡◌, ℕ, Bool, true, false, ◌&&◌, List, [], ◌∷◌, ◌++◌, length, Option, Some, None, Result, Ok, Err, refl, sym, ◌∙◌, ap, subst, inl, inr, append_assoc, arith}
+use Rattle.std.proofs.Common.{◌≡◌, ℕ, Bool, true, false, ◌&&◌, List, [], ◌∷◌, ◌++◌, ◌+◌, ◌≤◌, length, length-append, drop, Option, Some, None, Result, Ok, Err, refl, sym, ◌∙◌, ap, subst, inl, inr, append_assoc, arith}
 use Rattle.std.proofs.lemmas.Bool.{ltb-true}
-use Rattle.std.specs.Prelude.{◌==◌, not, nat_eq, nat_lt, string_bytes, if◌then◌else◌}
+use Rattle.std.specs.Prelude.{◌⊎◌, ◌==◌, not, nat_eq, nat_lt, string_bytes, if◌then◌else◌}
 use Rattle.std.specs.Str.{chars}
 use Rattle.std.specs.List.{starts_with}
 use Rattle.std.specs.FinMap.{insert}
 use Rattle.std.specs.IoError.{error_kind}
+use Rattle.std.specs.declared.io.Error.{Error as IoError}
+use Rattle.std.proofs.lemmas.List.{append-nil}
 use Rattle.std.specs.declared.io.ErrorKind.{ErrorKind}
 use Rattle.std.specs.declared.io.ErrorKind.TheVariants.{Other}
 use Rattle.std.specs.declared.string.String.{String}
@@ -19,7 +21,7 @@ use Rattle.dotenvy.specs.Errors.{IsMemory, IsNulOf}
 use Rattle.dotenvy.specs.Statement.{is_key}
 use Rattle.dotenvy.specs.Value.{Piece}
 use Rattle.dotenvy.specs.Entries.{Failure, LineParse, Io, Nul, Memory, Entry, Declares, Fails}
-use Rattle.dotenvy.specs.Decided.{up_to_last_line_feed}
+use Rattle.dotenvy.specs.Decided.{up_to_last_line_feed, HasDecided}
 use Rattle.dotenvy.specs.Marks.{byte_order_mark, without_mark}
 use Rattle.dotenvy.specs.Items.{LookUp, meaning, with_value}
 use Rattle.dotenvy.specs.Run.{Mode, Loaded, sets, after_declaration, run, has_nul}
@@ -28,27 +30,28 @@ use Rattle.dotenvy.specs.Environment.{Texts, value_ok}
 use Rattle.dotenvy.specs.Remembered.{Remembered}
 use Rattle.dotenvy.specs.Names.{values_of, recalled_of, names_of}
 use Rattle.dotenvy.specs.Source.{Ahead}
-use Rattle.dotenvy.specs.Input.{InputState, IsTold, ReadsFit, IsReadFault, IsFinal, begins_mark, DropsMark}
+use Rattle.dotenvy.specs.Input.{InputState, IsTold, ReadsFit, BoundIsMet, IsFinal, begins_mark, DropsMark, end_reads}
 use Rattle.dotenvy.specs.PhysicalLines.{line_texts}
-use Rattle.dotenvy.specs.Lines.{GoesOn}
-use Rattle.dotenvy.specs.Reading.{HasLeft, told_fault, CutsShort, IsReading}
-use Rattle.dotenvy.specs.NextItem.{RemembersEntry, TakesEntry, ItemIs, NextItem}
+use Rattle.dotenvy.specs.Lines.{IsAtEnd, GoesOn}
+use Rattle.dotenvy.specs.Reading.{HasLeft, told_fault, StopsAtBound, IsReading}
+use Rattle.dotenvy.specs.NextItem.{RemembersEntry, DecideFirst, TakesEntry, ItemIs, NextItem}
 use Rattle.dotenvy.specs.LoadsLeft.{IsAnswer, Leaves, Rule, LoadsLeft}
 use Rattle.dotenvy.specs.Iter.{IterState}
 use Rattle.dotenvy.proofs.Basics.{and_left, and_right, same_from, not_false}
 use Rattle.dotenvy.proofs.Nuls.{value_ok-chars}
 use Rattle.dotenvy.proofs.Keys.{chars-key}
-use Rattle.dotenvy.proofs.Inputs.{the_bytes, the_fault, io_weaker, fits_more, bound_before}
-use Rattle.dotenvy.proofs.LineEntries.{left_once, left-none, left-undecided}
+use Rattle.dotenvy.proofs.Inputs.{the_bytes, the_fault, fits_more}
+use Rattle.dotenvy.proofs.LineEntries.{left_once, left-none, left-fault, decided-none}
 use Rattle.dotenvy.proofs.KeyLookUps.{values_of-insert}
 use Rattle.dotenvy.proofs.LoadRuns.{run-same, after-same}
 
 abbrev ahead_of : List ℕ → Option ErrorKind → Ahead
 ahead_of bytes fault = record { bytes = bytes; fault = fault }
 
--- a load of these entries: its mode, what is told, the input at its start, and what names meant then
+-- a load of these entries: its mode and dialect, what is told, the input at its start, and what names meant then
 pub record Load : Type 0 where
   pub mode : Mode
+  pub dialect : Dialect
   pub ahead : Ahead
   pub start : InputState
   pub entries : List Entry
@@ -57,7 +60,7 @@ pub record Load : Type 0 where
 
 -- the load of what s has left
 abbrev pub load_of : Mode → IterState → Texts → Ahead → List Entry → Load
-load_of mode s old a entries = record { mode = mode; ahead = a; start = s.lines.input; entries = entries; env = values_of old; remembered = recalled_of s.remembered }
+load_of mode s old a entries = record { mode = mode; dialect = s.dialect; ahead = a; start = s.lines.input; entries = entries; env = values_of old; remembered = recalled_of s.remembered }
 
 -- the entries one by one, from the start and from here on
 abbrev run_all : Load → List Entry → Loaded
@@ -73,10 +76,17 @@ pub record Done (l : Load) (names : Texts) (recall : Remembered) : Type 0 where
   pub split : l.entries ≡ done ++ later
   pub same : (more : List Entry) → SameLoad (run_all l (done ++ more)) (run_on l names recall more)
 
+-- the bytes that were used decide the entries that are done, whatever part of what is left follows them
+abbrev pub DecideDone : Load → IterState → List Entry → List ℕ → List ℕ → Type 0
+DecideDone l t done used left = (more rest : List ℕ) (decided : List Entry) → left ≡ more ++ rest → HasDecided t.dialect more decided → HasDecided l.dialect (without_mark (used ++ more)) (done ++ decided)
+
 -- a load came to t: some entries are done, and t has the later ones left
 pub record Came (l : Load) (names : Texts) (t : IterState) : Type 0 where
   pub loaded : Done l names t.remembered
+  pub used : List ℕ
   pub left : List ℕ
+  pub joins : l.ahead.bytes ≡ used ++ left
+  pub stays : IsAtEnd l.ahead.fault left t.lines.input ⊎ DecideDone l t loaded.done used left
   pub is_told : IsTold t.lines.input.left (record { bytes = left; fault = l.ahead.fault })
   pub has_left : HasLeft t.dialect l.ahead.fault left loaded.later
   pub goes_on : GoesOn t.lines
@@ -88,13 +98,13 @@ CameTo mode s old new t = s.lines.stage ≡ Open → (a : Ahead) → IsTold s.li
 
 -- a load ends with this environment and this answer
 abbrev pub Ends : {A : Type 0} → Load → Texts → Result (Unit {0}) (Error A) → Type 0
-Ends l names answer = (read : List Entry) × IsReading l.ahead l.start l.entries read × Leaves (run_all l read) names answer
+Ends l names answer = (read : List Entry) × IsReading l.dialect l.ahead l.start l.entries read × Leaves (run_all l read) names answer
 
 -- nothing is done at first
 abbrev none_done : (mode : Mode) (s : IterState) (old : Texts) (a : Ahead) (entries : List Entry) → Done (load_of mode s old a entries) old s.remembered
 none_done mode s old a entries = record { done = []; later = entries; split = refl; same = λ more. record { env = λ n. refl; answer = refl } }
 
-ends_at : {A : Type 0} (l : Load) (names : Texts) (recall : Remembered) (answer : Result (Unit {0}) (Error A)) (k : Done l names recall) (more : List Entry) (stop : Result (Unit {0}) Failure) → IsReading l.ahead l.start l.entries (k.done ++ more) → run_on l names recall more ≡ record { env = values_of names; answer = stop } → IsAnswer stop answer → Ends l names answer
+ends_at : {A : Type 0} (l : Load) (names : Texts) (recall : Remembered) (answer : Result (Unit {0}) (Error A)) (k : Done l names recall) (more : List Entry) (stop : Result (Unit {0}) Failure) → IsReading l.dialect l.ahead l.start l.entries (k.done ++ more) → run_on l names recall more ≡ record { env = values_of names; answer = stop } → IsAnswer stop answer → Ends l names answer
 ends_at l names recall answer k more stop reading stops is =
     let same = k.same more in (
       k.done ++ more,
@@ -111,26 +121,32 @@ ends_read l names recall answer k stop stops is =
     ends_at l names recall answer k (k.later ++ told_fault l.ahead.fault) stop
     (inl (sym (append_assoc k.done k.later (told_fault l.ahead.fault)) ∙ ap (λ es. es ++ told_fault l.ahead.fault) (sym k.split))) stops is
 
--- it ends where it is cut short
-ends_short : {A : Type 0} (l : Load) (names : Texts) (recall : Remembered) (answer : Result (Unit {0}) (Error A)) (k : Done l names recall) (failure : Failure) → CutsShort l.ahead l.start failure → IsAnswer (Err failure) answer → Ends l names answer
-ends_short l names recall answer k failure cuts is =
-    ends_at l names recall answer k (Fails failure ∷ []) (Err failure)
-    (inr (record { front = k.done; back = k.later; failure = failure; cut = k.split; ends = refl; cuts_short = cuts })) refl is
-
+-- it ends where memory is refused
 ends_memory : {A : Type 0} (l : Load) (names : Texts) (recall : Remembered) (e : Error A) → Done l names recall → IsMemory e → Ends l names (Err e)
-ends_memory l names recall e k is = ends_short l names recall (Err e) k Memory (inl refl) is
+ends_memory l names recall e k is =
+    ends_at l names recall (Err e) k (Fails Memory ∷ []) (Err Memory)
+    (inr (inl (record { front = k.done; back = k.later; cut = k.split; ends = refl }))) refl is
 
--- a final fault: refused memory, the bound, or after the last entry the fault that is told
-ends_final : {A : Type 0} (l : Load) (v : InputState) (names : Texts) (recall : Remembered) (e : Error A) (k : Done l names recall) → IsFinal l.ahead l.start (k.later ≡ []) e v → Ends l names (Err e)
-ends_final l v names recall e k (inl memory) = ends_memory l names recall e k memory
-ends_final l v names recall (error.LineParse t i) k (inr io) = absurd io
-ends_final l v names recall (error.Io x) k (inr (inl fault)) =
+-- it ends at the bound on reads
+ends_bound : {A : Type 0} (l : Load) (names : Texts) (recall : Remembered) (x : IoError) (k : Done l names recall) → error_kind x ≡ Other → StopsAtBound l.dialect l.ahead l.start (k.done ++ Fails (Io Other) ∷ []) → Ends {A = A} l names (Err (error.Io x))
+ends_bound l names recall x k is stops = ends_at l names recall (Err (error.Io x)) k (Fails (Io Other) ∷ []) (Err (Io Other)) (inr (inr stops)) refl is
+
+-- it ends at the fault that is told, after the last entry
+ends_told : {A : Type 0} (l : Load) (names : Texts) (recall : Remembered) (x : IoError) (k : Done l names recall) → l.ahead.fault ≡ Some (error_kind x) → k.later ≡ [] → Ends {A = A} l names (Err (error.Io x))
+ends_told l names recall x k told none =
     ends_read l names recall (Err (error.Io x)) k (Err (Io (error_kind x)))
-    (ap (run_on l names recall) (ap (λ es. es ++ told_fault l.ahead.fault) fault.1 ∙ ap told_fault fault.0)) refl
-ends_final l v names recall (error.Io x) k (inr (inr bound)) = ends_short l names recall (Err (error.Io x)) k (Io Other) (inr (refl, bound.2)) bound.0
-ends_final l v names recall (error.EnvVar x) k (inr io) = absurd io
-ends_final l v names recall (error.Nul x) k (inr io) = absurd io
-ends_final l v names recall (error.Memory x) k (inr io) = absurd io
+    (ap (run_on l names recall) (ap (λ es. es ++ told_fault l.ahead.fault) none ∙ ap told_fault told)) refl
+
+-- a final fault: refused memory, the fault that is told, or the bound
+ends_final : {A : Type 0} (l : Load) (b : Ahead) (t v : InputState) (P : List ℕ → Type 0) (names : Texts) (recall : Remembered) (e : Error A) (k : Done l names recall) → l.ahead.fault ≡ b.fault →
+    ((kind : ErrorKind) → l.ahead.fault ≡ Some kind → P b.bytes → k.later ≡ []) → (BoundIsMet b t P v → StopsAtBound l.dialect l.ahead l.start (k.done ++ Fails (Io Other) ∷ [])) → IsFinal b t P e v → Ends l names (Err e)
+ends_final l b t v P names recall e k same told stops (inl memory) = ends_memory l names recall e k memory
+ends_final l b t v P names recall (error.LineParse n i) k same told stops (inr io) = absurd io
+ends_final l b t v P names recall (error.Io x) k same told stops (inr (inl fault)) = ends_told l names recall x k (same ∙ fault.0) (told (error_kind x) (same ∙ fault.0) fault.1)
+ends_final l b t v P names recall (error.Io x) k same told stops (inr (inr bound)) = ends_bound l names recall x k bound.0 (stops bound.1)
+ends_final l b t v P names recall (error.EnvVar x) k same told stops (inr io) = absurd io
+ends_final l b t v P names recall (error.Nul x) k same told stops (inr io) = absurd io
+ends_final l b t v P names recall (error.Memory x) k same told stops (inr io) = absurd io
 
 open_ended : Open ≡ Ended → ⊥
 open_ended h = cc
@@ -160,10 +176,28 @@ ends_none {A = A} l names t u k next =
         let fault = the_fault (ahead_of k.left l.ahead.fault) (ahead_of [] None) same in
         (left_once t.dialect l.ahead.fault k.left k.loaded.later [] k.has_left (left-none t.dialect l.ahead.fault k.left bytes fault), fault)
 
-final_before : {A : Type 0} (a b : Ahead) (s t v : InputState) (P : Type 0) (e : Error A) → b.fault ≡ a.fault → ReadsFit a s b t → IsFinal b t P e v → IsFinal a s P e v
-final_before a b s t v P e same fits final =
-    io_weaker (IsReadFault b t P v) (IsReadFault a s P v) e
-    (λ x h. elim h [ inl f ↦ inl (sym same ∙ f.0, f.1) | inr m ↦ inr (bound_before a b s t v x fits m) ]) final
+-- the bound was met after what came
+bound_stops : (l : Load) (names : Texts) (t : IterState) (v : InputState) (k : Came l names t) → BoundIsMet (record { bytes = k.left; fault = l.ahead.fault }) t.lines.input (λ bytes. HasDecided t.dialect bytes []) v → StopsAtBound l.dialect l.ahead l.start (k.loaded.done ++ Fails (Io Other) ∷ [])
+bound_stops l names t v k met = record {
+  bytes = k.used ++ met.front;
+  later = met.later;
+  cut = k.joins ∙ ap (λ bytes. k.used ++ bytes) met.cut ∙ sym (append_assoc k.used met.front met.later);
+  each_gave =
+      let each = met.each_gave in
+      let reads = k.reads in
+      let all = ap length k.joins in
+      omega (arith, each, reads, all, length-append k.used k.left, length-append k.used met.front);
+  decided = k.loaded.done;
+  has_decided = elim k.stays [
+    | inl ended ↦
+        let each = met.each_gave in
+        let read = ap end_reads ended.2 in
+        let empty = ap length (sym met.cut ∙ ended.1) in
+        absurd (omega (arith, each, read, empty, length-append met.front met.later))
+    | inr decide ↦ subst (HasDecided l.dialect (without_mark (k.used ++ met.front))) (append-nil k.loaded.done) (decide met.front met.later [] met.cut met.holds)
+  ];
+  ends = refl;
+}
 
 -- a fault ends a load
 ends_fault : {A : Type 0} (l : Load) (names : Texts) (t u : IterState) (e : Error A) → Came l names t → NextItem names t (Some (Err e)) u → Ends l names (Err e)
@@ -174,7 +208,9 @@ ends_fault l names t u e k next = at (came_item l names t u (Err e) k next)
     at (inl (Fails failure, is, takes)) =
         ends_read l names t.remembered (Err e) k.loaded (Err failure)
         (ap (λ es. run_on l names t.remembered (es ++ told_fault l.ahead.fault)) takes.first) is
-    at (inr fails) = ends_final l u.lines.input names t.remembered e k.loaded (final_before l.ahead (ahead_of k.left l.ahead.fault) l.start t.lines.input u.lines.input (k.loaded.later ≡ []) e refl k.reads fails.1)
+    at (inr fails) =
+        ends_final l (ahead_of k.left l.ahead.fault) t.lines.input u.lines.input (λ bytes. HasDecided t.dialect bytes []) names t.remembered e k.loaded refl
+        (λ kind told none. left-fault t.dialect l.ahead.fault kind k.left k.loaded.later told k.has_left none) (bound_stops l names t u.lines.input k) fails.1
 
 -- a pair is what the first of the later entries declares
 record Pair {A : Type 0} (names : Texts) (b : Ahead) (t : IterState) (later : List Entry) (pair : String A × String A) (u : IterState) : Type 0 where
@@ -230,6 +266,20 @@ declared_done l names new recall now key value pieces rest b k first means is go
     after : LookUp
     after = after_declaration l.mode (values_of names) key v
 
+-- one more entry is decided
+decide_more : (l : Load) (t u : IterState) (entry : Entry) (done : List Entry) (used left taken later : List ℕ) → DecideDone l t done used left → left ≡ taken ++ later → u.dialect ≡ t.dialect → DecideFirst t.dialect taken (entry ∷ []) → DecideDone l u (done ++ entry ∷ []) (used ++ taken) later
+decide_more l t u entry done used left taken later decide joins dialect first more rest decided cut has =
+    let all = decide (taken ++ more) rest (entry ∷ decided) (joins ∙ ap (λ bytes. taken ++ bytes) cut ∙ sym (append_assoc taken more rest)) (first more decided (subst (λ d. HasDecided d more decided) dialect has)) in
+    subst (λ bytes. HasDecided l.dialect (without_mark bytes) ((done ++ entry ∷ []) ++ decided)) (sym (append_assoc used taken more))
+    (subst (HasDecided l.dialect (without_mark (used ++ (taken ++ more)))) (sym (append_assoc done (entry ∷ []) decided)) all)
+
+-- before an entry the end was not read
+decided_so_far : (l : Load) (names : Texts) (t u : IterState) (entry : Entry) → (k : Came l names t) → TakesEntry names (record { bytes = k.left; fault = l.ahead.fault }) t k.loaded.later entry u → DecideDone l t k.loaded.done k.used k.left
+decided_so_far l names t u entry k takes = elim k.stays [ inl ended ↦ absurd (none_first (sym takes.first ∙ left_once t.dialect l.ahead.fault k.left k.loaded.later [] k.has_left (left-none t.dialect l.ahead.fault k.left ended.1 ended.0))) | inr decide ↦ decide ]
+  where
+    none_first : {es : List Entry} → entry ∷ es ≡ [] → ⊥
+    none_first h = cc
+
 -- a pair that is set or passed by leads on
 came_on : {A : Type 0} (l : Load) (names new : Texts) (t u : IterState) (pair : String A × String A) (b : Bool) → Came l names t → NextItem {A = A} names t (Some (Ok pair)) u → sets l.mode (values_of names) (chars (string_bytes pair.0)) ≡ b → (b && has_nul (chars (string_bytes pair.1))) ≡ false →
     ((n : List ℕ) → values_of new n ≡ (if b then with_value (values_of names) (chars (string_bytes pair.0)) (chars (string_bytes pair.1)) else values_of names) n) → Came l new u
@@ -239,7 +289,13 @@ came_on {A = A} l names new t u pair b k next is good values =
     let takes = p.takes in
     record {
       loaded = declared_done l names new t.remembered u.remembered (chars (string_bytes pair.0)) (chars (string_bytes pair.1)) p.pieces takes.later b k.loaded takes.first p.value is good values takes.remembers;
+      used = k.used ++ takes.used;
       left = takes.left;
+      joins = k.joins ∙ ap (λ bytes. k.used ++ bytes) takes.joins ∙ sym (append_assoc k.used takes.used takes.left);
+      stays = elim takes.stays [
+        | inl ended ↦ inl ended
+        | inr first ↦ inr (decide_more l t u (Declares (chars (string_bytes pair.0)) p.pieces) k.loaded.done k.used k.left takes.used takes.left (decided_so_far l names t u (Declares (chars (string_bytes pair.0)) p.pieces) k takes) takes.joins takes.dialect first)
+      ];
       is_told = (takes.is_left, k.is_told.1);
       has_left = subst (λ d. HasLeft d l.ahead.fault takes.left takes.later) (sym takes.dialect) takes.has_left;
       goes_on = takes.goes_on;
@@ -273,21 +329,65 @@ mark_undecided (b ∷ c ∷ []) h =
     ap (λ d. up_to_last_line_feed (without_mark (d ∷ c ∷ []))) first ∙ ap (λ d. up_to_last_line_feed (without_mark (0xEF ∷ d ∷ []))) second
 mark_undecided (b ∷ c ∷ d ∷ bytes) h = let f = ltb-true _ _ (and_left (nat_lt (length (b ∷ c ∷ d ∷ bytes)) 3) (starts_with nat_eq byte_order_mark (b ∷ c ∷ d ∷ bytes)) h) in absurd (omega (arith, f))
 
--- before a fault that is told the front of a mark has no entries
-mark_left : (dialect : Dialect) (fault : Option ErrorKind) (kind : ErrorKind) (bytes : List ℕ) (entries : List Entry) → fault ≡ Some kind → begins_mark bytes ≡ true → HasLeft dialect fault (without_mark bytes) entries → entries ≡ []
-mark_left dialect None kind bytes entries is begins has = absurd (none-some kind is)
-mark_left dialect (Some told) kind bytes entries is begins has =
-    left_once dialect (Some told) (without_mark bytes) entries [] has
-    (left-undecided dialect told (without_mark bytes) (λ count next some none. absurd (some (ap line_texts (mark_undecided bytes begins)))))
+-- the front of a mark decides no entry
+mark_decides : (dialect : Dialect) (bytes : List ℕ) → begins_mark bytes ≡ true → HasDecided dialect (without_mark bytes) []
+mark_decides dialect bytes begins = decided-none dialect (without_mark bytes) (λ count next some none. absurd (some (ap line_texts (mark_undecided bytes begins))))
+
+-- what is used of bytes that may begin with a mark
+record Marked (bytes : List ℕ) : Type 0 where
+  used : List ℕ
+  joins : bytes ≡ used ++ without_mark bytes
+  stays : (more rest : List ℕ) → without_mark bytes ≡ more ++ rest → without_mark (used ++ more) ≡ more
+
+bytes_if : (x y : List ℕ) (b : Bool) → b ≡ true → (if b then x else y) ≡ x
+bytes_if x y true h = refl
+bytes_if x y false h = cc
+
+bytes_else : (x y : List ℕ) (b : Bool) → b ≡ false → (if b then x else y) ≡ y
+bytes_else x y false h = refl
+bytes_else x y true h = cc
+
+no_mark : (bytes more rest : List ℕ) → starts_with nat_eq bytes byte_order_mark ≡ false → bytes ≡ more ++ rest → without_mark more ≡ more
+no_mark bytes [] rest h e = refl
+no_mark bytes (b ∷ []) rest h e = bytes_else [] (b ∷ []) (starts_with nat_eq (b ∷ []) byte_order_mark) (short (0xEF == b))
+  where
+    short : (t : Bool) → (t && false) ≡ false
+    short true = refl
+    short false = refl
+no_mark bytes (b ∷ c ∷ []) rest h e = bytes_else [] (b ∷ c ∷ []) (starts_with nat_eq (b ∷ c ∷ []) byte_order_mark) (short (0xEF == b) (0xBB == c))
+  where
+    short : (t u : Bool) → (t && (u && false)) ≡ false
+    short true true = refl
+    short true false = refl
+    short false u = refl
+no_mark bytes (b ∷ c ∷ d ∷ more) rest h e = bytes_else more (b ∷ c ∷ d ∷ more) (starts_with nat_eq (b ∷ c ∷ d ∷ more) byte_order_mark) (ap (λ bs. starts_with nat_eq bs byte_order_mark) (sym e) ∙ h)
+
+marked : (bytes : List ℕ) → Marked bytes
+marked bytes = at bytes (starts_with nat_eq bytes byte_order_mark) refl
+  where
+    at : (bs : List ℕ) (b : Bool) → starts_with nat_eq bs byte_order_mark ≡ b → Marked bs
+    at bs false h = let is = bytes_else (drop 3 bs) bs (starts_with nat_eq bs byte_order_mark) h in record { used = []; joins = sym is; stays = λ more rest e. no_mark bs more rest h (sym is ∙ e) }
+    at [] true h = cc
+    at (b ∷ []) true h = absurd (let e = and_right (0xEF == b) false h in let f : false ≡ true = e in cc)
+    at (b ∷ c ∷ []) true h = absurd (let e = and_right (0xBB == c) false (and_right (0xEF == b) ((0xBB == c) && false) h) in let f : false ≡ true = e in cc)
+    at (b ∷ c ∷ d ∷ bs) true h = record {
+      used = b ∷ c ∷ d ∷ [];
+      joins = sym (ap (λ l. b ∷ c ∷ d ∷ l) (bytes_if bs (b ∷ c ∷ d ∷ bs) (starts_with nat_eq (b ∷ c ∷ d ∷ bs) byte_order_mark) h));
+      stays = λ more rest e. bytes_if more (b ∷ c ∷ d ∷ more) (starts_with nat_eq (b ∷ c ∷ d ∷ more) byte_order_mark) h;
+    }
 
 -- a load begins behind the mark
 pub came_start : (A : Type 0) (mode : Mode) (s t : IterState) (old : Texts) → t.lines.stage ≡ s.lines.stage → t.remembered ≡ s.remembered → t.dialect ≡ s.dialect → ((a : Ahead) → s.lines.stage ≡ Open → IsTold s.lines.input.left a → DropsMark {A = A} a s.lines.input (Ok tt) t.lines.input) → CameTo mode s old old t
 came_start A mode s t old stage recall dialect drops opened a told entries has =
     let d = drops a opened told in
+    let m = marked a.bytes in
     let l = load_of mode s old a entries in
     record {
       loaded = record { done = []; later = entries; split = refl; same = λ more. subst (λ r. SameLoad (run_all l more) (run_on l old r more)) (sym recall) (same-as _ _ refl) };
+      used = m.used;
       left = without_mark a.bytes;
+      joins = m.joins;
+      stays = inr (λ more rest decided cut has'. subst (λ bytes. HasDecided s.dialect bytes decided) (sym (m.stays more rest cut)) (subst (λ e. HasDecided e more decided) dialect has'));
       is_told = (d.0, told.1);
       has_left = subst (λ e. HasLeft e a.fault (without_mark a.bytes) entries) (sym dialect) has;
       goes_on = inl (stage ∙ opened);
@@ -297,9 +397,18 @@ came_start A mode s t old stage recall dialect drops opened a told entries has =
 -- a fault before the mark is decided ends a load
 ends_mark : {A : Type 0} (mode : Mode) (s : IterState) (v : InputState) (old : Texts) (a : Ahead) (entries : List Entry) (e : Error A) → HasLeft s.dialect a.fault (without_mark a.bytes) entries → DropsMark a s.lines.input (Err e) v → Ends (load_of mode s old a entries) old (Err e)
 ends_mark mode s v old a entries e has drops =
-    ends_final (load_of mode s old a entries) v old s.remembered e (none_done mode s old a entries)
-    (io_weaker (IsReadFault a s.lines.input (begins_mark a.bytes ≡ true) v) (IsReadFault a s.lines.input (entries ≡ []) v) e
-    (λ x h. elim h [ inl f ↦ inl (f.0, mark_left s.dialect a.fault (error_kind x) a.bytes entries f.0 f.1 has) | inr m ↦ inr m ]) drops)
+    ends_final (load_of mode s old a entries) a s.lines.input v (λ bytes. begins_mark bytes ≡ true) old s.remembered e (none_done mode s old a entries) refl
+    (λ kind told begins. left-fault s.dialect a.fault kind (without_mark a.bytes) entries told has (mark_decides s.dialect a.bytes begins))
+    (λ met. record {
+      bytes = met.front;
+      later = met.later;
+      cut = met.cut;
+      each_gave = met.each_gave;
+      decided = [];
+      has_decided = mark_decides s.dialect met.front met.holds;
+      ends = refl;
+    })
+    drops
 
 -- a load of what s has left, which came to t: the next pair is set
 pub came_set : {A : Type 0} (mode : Mode) (s t u : IterState) (old names : Texts) (key value : String A) (item : Result (String A × String A) (Error A)) → CameTo mode s old names t → NextItem names t (Some item) u → item ≡ Ok (key, value) → sets mode (values_of names) (chars (string_bytes key)) ≡ true → (value_ok (string_bytes value) ≡ false → ⊥) → CameTo mode s old (insert names (string_bytes key) (string_bytes value)) u

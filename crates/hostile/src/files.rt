@@ -1,30 +1,34 @@
 //! Files that are read while memory is refused.
 
-use crate::refusals::{is_done, refuse_in_turn, shown};
+use crate::refusals::{is_done, refuse_in_turn};
 use dotenvy::{Bytes, Environment, Error, Iter, Result};
 use rationed::Rationed;
 use std::alloc::{Allocator, Global};
 use std::process::Abort;
 use std::test::Fail;
 
-const FILE: &[u8; 15] = b"A=1\nB=$A\nC=\"x\"\n";
-
-/// The items of the file, added to `items` as `A=1;B=1;C=x;`, up to a refusal.
+/// The items of a file, added to `items` as `A=1;B=1;C=x;`, up to a refusal. After them there are none.
 fn read_items<A: Allocator + Clone>(
     rt: &impl Abort,
     alloc: A,
+    file: &[u8],
     items: &mut String,
 ) -> Result<(), A> {
-    let environment = Environment::new(alloc.clone()?);
-    let mut entries = Iter::new(alloc, Bytes::new(FILE))?;
+    let mut environment = Environment::new(alloc.clone()?);
+    let mut entries = Iter::new(alloc, Bytes::new(file))?;
     let mut answer = Ok(());
     for item in entries.items(&environment) {
         match item {
             Ok((key, value)) => write!(items, "{key}={value};")?,
+            Err(Error::LineParse(text, place)) => write!(items, "{text} at {place};")?,
+            Err(Error::Io(fault)) => write!(items, "{:?};", fault.kind())?,
             Err(error) => answer = Err(error),
         }
     }
     assert!(rt; entries.next_item(&environment).is_none());
+    assert!(rt; entries.next_item(&environment).is_none());
+    entries.load(&mut environment)?;
+    assert_eq!(rt; environment.len(), 0);
     answer
 }
 
@@ -32,14 +36,16 @@ fn items_of_file(
     rt: &impl Abort,
     alloc: Global,
     ration: &Rationed<Global>,
+    file: &[u8],
+    wanted: &str,
 ) -> std::result::Result<bool, Fail> {
     let mut items = String::new(alloc);
-    let answer = read_items(rt, ration, &mut items);
+    let answer = read_items(rt, ration, file, &mut items);
     let is_done = is_done(rt, ration, &answer);
     if is_done {
-        assert_eq!(rt; items.as_str(), "A=1;B=1;C=x;");
+        assert_eq!(rt; items.as_str(), wanted);
     } else {
-        assert!(rt; "A=1;B=1;C=x;".starts_with(items.as_str()), "{items}");
+        assert!(rt; wanted.starts_with(items.as_str()), "{items}");
     }
     Ok(is_done)
 }
@@ -47,49 +53,30 @@ fn items_of_file(
 #[test]
 fn items(rt: HostRuntime) -> std::result::Result<(), Fail> {
     let alloc = rt.alloc();
-    refuse_in_turn(&rt, alloc, |ration| items_of_file(&rt, alloc, ration))
-}
-
-/// Loads the file into the environment, which keeps the names that it has where `keeps` is true.
-fn load_file<A: Allocator + Clone>(
-    alloc: A,
-    environment: &mut Environment<A>,
-    keeps: bool,
-) -> Result<(), A> {
-    let entries = Iter::new(alloc, Bytes::new(FILE))?;
-    if keeps {
-        entries.load(environment)
-    } else {
-        entries.load_override(environment)
+    let files: [(&[u8], &str); 4] = [
+        (b"A=1\nB=$A\nC=\"x\"\n", "A=1;B=1;C=x;"),
+        (
+            b"A=1\n.B=2\n\xff\nC='x\ny'\nD=\"$A",
+            "A=1;.B=2 at 0;InvalidData;C=x\ny;D=\"$A at 5;",
+        ),
+        (b"A=\"x\0y\"\nB=$A\n", "A=x\0y;B=x\0y;"),
+        (b"# c\n\nexport\n", "export at 6;"),
+    ];
+    for (file, wanted) in files {
+        refuse_in_turn(&rt, alloc, |ration| {
+            items_of_file(&rt, alloc, ration, file, wanted)
+        })?;
     }
-}
-
-fn loads_file(
-    rt: &impl Abort,
-    alloc: Global,
-    ration: &Rationed<Global>,
-    keeps: bool,
-) -> std::result::Result<bool, Fail> {
-    let mut environment = Environment::new(ration);
-    let answer = load_file(ration, &mut environment, keeps);
-    let is_done = is_done(rt, ration, &answer);
-    let left = shown(alloc, &environment)?;
-    if is_done {
-        assert_eq!(rt; left.as_str(), "A=1;B=1;C=x;");
-    } else {
-        assert!(rt; "A=1;B=1;C=x;".starts_with(left.as_str()), "{left}");
-    }
-    Ok(is_done)
+    Ok(())
 }
 
 #[test]
-fn load(rt: HostRuntime) -> std::result::Result<(), Fail> {
+fn a_line_longer_than_a_read(rt: HostRuntime) -> std::result::Result<(), Fail> {
     let alloc = rt.alloc();
-    refuse_in_turn(&rt, alloc, |ration| loads_file(&rt, alloc, ration, true))
-}
-
-#[test]
-fn load_override(rt: HostRuntime) -> std::result::Result<(), Fail> {
-    let alloc = rt.alloc();
-    refuse_in_turn(&rt, alloc, |ration| loads_file(&rt, alloc, ration, false))
+    let letters = "é\n".repeat(alloc, 10_000)?;
+    let file = format!(in alloc; "K=\"{letters}\"\nL=1\n")?;
+    let wanted = format!(in alloc; "K={letters};L=1;")?;
+    refuse_in_turn(&rt, alloc, |ration| {
+        items_of_file(&rt, alloc, ration, file.as_bytes(), wanted.as_str())
+    })
 }

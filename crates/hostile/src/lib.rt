@@ -11,6 +11,8 @@ mod environments;
 #[cfg(test)]
 mod files;
 #[cfg(test)]
+mod loads;
+#[cfg(test)]
 mod refusals;
 #[cfg(test)]
 mod values;

@@ -28,6 +28,21 @@ pub fn refuse_in_turn<F: FnMut(&Rationed<Global>) -> std::result::Result<bool, F
     panic!(rt; "each run met a refusal")
 }
 
+/// Whether a request was refused: then the answer must be `Memory`, and otherwise it must not.
+pub fn is_refused<T, A: Allocator>(
+    rt: &impl Abort,
+    ration: &Rationed<Global>,
+    answer: &Result<T, A>,
+) -> bool {
+    let is_memory = matches!(answer, Err(Error::Memory(_)));
+    assert_eq!(rt;
+        is_memory,
+        ration.has_refused(),
+        "is the answer `Memory`, was one refused"
+    );
+    is_memory
+}
+
 /// Whether a call succeeded: it must where nothing was refused, and must answer `Memory` where
 /// something was.
 pub fn is_done<T, A: Allocator>(
@@ -35,17 +50,26 @@ pub fn is_done<T, A: Allocator>(
     ration: &Rationed<Global>,
     answer: &Result<T, A>,
 ) -> bool {
-    match answer {
-        Ok(_) => {
-            assert!(rt; !ration.has_refused(), "a refusal was passed over");
-            true
-        }
-        Err(Error::Memory(_)) => {
-            assert!(rt; ration.has_refused(), "nothing was refused");
-            false
-        }
-        Err(error) => panic!(rt; "in place of a refusal: {error}"),
+    if is_refused(rt, ration, answer) {
+        return false;
     }
+    match answer {
+        Ok(_) => true,
+        Err(error) => panic!(rt; "in place of an answer: {error}"),
+    }
+}
+
+/// An environment of these names and values.
+pub fn environment_of<A: Allocator + Clone>(
+    alloc: A,
+    pairs: &[(&str, &str)],
+) -> Result<Environment<A>, A> {
+    let mut list = Vec::new(alloc.clone()?);
+    for (name, value) in pairs {
+        let name = String::from_str(alloc.clone()?, name)?;
+        list.push((name, String::from_str(alloc.clone()?, value)?))?;
+    }
+    Environment::from_pairs(alloc, list)
 }
 
 /// The names and values, as `A=1;B=2;`.

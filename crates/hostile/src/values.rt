@@ -1,7 +1,7 @@
 //! Values that mean more than they say: the memory for what one means is asked for once.
 
-use crate::refusals::{MOST_REQUESTS, is_done};
-use dotenvy::{Bytes, Environment, Iter, Result};
+use crate::refusals::{MOST_REQUESTS, environment_of, is_done};
+use dotenvy::{Bytes, Iter, Result};
 use rationed::Rationed;
 use std::alloc::{Allocator, Global};
 use std::process::Abort;
@@ -9,10 +9,7 @@ use std::test::Fail;
 
 /// How many bytes `K=$A$A$A` means, where `A` stands for these letters.
 fn meaning_len<A: Allocator + Clone>(alloc: A, letters: &str) -> Result<usize, A> {
-    let mut list = Vec::new(alloc.clone()?);
-    let name = String::from_str(alloc.clone()?, "A")?;
-    list.push((name, String::from_str(alloc.clone()?, letters)?))?;
-    let environment = Environment::from_pairs(alloc.clone()?, list)?;
+    let environment = environment_of(alloc.clone()?, &[("A", letters)])?;
     let mut entries = Iter::new(alloc, Bytes::new(b"K=$A$A$A\n"))?;
     match entries.next_item(&environment) {
         Some(Ok((_, value))) => Ok(value.len()),

@@ -1,6 +1,6 @@
 //! Lines that the two dialects read in different ways, and one that they read alike.
 
-use crate::reader::CutReader;
+use crate::reader::PlayedReader;
 use crate::shown::items_under;
 use dotenvy::{Dialect, Plain};
 use std::test::Fail;
@@ -35,7 +35,7 @@ fn names_in_quotes_and_with_underscores(rt: HostRuntime) -> Result<(), Fail> {
 #[test]
 fn a_list_in_the_next_dialect(rt: HostRuntime) -> Result<(), Fail> {
     let mut writer = Plain::new(Vec::new(rt.alloc()));
-    let reader = CutReader::by_byte(b"A=1\nK=\"$A\"\n");
+    let reader = PlayedReader::by_byte(rt.alloc(), b"A=1\nK=\"$A\"\n")?;
     dotenvy::list_with(rt.alloc(), reader, &mut writer, Dialect::Next)?;
     let output: Vec<u8> = writer.into_inner();
     assert_eq!(rt; output.as_slice(), b"A=\"1\"\nK=\"1\"\n".as_slice());

@@ -8,11 +8,17 @@ mod environments;
 #[cfg(test)]
 mod errors;
 #[cfg(test)]
+mod failing_readers;
+#[cfg(test)]
+mod failing_writers;
+#[cfg(test)]
 mod lines;
 #[cfg(test)]
 mod loads;
 #[cfg(test)]
 mod reader;
+#[cfg(test)]
+mod recorded;
 #[cfg(test)]
 mod shown;
 #[cfg(test)]
@@ -21,5 +27,7 @@ mod statements;
 mod substitution;
 #[cfg(test)]
 mod values;
+#[cfg(test)]
+mod writer;
 #[cfg(test)]
 mod written;

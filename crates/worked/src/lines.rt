@@ -73,26 +73,46 @@ fn open_ends(rt: HostRuntime) -> Result<(), Fail> {
 
 #[test]
 fn lines_that_are_no_text(rt: HostRuntime) -> Result<(), Fail> {
-    let inputs: [&[u8]; 9] = [
-        b"A=\"x\n\xff\nB=2\n",
-        b"A=1 # \xff\nB=2\n",
-        b"K=\xc3\nB=2\n",
-        b"#\xff\nB=2\n",
-        b"K\x80=1\nB=2\n",
-        b"K=\xc0\x80\nB=2\n",
-        b"K='\xed\xa0\x80'\nB=2\n",
-        b"K=1 # \xf4\x90\x80\x80\nB=2\n",
-        b"# \xc3\nB=2\n",
+    let alloc = rt.alloc();
+    let broken: [&[u8]; 6] = [
+        b"\x80",
+        b"\xc0\x80",
+        b"\xed\xa0\x80",
+        b"\xf4\x90\x80\x80",
+        b"\xc3",
+        b"\xff",
     ];
-    for input in inputs {
-        assert_eq!(rt;
-            items(rt.alloc(), input)?.as_str(),
-            "io InvalidData; B=2",
-            "at {input:?}"
-        );
+    for bytes in broken {
+        for (before, after) in [
+            ("K", "=1"),
+            ("K", ""),
+            ("K=x", "y"),
+            ("K=", ""),
+            ("K='x", "y'"),
+            ("K='", ""),
+            ("K=\"x", "y\""),
+            ("K=\"", ""),
+            ("K=\"x\n", "\""),
+            ("K=\"x\n", ""),
+            ("K=1 # x", "y"),
+            ("K=1 # ", ""),
+            ("# x", "y"),
+            ("#", ""),
+        ] {
+            let mut input = Vec::new(alloc);
+            input.extend_from_slice(before.as_bytes())?;
+            input.extend_from_slice(bytes)?;
+            input.extend_from_slice(after.as_bytes())?;
+            input.extend_from_slice(b"\nB=2\n")?;
+            assert_eq!(rt;
+                items(alloc, input.as_slice())?.as_str(),
+                "io InvalidData; B=2",
+                "{bytes:?} between {before:?} and {after:?}"
+            );
+        }
     }
     let cut = b"K=\xf0\x9f\x98";
-    assert_eq!(rt; items(rt.alloc(), cut)?.as_str(), "io InvalidData");
+    assert_eq!(rt; items(alloc, cut)?.as_str(), "io InvalidData");
     Ok(())
 }
 

@@ -1,24 +1,11 @@
 //! What loads set, where they stop, and what they leave.
 
-use crate::reader::CutReader;
-use crate::shown::{answer, environment, items_of, pairs};
-use dotenvy::{Bytes, Dialect, Environment, Iter};
-use std::alloc::Global;
-use std::io::ErrorKind;
+use crate::reader::PlayedReader;
+use crate::shown::{environment, items_of, loads, pairs};
+use dotenvy::{Bytes, Dialect, Environment, Iter, Plain};
+use std::fs;
+use std::fs::File;
 use std::test::Fail;
-
-/// What `from_read` and `from_read_override` answer and leave, as `ok, A=1 | ok, A=2`.
-fn loads(alloc: Global, names: &[(&str, &str)], input: &[u8]) -> Result<String, Fail> {
-    let mut kept = environment(alloc, names)?;
-    let load = dotenvy::from_read(alloc, CutReader::by_byte(input), &mut kept);
-    let load = answer(alloc, load)?;
-    let kept = pairs(alloc, &kept)?;
-    let mut replaced = environment(alloc, names)?;
-    let load_override = dotenvy::from_read_override(alloc, Bytes::new(input), &mut replaced);
-    let load_override = answer(alloc, load_override)?;
-    let replaced = pairs(alloc, &replaced)?;
-    Ok(format!(in alloc; "{load}: {kept} | {load_override}: {replaced}")?)
-}
 
 #[test]
 fn loads_into_an_empty_environment(rt: HostRuntime) -> Result<(), Fail> {
@@ -67,7 +54,8 @@ fn names_in_values_of_several_names(rt: HostRuntime) -> Result<(), Fail> {
             "KEY1=new_value1\nKEY_U=$KEY+valueU\nS={quote}{value}{quote}\n"
         )?;
         let mut environment = environment(alloc, &[("KEY", "value"), ("KEY1", "value1")])?;
-        dotenvy::from_read(alloc, Bytes::new(input.as_bytes()), &mut environment)?;
+        let reader = PlayedReader::interrupted(alloc, input.as_bytes())?;
+        dotenvy::from_read(alloc, reader, &mut environment)?;
         assert_eq!(rt; environment.get("KEY1").ok_or("absent")?, "value1");
         assert_eq!(rt; environment.get("KEY_U").ok_or("absent")?, "value+valueU");
         assert_eq!(rt; environment.get("S").ok_or("absent")?, want, "in {quote:?}");
@@ -131,7 +119,7 @@ fn a_nul_in_a_value(rt: HostRuntime) -> Result<(), Fail> {
 fn loads_of_what_is_left(rt: HostRuntime) -> Result<(), Fail> {
     let alloc = rt.alloc();
     for (input, want) in [("A=1\nC=$A\n", "C=1"), ("A=1\n\u{feff}B=2\n", "B=2")] {
-        let mut entries = Iter::new(alloc, CutReader::by_byte(input.as_bytes()))?;
+        let mut entries = Iter::new(alloc, PlayedReader::interrupted(alloc, input.as_bytes())?)?;
         let mut environment = Environment::new(alloc);
         let (key, value) = entries.next_item(&environment).ok_or("no item")??;
         assert!(rt; (key.as_str(), value.as_str()) == ("A", "1"));
@@ -142,36 +130,26 @@ fn loads_of_what_is_left(rt: HostRuntime) -> Result<(), Fail> {
 }
 
 #[test]
-fn a_reader_that_fails(rt: HostRuntime) -> Result<(), Fail> {
+fn a_file_that_was_opened(rt: HostRuntime) -> Result<(), Fail> {
     let alloc = rt.alloc();
-    let file = b"A=1\nB=\"x\ny\"\nC=3\n";
-    for count in 0..17usize {
-        let want = match count {
-            0..=3 => "io PermissionDenied",
-            4..=11 => "A=1; io PermissionDenied",
-            12..=15 => "A=1; B=x\ny; io PermissionDenied",
-            _ => "A=1; B=x\ny; C=3; io PermissionDenied",
-        };
-        let reader = CutReader::failing(&file[..count], ErrorKind::PermissionDenied);
-        let items = items_of(alloc, &Environment::new(alloc), reader, Dialect::V15)?;
-        assert_eq!(rt; items.as_str(), want, "after {count} bytes");
-    }
-
-    let mut environment = Environment::new(alloc);
-    let reader = CutReader::failing(b"A=1\nB=", ErrorKind::InvalidData);
-    let load = dotenvy::from_read(alloc, reader, &mut environment);
-    assert_eq!(rt; answer(alloc, load)?.as_str(), "io InvalidData");
-    assert_eq!(rt; pairs(alloc, &environment)?.as_str(), "A=1");
-    Ok(())
-}
-
-#[test]
-fn none_after_the_end(rt: HostRuntime) -> Result<(), Fail> {
-    let alloc = rt.alloc();
-    let environment = Environment::new(alloc);
-    let mut entries = dotenvy::from_read_iter(alloc, Bytes::new(b"A=1"))?;
-    assert!(rt; entries.next_item(&environment).is_some());
-    assert!(rt; entries.next_item(&environment).is_none());
-    assert!(rt; entries.next_item(&environment).is_none());
+    let name = "worked_loads.env";
+    fs::write(
+        &rt,
+        name,
+        "TESTKEY=test_val\nTESTKEY=test_val_overridden\nEXISTING=from_file\n",
+    )?;
+    let mut kept = environment(alloc, &[("EXISTING", "from_env")])?;
+    dotenvy::from_read(alloc, Plain::new(File::open(&rt, name)?), &mut kept)?;
+    let mut replaced = environment(alloc, &[("EXISTING", "from_env")])?;
+    dotenvy::from_read_override(alloc, Plain::new(File::open(&rt, name)?), &mut replaced)?;
+    fs::remove_file(&rt, name)?;
+    assert_eq!(rt;
+        pairs(alloc, &kept)?.as_str(),
+        "EXISTING=from_env, TESTKEY=test_val"
+    );
+    assert_eq!(rt;
+        pairs(alloc, &replaced)?.as_str(),
+        "EXISTING=from_file, TESTKEY=test_val_overridden"
+    );
     Ok(())
 }

@@ -1,59 +1,76 @@
-//! A reader whose reads are as short as a test wants them, and that may fail.
-
-ghost use Rattle.std.specs.Prelude.{◌≡◌, ◌<◌, Some, None};
+//! A reader that plays a list of steps: bytes in pieces, interruptions, faults, and ends.
 
 use dotenvy::Source;
-use std::io;
+use std::alloc::{AllocError, Global};
 use std::io::ErrorKind;
+use std::{io, vec};
 
-/// Gives its bytes, at most so many a read, and then the end or a fault.
-#[derive(Drop)]
-pub struct CutReader<'a> {
-    rest: &'a [u8],
-    most: usize,
-    fault: Option<ErrorKind>,
-    ghost gives_some: { 0 < most },
+/// What a read does.
+#[derive(Clone, Copy)]
+pub enum Step<'a> {
+    /// Gives these bytes: some now and the others at the next read, where the buffer is too short for all.
+    Give(&'a [u8]),
+    /// Answers a fault of this kind, or an interruption.
+    Fail(ErrorKind),
+    /// Answers the end, though steps may follow.
+    End,
 }
 
-impl<'a> CutReader<'a> {
-    /// All the bytes in one read, as far as the buffer holds them.
-    pub fn whole(bytes: &'a [u8]) -> CutReader<'a> {
-        CutReader {
-            rest: bytes,
-            most: usize::MAX,
-            fault: None,
+/// Takes one step a read, and answers the end after the last.
+#[derive(Drop)]
+pub struct PlayedReader<'a> {
+    steps: vec::IntoIter<Step<'a>>,
+    rest: &'a [u8],
+}
+
+impl<'a> PlayedReader<'a> {
+    /// Plays these steps.
+    pub fn new(steps: Vec<Step<'a>>) -> PlayedReader<'a> {
+        PlayedReader {
+            steps: steps.into_iter(),
+            rest: b"",
         }
     }
 
     /// One byte a read.
-    pub fn by_byte(bytes: &'a [u8]) -> CutReader<'a> {
-        CutReader {
-            rest: bytes,
-            most: 1,
-            fault: None,
+    pub fn by_byte(alloc: Global, bytes: &'a [u8]) -> Result<PlayedReader<'a>, AllocError> {
+        let steps = bytes.chunks(1).map(Step::Give).collect(alloc)?;
+        Ok(PlayedReader::new(steps))
+    }
+
+    /// One byte a read, with an interrupted read before each byte and before the end.
+    pub fn interrupted(alloc: Global, bytes: &'a [u8]) -> Result<PlayedReader<'a>, AllocError> {
+        let mut steps = Vec::new(alloc);
+        for byte in bytes.chunks(1) {
+            steps.push(Step::Fail(ErrorKind::Interrupted))?;
+            steps.push(Step::Give(byte))?;
         }
+        steps.push(Step::Fail(ErrorKind::Interrupted))?;
+        Ok(PlayedReader::new(steps))
     }
 
     /// One byte a read, and a fault in place of the end.
-    pub fn failing(bytes: &'a [u8], fault: ErrorKind) -> CutReader<'a> {
-        CutReader {
-            rest: bytes,
-            most: 1,
-            fault: Some(fault),
-        }
+    pub fn failing(
+        alloc: Global,
+        bytes: &'a [u8],
+        fault: ErrorKind,
+    ) -> Result<PlayedReader<'a>, AllocError> {
+        let mut steps: Vec<Step> = bytes.chunks(1).map(Step::Give).collect(alloc)?;
+        steps.push(Step::Fail(fault))?;
+        Ok(PlayedReader::new(steps))
     }
 }
 
-impl<'a> Source for CutReader<'a> {
-    ghost ahead = { λ s. Some (record { bytes = s.rest.now; fault = s.fault }) };
-
+impl<'a> Source for PlayedReader<'a> {
     fn read_some(&mut self, buf: &mut [u8]) -> io::Result<usize> {
-        let count = self.rest.len().min(buf.len()).min(self.most);
-        if self.rest.is_empty()
-            && let Some(kind) = self.fault
-        {
-            return Err(io::Error::from(kind));
+        if self.rest.is_empty() {
+            match self.steps.next() {
+                Some(Step::Give(bytes)) => self.rest = bytes,
+                Some(Step::Fail(kind)) => return Err(io::Error::from(kind)),
+                Some(Step::End) | None => return Ok(0),
+            }
         }
+        let count = self.rest.len().min(buf.len());
         let (now, later) = self.rest.split_at(count);
         buf[..count].copy_from_slice(now);
         self.rest = later;

@@ -54,6 +54,10 @@ fn names_of_earlier_lines(rt: HostRuntime) -> Result<(), Fail> {
         ("A=1\nA=2\nB=$A\n", "A=1; A=2; B=2"),
         ("A=1\nA=2 3\nB=$A\n", "A=1; fault at 2: 2 3; B=1"),
         ("A=1\nA=\nB=x$A\n", "A=1; A=; B=x"),
+        (
+            "A=$\nB=${}x\nC=$$x\nD=a$-b\nE=$A b\nF=${A\n",
+            "A=; B=x; C=; D=a-b; E= b; fault at 2: ${A",
+        ),
         ("KEY=test\nKEY1=\"${KEY}\"\n", "KEY=test; KEY1=test"),
         ("KEY=VALUE\nKEY1=$KEY$KEY\n", "KEY=VALUE; KEY1=VALUEVALUE"),
         (

@@ -1,6 +1,6 @@
 //! The written form, and the list of a file.
 
-use crate::reader::CutReader;
+use crate::reader::PlayedReader;
 use crate::shown::items;
 use dotenvy::{Plain, is_key};
 use std::alloc::Global;
@@ -9,7 +9,7 @@ use std::test::Fail;
 /// What `list` writes of a file.
 fn listed(alloc: Global, input: &[u8]) -> Result<Vec<u8>, Fail> {
     let mut writer = Plain::new(Vec::new(alloc));
-    dotenvy::list(alloc, CutReader::by_byte(input), &mut writer)?;
+    dotenvy::list(alloc, PlayedReader::by_byte(alloc, input)?, &mut writer)?;
     Ok(writer.into_inner())
 }
 
@@ -35,6 +35,19 @@ fn pairs_are_written_and_read_back(rt: HostRuntime) -> Result<(), Fail> {
 }
 
 #[test]
+fn a_list_has_each_name_once_in_order(rt: HostRuntime) -> Result<(), Fail> {
+    for (input, want) in [
+        ("", ""),
+        ("B=2\nA=1\nA=3\n", "A=\"1\"\nB=\"2\"\n"),
+        ("\u{feff}A=1\n", "A=\"1\"\n"),
+    ] {
+        let output = listed(rt.alloc(), input.as_bytes())?;
+        assert_eq!(rt; output.as_slice(), want.as_bytes(), "at {input:?}");
+    }
+    Ok(())
+}
+
+#[test]
 fn a_list_is_listed_as_itself(rt: HostRuntime) -> Result<(), Fail> {
     let alloc = rt.alloc();
     let first = listed(alloc, b"B=2\nA=1\nA=3\nC='$x\"\\\n'\n")?;
@@ -52,7 +65,7 @@ fn nothing_is_written_of_a_file_with_a_fault(rt: HostRuntime) -> Result<(), Fail
     let mut writer = Plain::new(Vec::new(rt.alloc()));
     let answer = dotenvy::list(
         rt.alloc(),
-        CutReader::by_byte(b"A=1\n.B=2\nC=3\n"),
+        PlayedReader::by_byte(rt.alloc(), b"A=1\n.B=2\nC=3\n")?,
         &mut writer,
     );
     assert!(rt; answer.is_err());

@@ -1,0 +1,176 @@
+//! Readers that fail, end early or cut what they give: the items and loads before it, and what comes
+//! after.
+
+use crate::reader::{PlayedReader, Step};
+use crate::shown::{answer, items, items_of, loads, loads_over};
+use dotenvy::{Bytes, Dialect, Environment, Iter};
+use std::alloc::{AllocError, Global};
+use std::io::ErrorKind;
+use std::test::Fail;
+
+#[test]
+fn a_fault_after_each_number_of_bytes(rt: HostRuntime) -> Result<(), Fail> {
+    let alloc = rt.alloc();
+    let environment = Environment::new(alloc);
+    let fault = ErrorKind::PermissionDenied;
+    let file = b"A=1\nB=\"x\ny\"\nC=3\n";
+    for count in 0..17usize {
+        let told = &file[..count];
+        let (pairs, separated) = match count {
+            0..=3 => ("", ""),
+            4..=11 => ("A=1", "A=1; "),
+            12..=15 => ("A=1, B=x\ny", "A=1; B=x\ny; "),
+            _ => ("A=1, B=x\ny, C=3", "A=1; B=x\ny; C=3; "),
+        };
+        let reader = PlayedReader::failing(alloc, told, fault)?;
+        let items = items_of(alloc, &environment, reader, Dialect::V15)?;
+        let want = format!(in alloc; "{separated}io PermissionDenied")?;
+        assert_eq!(rt; items.as_str(), want.as_str(), "after {count} bytes");
+
+        let loads = loads_over(alloc, &[], || PlayedReader::failing(alloc, told, fault))?;
+        let want = format!(in alloc;
+            "io PermissionDenied: {pairs} | io PermissionDenied: {pairs}"
+        )?;
+        assert_eq!(rt; loads.as_str(), want.as_str(), "after {count} bytes");
+    }
+    Ok(())
+}
+
+#[test]
+fn a_fault_while_the_mark_is_read(rt: HostRuntime) -> Result<(), Fail> {
+    let alloc = rt.alloc();
+    let mark = b"\xef\xbb\xbf";
+    for count in 0..4usize {
+        let loads = loads_over(alloc, &[("A", "1")], || {
+            PlayedReader::failing(alloc, &mark[..count], ErrorKind::Other)
+        })?;
+        assert_eq!(rt;
+            loads.as_str(),
+            "io Other: A=1 | io Other: A=1",
+            "after {count} bytes"
+        );
+    }
+    Ok(())
+}
+
+/// A reader that fails in the second line, and goes on with others after it.
+fn failing_in_a_line<'a>(
+    alloc: Global,
+    fault: ErrorKind,
+) -> std::result::Result<PlayedReader<'a>, AllocError> {
+    Ok(PlayedReader::new(vec![in alloc;
+        Step::Give(b"A=1\nB="),
+        Step::Fail(fault),
+        Step::Give(b"2\nC=3\n"),
+    ]?))
+}
+
+#[test]
+fn a_fault_of_a_read_ends_the_items_and_a_broken_line_does_not(
+    rt: HostRuntime,
+) -> Result<(), Fail> {
+    let alloc = rt.alloc();
+    let environment = Environment::new(alloc);
+    for (fault, want) in [
+        (ErrorKind::InvalidData, "A=1; io InvalidData"),
+        (ErrorKind::PermissionDenied, "A=1; io PermissionDenied"),
+        (ErrorKind::Interrupted, "A=1; B=2; C=3"),
+    ] {
+        let reader = failing_in_a_line(alloc, fault)?;
+        let items = items_of(alloc, &environment, reader, Dialect::V15)?;
+        assert_eq!(rt; items.as_str(), want, "at {fault:?}");
+    }
+    let loads = loads_over(alloc, &[], || {
+        failing_in_a_line(alloc, ErrorKind::InvalidData)
+    })?;
+    assert_eq!(rt; loads.as_str(), "io InvalidData: A=1 | io InvalidData: A=1");
+    assert_eq!(rt;
+        items(alloc, b"A=1\nB=\xff\nC=3\n")?.as_str(),
+        "A=1; io InvalidData; C=3"
+    );
+    Ok(())
+}
+
+#[test]
+fn a_load_after_a_fault_sets_nothing(rt: HostRuntime) -> Result<(), Fail> {
+    let alloc = rt.alloc();
+    for replaces in [false, true] {
+        let mut environment = Environment::new(alloc);
+        let reader = failing_in_a_line(alloc, ErrorKind::PermissionDenied)?;
+        let mut entries = Iter::new(alloc, reader)?;
+        assert!(rt; entries.next_item(&environment).ok_or("no item")?.is_ok());
+        assert!(rt; entries.next_item(&environment).ok_or("no item")?.is_err());
+        if replaces {
+            entries.load_override(&mut environment)?;
+        } else {
+            entries.load(&mut environment)?;
+        }
+        assert_eq!(rt; environment.len(), 0);
+    }
+    Ok(())
+}
+
+#[test]
+fn the_end_is_kept_where_more_bytes_follow(rt: HostRuntime) -> Result<(), Fail> {
+    let alloc = rt.alloc();
+    let environment = Environment::new(alloc);
+    let ending = || {
+        Ok(PlayedReader::new(vec![in alloc;
+            Step::Give(b"A=1\n"),
+            Step::End,
+            Step::Give(b"B=2\n"),
+        ]?))
+    };
+    let mut entries = dotenvy::from_read_iter(alloc, ending()?)?;
+    let (key, value) = entries.next_item(&environment).ok_or("no item")??;
+    assert!(rt; (key.as_str(), value.as_str()) == ("A", "1"));
+    assert!(rt; entries.next_item(&environment).is_none());
+    assert!(rt; entries.next_item(&environment).is_none());
+    assert_eq!(rt;
+        loads_over(alloc, &[], ending)?.as_str(),
+        "ok: A=1 | ok: A=1"
+    );
+    Ok(())
+}
+
+#[test]
+fn a_mark_in_three_reads(rt: HostRuntime) -> Result<(), Fail> {
+    let alloc = rt.alloc();
+    let file = b"\xef\xbb\xbfT=1\n";
+    for first in 1..6usize {
+        for second in first + 1..7 {
+            let loads = loads_over(alloc, &[], || {
+                Ok(PlayedReader::new(vec![in alloc;
+                    Step::Give(&file[..first]),
+                    Step::Fail(ErrorKind::Interrupted),
+                    Step::Give(&file[first..second]),
+                    Step::Give(&file[second..]),
+                ]?))
+            })?;
+            assert_eq!(rt;
+                loads.as_str(),
+                "ok: T=1 | ok: T=1",
+                "cut at {first} and {second}"
+            );
+        }
+    }
+    Ok(())
+}
+
+#[test]
+fn bytes_that_are_no_whole_mark_are_a_line(rt: HostRuntime) -> Result<(), Fail> {
+    let alloc = rt.alloc();
+    let file = b"\xef\xbbA=1\nB=2\n";
+    assert_eq!(rt; items(alloc, file)?.as_str(), "io InvalidData; B=2");
+    assert_eq!(rt;
+        loads(alloc, &[], file)?.as_str(),
+        "io InvalidData:  | io InvalidData: "
+    );
+    let mut entries = dotenvy::from_read_iter(alloc, Bytes::new(b"\xef\xbb\xbfT=1\n"))?;
+    let item = entries
+        .next_item(&Environment::new(alloc))
+        .ok_or("no item")?;
+    let fault = answer(alloc, item.map(|_| ()))?;
+    assert_eq!(rt; fault.as_str(), "fault at 0: \u{feff}T=1");
+    Ok(())
+}
