@@ -176,3 +176,6 @@ pub fn list_with<R: Source + Drop, W: Sink, A: Allocator + Clone>(
     let text = listing(alloc, &env)?;
     write_all(writer, text.as_bytes(), MOST_WRITES)
 }
+
+#[cfg(test)]
+mod tests;
