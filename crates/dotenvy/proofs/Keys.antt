@@ -42,6 +42,10 @@ key-continues (c ∷ cs) h =
     let parts = and_parts (begins_key c) (list_all continues_key cs) h in
     and_from (continues_key c) (list_all continues_key cs) (begins-continues c parts.0) parts.1
 
+-- a key is its own bytes
+pub encodes-key : (cs : List ℕ) → is_key cs ≡ true → encode_utf8_all cs ≡ cs
+encodes-key cs h = encodes-continuing cs (key-continues cs h)
+
 -- a key's bytes are its characters
 pub chars-key : (bs : List ℕ) → IsUtf8 bs → is_key (chars bs) ≡ true → chars bs ≡ bs
 chars-key bs utf8 h = sym (encodes-continuing (chars bs) (key-continues (chars bs) h)) ∙ encodes-chars bs utf8

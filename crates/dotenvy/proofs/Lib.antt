@@ -5,6 +5,8 @@ pub mod LoadsTwice
 pub mod ReadBack
 pub mod ReadBackLines
 pub mod WrittenTexts
+pub mod WrittenBytes
+pub mod ListedLoads
 pub mod Scans
 pub mod NameCharacters
 pub mod Values

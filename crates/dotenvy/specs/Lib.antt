@@ -28,6 +28,7 @@ pub mod Reading
 pub mod NextItem
 pub mod LineItem
 pub mod LoadsLeft
+pub mod Listed
 pub mod ItemRuns
 pub mod Laws
 pub mod ItemLaws
