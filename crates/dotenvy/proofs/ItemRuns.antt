@@ -28,21 +28,9 @@ use Rattle.dotenvy.specs.Reading.{HasLeft, told_fault}
 use Rattle.dotenvy.specs.Iter.{IterState, fresh}
 use Rattle.dotenvy.specs.NextItem.{IsItem, text_of, RemembersEntry, TakesEntry}
 use Rattle.dotenvy.specs.ItemRuns.{Given, GivesItems, NoneRefused, IsReadable, CanRead, SayItems, SayTheSame}
+use Rattle.dotenvy.proofs.LoadRuns.{meaning-text, or_else-text, with_value-text}
 use Rattle.dotenvy.proofs.Inputs.{the_bytes, the_fault}
 use Rattle.dotenvy.proofs.LineEntries.{left_once, left-none, left-fault, left_exists}
-
--- what is remembered counts by the texts that it gives
-or_texts : (x a b : Option (List ℕ)) → unwrap_or a [] ≡ unwrap_or b [] → unwrap_or (option_or x a) [] ≡ unwrap_or (option_or x b) []
-or_texts (Some x) a b same = refl
-or_texts None a b same = same
-
-meaning-texts : (l k : LookUp) (pieces : List Piece) → ((n : List ℕ) → text_of l n ≡ text_of k n) → meaning l pieces ≡ meaning k pieces
-meaning-texts l k [] same = refl
-meaning-texts l k (Text text ∷ pieces) same = ap (λ rest. text ++ rest) (meaning-texts l k pieces same)
-meaning-texts l k (Name name ∷ pieces) same = rw (same name, meaning-texts l k pieces same) refl
-
-with_value-texts : (a b : LookUp) (key value n : List ℕ) → text_of a n ≡ text_of b n → text_of (with_value a key value) n ≡ text_of (with_value b key value) n
-with_value-texts a b key value n same = elim (bytes_eq key n) as (λ t. unwrap_or (cond t (Some value) (a n)) [] ≡ unwrap_or (cond t (Some value) (b n)) []) [ true ↦ refl | false ↦ same ]
 
 -- items are the same where what is remembered has the same texts
 pub items_from-texts : (env a b : LookUp) (entries : List Entry) → ((n : List ℕ) → text_of a n ≡ text_of b n) → items_from env a entries ≡ items_from env b entries
@@ -50,8 +38,8 @@ items_from-texts env a b [] same = refl
 items_from-texts env a b (Fails failure ∷ entries) same = ap (λ rest. Err failure ∷ rest) (items_from-texts env a b entries same)
 items_from-texts env a b (Declares key pieces ∷ entries) same =
     let w = meaning (or_else env b) pieces in
-    ap (λ v. Ok (key, v) ∷ items_from env (with_value a key v) entries) (meaning-texts (or_else env a) (or_else env b) pieces (λ n. or_texts (env n) (a n) (b n) (same n)))
-    ∙ ap (λ rest. Ok (key, w) ∷ rest) (items_from-texts env (with_value a key w) (with_value b key w) entries (λ n. with_value-texts a b key w n (same n)))
+    ap (λ v. Ok (key, v) ∷ items_from env (with_value a key v) entries) (meaning-text (or_else env a) (or_else env b) pieces (λ n. or_else-text (env n) (env n) (a n) (b n) refl (same n)))
+    ∙ ap (λ rest. Ok (key, w) ∷ rest) (items_from-texts env (with_value a key w) (with_value b key w) entries (λ n. with_value-text w (a n) (b n) (bytes_eq key n) (same n)))
 
 -- an item that says an entry, before those of the later entries
 says_first : {A : Type 0} (env earlier now : LookUp) (entry : Entry) (item : Given A) (given : List (Given A)) (later : List Entry) → IsItem (or_else env earlier) entry item → RemembersEntry (or_else env earlier) earlier now entry → SayItems given (items_from env now later) → SayItems (item ∷ given) (items_from env earlier (entry ∷ later))

@@ -13,7 +13,7 @@ use Rattle.dotenvy.specs.Environment.{name_ok}
 begins-continues : (c : ℕ) → begins_key c ≡ true → continues_key c ≡ true
 begins-continues c h = grind (arith, nat_tests, h)
 
-pub continues-ascii : (c : ℕ) → continues_key c ≡ true → c < 128
+continues-ascii : (c : ℕ) → continues_key c ≡ true → c < 128
 continues-ascii c h = grind (arith, nat_tests, h)
 
 continues-no_equals : (c : ℕ) → continues_key c ≡ true → (c == equals_sign) ≡ false
@@ -36,7 +36,7 @@ none-continuing b other (c ∷ cs) h =
     let parts = and_parts (continues_key c) (list_all continues_key cs) h in
     ap (λ t. t || list_any (λ c. c == b) cs) (other c parts.0) ∙ none-continuing b other cs parts.1
 
-pub key-continues : (cs : List ℕ) → is_key cs ≡ true → list_all continues_key cs ≡ true
+key-continues : (cs : List ℕ) → is_key cs ≡ true → list_all continues_key cs ≡ true
 key-continues [] h = refl
 key-continues (c ∷ cs) h =
     let parts = and_parts (begins_key c) (list_all continues_key cs) h in
@@ -48,7 +48,7 @@ encodes-key cs h = encodes-continuing cs (key-continues cs h)
 
 -- a key's bytes are its characters
 pub chars-key : (bs : List ℕ) → IsUtf8 bs → is_key (chars bs) ≡ true → chars bs ≡ bs
-chars-key bs utf8 h = sym (encodes-continuing (chars bs) (key-continues (chars bs) h)) ∙ encodes-chars bs utf8
+chars-key bs utf8 h = sym (encodes-key (chars bs) h) ∙ encodes-chars bs utf8
 
 name_from_key : (cs : List ℕ) → is_key cs ≡ true → name_ok cs ≡ true
 name_from_key [] h = h

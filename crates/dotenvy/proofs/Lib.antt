@@ -40,7 +40,6 @@ pub mod LinePasses
 pub mod ItemRuns
 pub mod WholeLoads
 pub mod LineCounts
-pub mod LookUps
 pub mod LineItems
 pub mod NextItems
 pub mod KeyLookUps

@@ -26,9 +26,9 @@ use Rattle.dotenvy.specs.Iter.{IterState}
 use Rattle.dotenvy.specs.NextItem.{text_of}
 use Rattle.dotenvy.specs.LineItem.{lines_after, AddsEntries, IsRefused, AddsLine}
 use Rattle.dotenvy.proofs.Basics.{not_is}
-use Rattle.dotenvy.proofs.Keys.{chars-key}
+use Rattle.dotenvy.proofs.Keys.{chars-key, encodes-key}
 use Rattle.dotenvy.proofs.Statements.{one_statement}
-use Rattle.dotenvy.proofs.LookUps.{changed_key, recalled-inserted}
+use Rattle.dotenvy.proofs.KeyLookUps.{changed_text, recalled-inserted}
 
 -- a key that is declared with nothing stands for the empty text, as where it is remembered
 remembered_text : (dialect : Dialect) (rest bytes : List ℕ) (pieces : List Piece) (look_up : LookUp) → Assigns dialect rest pieces → chars bytes ≡ meaning look_up pieces → (b : Bool) → is_empty_or_comment rest ≡ b → unwrap_or (option_map chars (if b then None else Some bytes)) [] ≡ meaning look_up pieces
@@ -40,7 +40,7 @@ remembered_text dialect rest bytes pieces look_up (inr some) means true h = let 
 remembers_pair : (dialect : Dialect) (line rest bytes key : List ℕ) (pieces : List Piece) (look_up : LookUp) (old new : Remembered) → is_key key ≡ true → IsStatement (trimmed line) key rest → Says dialect line (Pair key pieces) → chars bytes ≡ meaning look_up pieces → new ≡ fin.insert old key (if is_empty_or_comment rest then None else Some bytes) → (name : List ℕ) → text_of (recalled_of new) name ≡ text_of (with_value (recalled_of old) key (meaning look_up pieces)) name
 remembers_pair dialect line rest bytes key pieces look_up old new is statement says means inserted name =
     ap (λ m. text_of (recalled_of m) name) inserted
-    ∙ ap (λ o. unwrap_or o []) (changed_key (recalled old) (recalled (fin.insert old key text)) key text is (recalled-inserted old key text) name)
+    ∙ ap (λ o. unwrap_or o []) (changed_text (recalled old) (recalled (fin.insert old key text)) key key text (encodes-key key is) (recalled-inserted old key text) name)
     ∙ at (bytes_eq key name)
   where
     text : Option (List ℕ)

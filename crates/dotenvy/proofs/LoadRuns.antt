@@ -15,11 +15,12 @@ meaning-text l k [] same = refl
 meaning-text l k (Text text ∷ pieces) same = ap (λ rest. text ++ rest) (meaning-text l k pieces same)
 meaning-text l k (Name name ∷ pieces) same = rw (same name, meaning-text l k pieces same) refl
 
-or_else-text : (x y a b : Option (List ℕ)) → x ≡ y → unwrap_or a [] ≡ unwrap_or b [] → unwrap_or (option_or x a) [] ≡ unwrap_or (option_or y b) []
+-- an absent name counts as the empty text
+pub or_else-text : (x y a b : Option (List ℕ)) → x ≡ y → unwrap_or a [] ≡ unwrap_or b [] → unwrap_or (option_or x a) [] ≡ unwrap_or (option_or y b) []
 or_else-text x (Some v) a b h k = rw h refl
 or_else-text x None a b h k = rw h k
 
-with_value-text : (value : List ℕ) (x y : Option (List ℕ)) (b : Bool) → unwrap_or x [] ≡ unwrap_or y [] → unwrap_or (cond b (Some value) x) [] ≡ unwrap_or (cond b (Some value) y) []
+pub with_value-text : (value : List ℕ) (x y : Option (List ℕ)) (b : Bool) → unwrap_or x [] ≡ unwrap_or y [] → unwrap_or (cond b (Some value) x) [] ≡ unwrap_or (cond b (Some value) y) []
 with_value-text value x y true h = refl
 with_value-text value x y false h = h
 

@@ -45,21 +45,6 @@ pub record Passed (a : Ahead) (s : IterState) (entries : List Entry) (t : IterSt
   pub remembered : t.remembered ≡ s.remembered
   pub dialect : t.dialect ≡ s.dialect
 
--- at first none
-pub none_passed : (a : Ahead) (s : IterState) (entries : List Entry) → s.lines.stage ≡ Open → s.lines.input.left ≡ Some a → HasLeft s.dialect a.fault a.bytes entries → Passed a s entries s
-none_passed a s entries is_open told has = record {
-  used = [];
-  left = a.bytes;
-  joins = refl;
-  stays = inr (λ more decided has. has);
-  is_left = told;
-  has_left = has;
-  goes_on = inl is_open;
-  reads = omega arith;
-  remembered = refl;
-  dialect = refl;
-}
-
 some_left : (a b : Ahead) (o : Option Ahead) → o ≡ Some a → o ≡ Some b → a ≡ b
 some_left a b o h k = cc
 
