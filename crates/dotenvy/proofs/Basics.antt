@@ -38,3 +38,7 @@ some_same x y h = cc
 -- equal codes, by the test
 pub same_from : (c d : ℕ) → (c == d) ≡ true → c ≡ d
 same_from c d h = grind (arith, nat_tests, h)
+
+pub not_false : (b : Bool) → not b ≡ false → b ≡ true
+not_false true h = refl
+not_false false h = cc

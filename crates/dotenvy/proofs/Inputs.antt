@@ -1,6 +1,8 @@
 -- Reads, and the first lines of bytes.
 use Rattle.std.proofs.Common.{◌≡◌, ℕ, suc, ◌+◌, ◌<◌, ◌≤◌, Bool, true, false, cond, not, ◌&&◌, List, [], ◌∷◌, ◌++◌, length, take, drop, refl, sym, ◌∙◌, ap, subst, inl, inr, append-nil, append_assoc, ◌⊎◌, arith, nat_lt, position, length-append, length-drop}
 use Rattle.std.specs.Prelude.{Option, Some, None, unwrap_or, ◌==◌}
+use Rattle.std.specs.IoError.{error_kind}
+use Rattle.std.proofs.Math.Seq.{take-append_seam}
 use Rattle.std.proofs.lemmas.Option.{none-some}
 use Rattle.std.specs.List.{position_or_len}
 use Rattle.std.proofs.lemmas.Grind.{common_steps}
@@ -107,10 +109,10 @@ nil_of xs [] h = refl
 nil_of xs (y ∷ ys) h = absurd (omega (arith, h, length-append xs (y ∷ ys)))
 
 -- a read that fails
-pub read_more_fails : {A : Type 0} (s v : InputState) (e : Bool) (o : Option Ahead) (unread : List ℕ) (a : Ahead) (x : Error A) → e ≡ false → length unread ≡ s.unread → IsTold (left_of e o unread) a → ((b : Ahead) → IsTold o b → IsMemory x ⊎ IsIoOf (FaultIsNext b) x) → IsFinal a s (length a.bytes ≡ s.unread) x v
+pub read_more_fails : {A : Type 0} (s v : InputState) (e : Bool) (o : Option Ahead) (unread : List ℕ) (a : Ahead) (x : Error A) → e ≡ false → length unread ≡ s.unread → IsTold (left_of e o unread) a → ((b : Ahead) → IsTold o b → IsMemory x ⊎ IsIoOf (FaultIsNext b) x) → IsFinal a s (λ bytes. length bytes ≡ s.unread) x v
 read_more_fails s v e o unread a x h n told once =
     let b = told_next e o unread a h told in
-    io_weaker (FaultIsNext b.next) (IsReadFault a s (length a.bytes ≡ s.unread) v) x
+    io_weaker (FaultIsNext b.next) (IsReadFault a s (λ bytes. length bytes ≡ s.unread) v) x
     (λ y f. inl (b.fault ∙ f.1, ap length (b.bytes ∙ ap (λ l. unread ++ l) f.0 ∙ append-nil unread) ∙ n))
     (once b.next b.is_told)
 
@@ -194,13 +196,13 @@ empty_of : (xs : List ℕ) → length xs ≡ 0 → xs ≡ []
 empty_of [] h = refl
 empty_of (x ∷ xs) h = absurd (omega (arith, h))
 
-pub reading_ends : (a : Ahead) (s t : InputState) (line : List ℕ) → Reading a s line t → t.unread ≡ 0 → ((b : Ahead) → t.left ≡ Some b → IsAllRead b t.unread) → TakesLine a s line t
-reading_ends a s t line r zero all =
+pub reading_ends : (a : Ahead) (s t : InputState) (line : List ℕ) → Reading a s line t → t.unread ≡ 0 → t.at_end ≡ true → ((b : Ahead) → t.left ≡ Some b → IsAllRead b t.unread) → TakesLine a s line t
+reading_ends a s t line r zero ended all =
     let k = all (ahead_of r.left a.fault) r.is_left in record {
       left = r.left;
       joins = r.joins;
       is_left = r.is_left;
-      is_line = inr (r.none, empty_of r.left (k.0 ∙ zero), k.1);
+      is_line = inr (r.none, empty_of r.left (k.0 ∙ zero), k.1, ended);
       reads = r.reads;
     }
 
@@ -216,14 +218,36 @@ reading_more a s t v line told r more =
     let m = more (ahead_of r.left a.fault) (reading_told a s t line told r) in
     record { left = r.left; joins = r.joins; is_left = m.0; none = r.none; reads = fits_more a (ahead_of r.left a.fault) (ahead_of r.left a.fault) s t v r.reads m.1 }
 
-pub bound_before : (a b : Ahead) (s t v : InputState) (x : IoError) → ReadsFit a s b t → BoundIsMet b t v x → BoundIsMet a s v x
-bound_before a b s t v x fits met = (met.0, met.1, let m = met.2 in omega (arith, fits, m))
+-- a fault of reading after some bytes were used, where P of the bytes after them makes Q of all
+pub fault_before : (a b : Ahead) (s t v : InputState) (P Q : List ℕ → Type 0) (used : List ℕ) (x : IoError) → a.bytes ≡ used ++ b.bytes → a.fault ≡ b.fault → ReadsFit a s b t →
+    ((front later : List ℕ) → b.bytes ≡ front ++ later → (b.fault ≡ Some (error_kind x)) ⊎ (t.reads + t.unread + end_reads t.at_end ≤ length front) → P front → Q (used ++ front)) → IsReadFault b t P v x → IsReadFault a s Q v x
+fault_before a b s t v P Q used x joins fault fits weaker (inl f) = inl (fault ∙ f.0, subst Q (sym joins) (weaker b.bytes [] (sym (append-nil b.bytes)) (inl f.0) f.1))
+fault_before a b s t v P Q used x joins fault fits weaker (inr (kind, met)) =
+    let all = ap length joins in
+    let each = met.each_gave in
+    inr (
+      kind,
+      record {
+        front = used ++ met.front;
+        later = met.later;
+        cut = joins ∙ ap (λ l. used ++ l) met.cut ∙ sym (append_assoc used met.front met.later);
+        holds = weaker met.front met.later met.cut (inr each) met.holds;
+        none_left = met.none_left;
+        each_gave = omega (arith, fits, each, all, length-append used b.bytes, length-append used met.front);
+      },
+    )
 
-pub reading_fails : {A : Type 0} (a : Ahead) (s t v : InputState) (line : List ℕ) (e : Error A) → IsTold s.left a → Reading a s line t → t.unread ≡ 0 → ((b : Ahead) → IsTold t.left b → IsFinal b t (length b.bytes ≡ t.unread) e v) → IsFinal a s (no_line_feed a.bytes ≡ true) e v
+-- so of a final fault
+pub final_before : {A : Type 0} (a b : Ahead) (s t v : InputState) (P Q : List ℕ → Type 0) (used : List ℕ) (e : Error A) → a.bytes ≡ used ++ b.bytes → a.fault ≡ b.fault → ReadsFit a s b t →
+    ((kind : ErrorKind) (front later : List ℕ) → b.bytes ≡ front ++ later → (b.fault ≡ Some kind) ⊎ (t.reads + t.unread + end_reads t.at_end ≤ length front) → P front → Q (used ++ front)) → IsFinal b t P e v → IsFinal a s Q e v
+final_before a b s t v P Q used e joins fault fits weaker fails =
+    io_weaker (IsReadFault b t P v) (IsReadFault a s Q v) e (λ x h. fault_before a b s t v P Q used x joins fault fits (weaker (error_kind x)) h) fails
+
+pub reading_fails : {A : Type 0} (a : Ahead) (s t v : InputState) (line : List ℕ) (e : Error A) → IsTold s.left a → Reading a s line t → t.unread ≡ 0 → ((b : Ahead) → IsTold t.left b → IsFinal b t (λ bytes. length bytes ≡ t.unread) e v) → IsFinal a s (λ bytes. no_line_feed bytes ≡ true) e v
 reading_fails a s t v line e told r zero fails =
     let b = ahead_of r.left a.fault in
-    io_weaker (IsReadFault b t (length b.bytes ≡ t.unread) v) (IsReadFault a s (no_line_feed a.bytes ≡ true) v) e
-    (λ x h. elim h [ inl f ↦ inl (f.0, ap no_line_feed (r.joins ∙ ap (λ l. line ++ l) (empty_of r.left (f.1 ∙ zero)) ∙ append-nil line) ∙ r.none) | inr m ↦ inr (bound_before a b s t v x r.reads m) ])
+    final_before a b s t v (λ bytes. length bytes ≡ t.unread) (λ bytes. no_line_feed bytes ≡ true) line e r.joins refl r.reads
+    (λ kind front later cut why none. ap no_line_feed (ap (λ l. line ++ l) (empty_of front (none ∙ zero)) ∙ append-nil line) ∙ r.none)
     (fails b (reading_told a s t line told r))
 
 -- a move of unread bytes
@@ -276,10 +300,10 @@ mark_decided (b ∷ c ∷ []) later h = let k : ((b == 0xEF) && ((c == 0xBB) && 
     two false u h = refl
 mark_decided (b ∷ c ∷ d ∷ unread) later h = refl
 
-pub deciding_fails : {A : Type 0} (a : Ahead) (s t v : InputState) (e : Error A) → ReadsFit a s a t → begins_mark (take t.unread a.bytes) ≡ true → IsFinal a t (length a.bytes ≡ t.unread) e v → IsFinal a s (begins_mark a.bytes ≡ true) e v
+pub deciding_fails : {A : Type 0} (a : Ahead) (s t v : InputState) (e : Error A) → ReadsFit a s a t → begins_mark (take t.unread a.bytes) ≡ true → IsFinal a t (λ bytes. length bytes ≡ t.unread) e v → IsFinal a s (λ bytes. begins_mark bytes ≡ true) e v
 deciding_fails a s t v e fits begins fails =
-    io_weaker (IsReadFault a t (length a.bytes ≡ t.unread) v) (IsReadFault a s (begins_mark a.bytes ≡ true) v) e
-    (λ x h. elim h [ inl f ↦ inl (f.0, ap begins_mark (sym (take_all t.unread a.bytes (let l = f.1 in omega (arith, l)))) ∙ begins) | inr m ↦ inr (bound_before a a s t v x fits m) ])
+    final_before a a s t v (λ bytes. length bytes ≡ t.unread) (λ bytes. begins_mark bytes ≡ true) [] e refl refl fits
+    (λ kind front later cut why read. ap begins_mark (sym (take-append_seam front later) ∙ ap (take (length front)) (sym cut) ∙ ap (λ n. take n a.bytes) read) ∙ begins)
     fails
 
 mark_test : (unread : ℕ) (a : Ahead) → IsAllRead a unread ⊎ (begins_mark (take unread a.bytes) ≡ false) → starts_with nat_eq a.bytes byte_order_mark ≡ starts_with nat_eq (take unread a.bytes) byte_order_mark

@@ -13,7 +13,7 @@ use Rattle.dotenvy.specs.Environment.{name_ok}
 begins-continues : (c : ℕ) → begins_key c ≡ true → continues_key c ≡ true
 begins-continues c h = grind (arith, nat_tests, h)
 
-continues-ascii : (c : ℕ) → continues_key c ≡ true → c < 128
+pub continues-ascii : (c : ℕ) → continues_key c ≡ true → c < 128
 continues-ascii c h = grind (arith, nat_tests, h)
 
 continues-no_equals : (c : ℕ) → continues_key c ≡ true → (c == equals_sign) ≡ false
@@ -36,11 +36,15 @@ none-continuing b other (c ∷ cs) h =
     let parts = and_parts (continues_key c) (list_all continues_key cs) h in
     ap (λ t. t || list_any (λ c. c == b) cs) (other c parts.0) ∙ none-continuing b other cs parts.1
 
-key-continues : (cs : List ℕ) → is_key cs ≡ true → list_all continues_key cs ≡ true
+pub key-continues : (cs : List ℕ) → is_key cs ≡ true → list_all continues_key cs ≡ true
 key-continues [] h = refl
 key-continues (c ∷ cs) h =
     let parts = and_parts (begins_key c) (list_all continues_key cs) h in
     and_from (continues_key c) (list_all continues_key cs) (begins-continues c parts.0) parts.1
+
+-- a key is its own bytes
+pub encodes-key : (cs : List ℕ) → is_key cs ≡ true → encode_utf8_all cs ≡ cs
+encodes-key cs h = encodes-continuing cs (key-continues cs h)
 
 -- a key's bytes are its characters
 pub chars-key : (bs : List ℕ) → IsUtf8 bs → is_key (chars bs) ≡ true → chars bs ≡ bs

@@ -5,6 +5,8 @@ pub mod LoadsTwice
 pub mod ReadBack
 pub mod ReadBackLines
 pub mod WrittenTexts
+pub mod WrittenBytes
+pub mod ListedLoads
 pub mod Scans
 pub mod NameCharacters
 pub mod Values
@@ -35,3 +37,12 @@ pub mod LineTexts
 pub mod LineJoins
 pub mod LineEntries
 pub mod LinePasses
+pub mod ItemRuns
+pub mod WholeLoads
+pub mod LineCounts
+pub mod LookUps
+pub mod LineItems
+pub mod NextItems
+pub mod KeyLookUps
+pub mod LoadRuns
+pub mod LoadSteps

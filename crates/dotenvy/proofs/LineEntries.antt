@@ -10,13 +10,18 @@ use Rattle.dotenvy.specs.Decided.{up_to_last_line_feed, without_open_end, HasDec
 use Rattle.dotenvy.specs.Source.{Ahead}
 use Rattle.dotenvy.specs.Input.{InputState}
 use Rattle.dotenvy.specs.Reading.{HasLeft}
-use Rattle.dotenvy.specs.Lines.{IsOpen, TakesNext, IsUndecided}
-use Rattle.dotenvy.proofs.EntriesOnce.{lines_within, cut_line_texts, entries_once}
-use Rattle.dotenvy.proofs.DecidedFront.{decided_once}
+use Rattle.dotenvy.specs.Lines.{IsOpen, lines_so_far, IsNextAlways, TakesNext, IsUndecided}
+use Rattle.dotenvy.proofs.EntriesOnce.{lines_within, cut_line_texts, entries_exist, entries_once}
+use Rattle.dotenvy.proofs.DecidedFront.{decided_exist, decided_once}
 use Rattle.dotenvy.proofs.NextEntries.{entries-none}
 
 abbrev ahead_of : List ℕ → Option ErrorKind → Ahead
 ahead_of bytes fault = record { bytes = bytes; fault = fault }
+
+-- there are entries of what is left
+pub left_exists : (dialect : Dialect) (fault : Option ErrorKind) (bytes : List ℕ) → (entries : List Entry) × HasLeft dialect fault bytes entries
+left_exists dialect None bytes = entries_exist dialect bytes
+left_exists dialect (Some kind) bytes = decided_exist dialect bytes
 
 -- there is one list of them
 pub left_once : (dialect : Dialect) (fault : Option ErrorKind) (bytes : List ℕ) (entries others : List Entry) → HasLeft dialect fault bytes entries → HasLeft dialect fault bytes others → entries ≡ others
@@ -28,11 +33,11 @@ pub left-none : (dialect : Dialect) (fault : Option ErrorKind) (bytes : List ℕ
 left-none dialect None bytes e f = subst (λ b. HasEntries dialect b []) (sym e) (entries-none dialect)
 left-none dialect (Some kind) bytes e f = absurd (none-some kind (sym f))
 
-decided_give : (dialect : Dialect) (kind : ErrorKind) (next : Logical) (lines : List Logical) (front after : List Entry) → (IsOpen next → Some kind ≡ None) → Gives dialect next front → GiveAll dialect (without_open_end lines) after → GiveAll dialect (without_open_end (next ∷ lines)) (front ++ after)
-decided_give dialect kind Skip lines front after no_open gives later = (front, after, gives, later, refl)
-decided_give dialect kind (Text text) lines front after no_open gives later = (front, after, gives, later, refl)
-decided_give dialect kind (Open text n) lines front after no_open gives later = absurd (none-some kind (sym (no_open tt)))
-decided_give dialect kind Broken lines front after no_open gives later = (front, after, gives, later, refl)
+decided_give : (dialect : Dialect) (next : Logical) (lines : List Logical) (front after : List Entry) → (IsOpen next → ⊥) → Gives dialect next front → GiveAll dialect (without_open_end lines) after → GiveAll dialect (without_open_end (next ∷ lines)) (front ++ after)
+decided_give dialect Skip lines front after no_open gives later = (front, after, gives, later, refl)
+decided_give dialect (Text text) lines front after no_open gives later = (front, after, gives, later, refl)
+decided_give dialect (Open text n) lines front after no_open gives later = absurd (no_open tt)
+decided_give dialect Broken lines front after no_open gives later = (front, after, gives, later, refl)
 
 -- the entries of the next logical line come first, and then those of what it leaves
 pub left-next : (dialect : Dialect) (fault : Option ErrorKind) (bytes : List ℕ) (s t : InputState) (next : Logical) (front after : List Entry) → (k : TakesNext (record { bytes = bytes; fault = fault }) s next t) → Gives dialect next front → HasLeft dialect fault k.left after → HasLeft dialect fault bytes (front ++ after)
@@ -44,22 +49,36 @@ left-next dialect None bytes s t next front after k gives has = record {
 left-next dialect (Some kind) bytes s t next front after k gives has = record {
   lines = next ∷ has.lines;
   are_lines = (k.some, k.count, k.is_next, subst (λ ls. AreLogicalLines ls has.lines) k.later has.are_lines);
-  give = decided_give dialect kind next has.lines front after k.open_at_end gives has.give;
+  give = decided_give dialect next has.lines front after (λ is_open. none-some kind (sym (k.open_at_end is_open))) gives has.give;
 }
 
--- where no logical line is whole before a fault, nothing is decided
-pub left-undecided : (dialect : Dialect) (kind : ErrorKind) (bytes : List ℕ) → IsUndecided (record { bytes = bytes; fault = Some kind }) → HasLeft dialect (Some kind) bytes []
-left-undecided dialect kind bytes undecided = at has.0 has.1
-  where
-    has : (lines : List Logical) × AreLogicalLines (line_texts (up_to_last_line_feed bytes)) lines
-    has = let h = lines_within (length (line_texts (up_to_last_line_feed bytes))) (line_texts (up_to_last_line_feed bytes)) (omega arith) (cut_line_texts (up_to_last_line_feed bytes)) in (h.0, h.1)
+-- what bytes decide that are whole lines, whatever follows them
+pub decided-next : (dialect : Dialect) (bytes more : List ℕ) (count : ℕ) (next : Logical) (front after : List Entry) → (IsOpen next → ⊥) → IsNextAlways bytes count next → Gives dialect next front → HasDecided dialect more after → HasDecided dialect (bytes ++ more) (front ++ after)
+decided-next dialect bytes more count next front after no_open always gives has =
+    let n = always more in record {
+      lines = next ∷ has.lines;
+      are_lines = (n.0, count, n.1, subst (λ ls. AreLogicalLines ls has.lines) (sym n.2) has.are_lines);
+      give = decided_give dialect next has.lines front after no_open gives has.give;
+    }
 
-    first : (next : Logical) (lines : List Logical) → AreLogicalLines (line_texts (up_to_last_line_feed bytes)) (next ∷ lines) → IsOpen next → HasDecided dialect bytes []
+-- where no logical line is whole, nothing is decided
+pub decided-none : (dialect : Dialect) (bytes : List ℕ) → IsUndecided bytes → HasDecided dialect bytes []
+decided-none dialect bytes undecided = at has.0 has.1
+  where
+    has : (lines : List Logical) × AreLogicalLines (lines_so_far bytes) lines
+    has = let h = lines_within (length (lines_so_far bytes)) (lines_so_far bytes) (omega arith) (cut_line_texts (up_to_last_line_feed bytes)) in (h.0, h.1)
+
+    first : (next : Logical) (lines : List Logical) → AreLogicalLines (lines_so_far bytes) (next ∷ lines) → IsOpen next → HasDecided dialect bytes []
     first Skip lines are is = absurd is
     first (Text text) lines are is = absurd is
     first (Open text n) lines are is = record { lines = Open text n ∷ lines; are_lines = are; give = refl }
     first Broken lines are is = absurd is
 
-    at : (lines : List Logical) → AreLogicalLines (line_texts (up_to_last_line_feed bytes)) lines → HasDecided dialect bytes []
+    at : (lines : List Logical) → AreLogicalLines (lines_so_far bytes) lines → HasDecided dialect bytes []
     at [] are = record { lines = []; are_lines = are; give = refl }
     at (next ∷ lines) are = first next lines are (undecided are.1 next are.0 are.2)
+
+-- so nothing is left before a fault that is told
+pub left-fault : (dialect : Dialect) (fault : Option ErrorKind) (kind : ErrorKind) (bytes : List ℕ) (entries : List Entry) → fault ≡ Some kind → HasLeft dialect fault bytes entries → HasDecided dialect bytes [] → entries ≡ []
+left-fault dialect None kind bytes entries is has none = absurd (none-some kind is)
+left-fault dialect (Some told) kind bytes entries is has none = decided_once dialect bytes entries [] has none

@@ -1,5 +1,5 @@
 -- The splitter's loop over physical lines: what it keeps, and a theorem for each way out of it.
-use Rattle.std.proofs.Common.{◌≡◌, ◌≢◌, ℕ, zero, suc, ◌<◌, Bool, true, false, cond, not, List, [], ◌∷◌, ◌++◌, map, length, drop, refl, sym, ◌∙◌, ap, subst, append_assoc, arith, length-append, Some, None, Option, inl, inr, ◌⊎◌}
+use Rattle.std.proofs.Common.{◌≡◌, ◌≢◌, ℕ, zero, suc, ◌<◌, Bool, true, false, cond, not, List, [], ◌∷◌, ◌++◌, ◌+◌, ◌≤◌, map, length, drop, refl, sym, ◌∙◌, ap, subst, append_assoc, arith, length-append, Some, None, Option, inl, inr, ◌⊎◌}
 use Rattle.std.specs.Prelude.{◌==◌, IsUtf8, encode_utf8_all, string_bytes, string_len, Result, Ok, Err}
 use Rattle.std.specs.List.{concat}
 use Rattle.std.specs.Str.{chars, is_utf8, skip_leading_whitespace}
@@ -25,8 +25,8 @@ use Rattle.dotenvy.specs.Decided.{before_some, up_to_last_line_feed}
 use Rattle.dotenvy.specs.LogicalLine.{Skip, Text, Open, Broken, IsNext, IsSkipped, IsOneLine, IsWhole, input_end}
 use Rattle.dotenvy.specs.LineModes.{walk, going, ended}
 use Rattle.dotenvy.specs.Source.{Ahead}
-use Rattle.dotenvy.specs.Input.{InputState, IsTold, ReadsFit, IsReadFault, IsFinal, TakesLine}
-use Rattle.dotenvy.specs.Lines.{whole_before, whole_lines, IsOpen, TakesNext, IsUndecided, GoesOn, NextIs}
+use Rattle.dotenvy.specs.Input.{InputState, IsTold, ReadsFit, IsFinal, TakesLine, end_reads}
+use Rattle.dotenvy.specs.Lines.{whole_before, whole_lines, lines_so_far, IsOpen, IsAtEnd, IsNextAlways, TakesNext, IsUndecided, GoesOn, NextIs}
 use Rattle.dotenvy.specs.JoinedLines.{joined_at_end, TakesJoined, stage_after, Answers}
 use Rattle.dotenvy.proofs.Scans as scans
 use Rattle.dotenvy.proofs.Scans.{stops, scan, scan-reads, Reads, Read}
@@ -37,7 +37,7 @@ use Rattle.dotenvy.proofs.EntriesOnce.{cut_line_texts, whole_chars, one_last}
 use Rattle.dotenvy.proofs.DecidedFront.{tokens_end}
 use Rattle.dotenvy.proofs.Splitting.{IsGoing, going_start, IsWalked, walk-is}
 use Rattle.dotenvy.proofs.SplitLines.{left_after, left_after_broken, line_is_one, at_input_end, at_end, reads_all, next-skip, next-text, next-open, next-broken}
-use Rattle.dotenvy.proofs.Inputs.{io_weaker, fits_more, bound_before}
+use Rattle.dotenvy.proofs.Inputs.{fits_more, final_before}
 
 abbrev Lines : Type 0
 Lines = List (Option (List ℕ))
@@ -76,39 +76,44 @@ no_texts None = refl
 no_texts (Some kind) = refl
 
 -- the line that was taken, and those that are left
-record Parts (b : Ahead) (line left : List ℕ) : Type 0 where
+record Parts (b : Ahead) (line left : List ℕ) (v : InputState) : Type 0 where
   bytes : physical_lines b.bytes ≡ line ∷ physical_lines left
   texts : whole_lines b ≡ line_text line ∷ whole_lines (ahead_of left b.fault)
-  ends : (b.fault ≡ None) ⊎ (is_whole_line line ≡ true)
+  ends : IsAtEnd b.fault left v ⊎ (is_whole_line line ≡ true)
 
 last_of : (line : List ℕ) → line ≢ [] → no_line_feed line ≡ true → is_last_line line ≡ true
 last_of [] some h = absurd (some refl)
 last_of (c ∷ line) some h = one_last c line h
 
-parts : (b : Ahead) (t v : InputState) (line : List ℕ) → line ≢ [] → (k : TakesLine b t line v) → Parts b line k.left
+parts : (b : Ahead) (t v : InputState) (line : List ℕ) → line ≢ [] → (k : TakesLine b t line v) → Parts b line k.left v
 parts b t v line some k = at k.is_line
   where
-    at : (is_whole_line line ≡ true) ⊎ ((no_line_feed line ≡ true) × (k.left ≡ []) × (b.fault ≡ None)) → Parts b line k.left
+    at : (is_whole_line line ≡ true) ⊎ ((no_line_feed line ≡ true) × (k.left ≡ []) × (b.fault ≡ None) × (v.at_end ≡ true)) → Parts b line k.left v
     at (inl whole) = record {
       bytes = ap physical_lines k.joins ∙ whole_line line k.left whole;
       texts = ap (λ l. line_texts (whole_before b.fault l)) k.joins ∙ whole_line_texts b.fault line k.left whole;
       ends = inr whole;
     }
-    at (inr (none, empty, fault)) =
+    at (inr (none, empty, fault, at_last)) =
         let last = last_of line some none in
         let all : b.bytes ≡ line = k.joins ∙ ap (λ l. line ++ l) empty ∙ append-nil line in record {
           bytes = ap physical_lines all ∙ last_line line last ∙ ap (λ l. line ∷ physical_lines l) (sym empty);
           texts = ap (λ l. line_texts (whole_before b.fault l)) all ∙ last_line_texts b.fault line last fault ∙ ap (λ ls. line_text line ∷ ls) (sym (no_texts b.fault) ∙ ap (λ l. line_texts (whole_before b.fault l)) (sym empty));
-          ends = inl fault;
+          ends = inl (fault, empty, at_last);
         }
 
 -- nothing was left
-none_parts : (b : Ahead) (t v : InputState) → (k : TakesLine b t [] v) → (b.bytes ≡ []) × (k.left ≡ []) × (b.fault ≡ None)
+none_parts : (b : Ahead) (t v : InputState) → (k : TakesLine b t [] v) → (b.bytes ≡ []) × (k.left ≡ []) × (b.fault ≡ None) × (v.at_end ≡ true)
 none_parts b t v k = at k.is_line
   where
-    at : (is_whole_line [] ≡ true) ⊎ ((no_line_feed [] ≡ true) × (k.left ≡ []) × (b.fault ≡ None)) → (b.bytes ≡ []) × (k.left ≡ []) × (b.fault ≡ None)
+    at : (is_whole_line [] ≡ true) ⊎ ((no_line_feed [] ≡ true) × (k.left ≡ []) × (b.fault ≡ None) × (v.at_end ≡ true)) → (b.bytes ≡ []) × (k.left ≡ []) × (b.fault ≡ None) × (v.at_end ≡ true)
     at (inl whole) = let f : false ≡ true = whole in cc
-    at (inr (none, empty, fault)) = (k.joins ∙ empty, empty, fault)
+    at (inr (none, empty, fault, at_last)) = (k.joins ∙ empty, empty, fault, at_last)
+
+-- the bytes are whole lines with these texts, and whatever follows them is other lines
+pub record AreWhole (used : List ℕ) (taken : List (List ℕ)) (seen : List ℕ) : Type 0 where
+  pub ends : (taken ≡ []) ⊎ (ends_line seen ≡ true)
+  pub lines : (more : List ℕ) → lines_so_far (used ++ more) ≡ map Some taken ++ lines_so_far more
 
 -- texts were taken that go on
 pub record Joining (a : Ahead) (s : InputState) (seen : List ℕ) (m : LineMode) (t : InputState) : Type 0 where
@@ -121,7 +126,9 @@ pub record Joining (a : Ahead) (s : InputState) (seen : List ℕ) (m : LineMode)
   pub is_going : IsGoing seen m
   pub shown : taken ≢ [] → ¬ (IsSkipped (whole_lines a))
   pub first : seen ≡ [] → taken ≡ []
-  pub ends : (a.fault ≡ None) ⊎ ((taken ≡ []) ⊎ (ends_line seen ≡ true))
+  pub used : List ℕ
+  pub joins : a.bytes ≡ used ++ left
+  pub ends : IsAtEnd a.fault left t ⊎ AreWhole used taken seen
   pub reads : ReadsFit a s (record { bytes = left; fault = a.fault }) t
 
 pub joining_start : (a : Ahead) (s : InputState) → IsTold s.left a → Joining a s [] Outside s
@@ -135,7 +142,9 @@ joining_start a s told = record {
   is_going = going_start;
   shown = λ some. absurd (some refl);
   first = λ e. refl;
-  ends = inr (inl refl);
+  used = [];
+  joins = refl;
+  ends = inr (record { ends = inl refl; lines = λ more. refl });
   reads = omega arith;
 }
 
@@ -170,12 +179,12 @@ length_more : (taken : List (List ℕ)) (t : List ℕ) → length (taken ++ t �
 length_more taken t = omega (arith, length-append taken (t ∷ []))
 
 -- one more line that is a text
-record Next (a : Ahead) (taken : List (List ℕ)) (line left : List ℕ) : Type 0 where
+record Next (a : Ahead) (taken : List (List ℕ)) (line left : List ℕ) (v : InputState) : Type 0 where
   rest : physical_lines left ≡ drop (suc (length taken)) (physical_lines a.bytes)
   lines : whole_lines a ≡ map Some taken ++ line_text line ∷ whole_lines (ahead_of left a.fault)
-  ends : (a.fault ≡ None) ⊎ (is_whole_line line ≡ true)
+  ends : IsAtEnd a.fault left v ⊎ (is_whole_line line ≡ true)
 
-next_of : (a : Ahead) (s t v : InputState) (seen line : List ℕ) (m : LineMode) → line ≢ [] → (j : Joining a s seen m t) → (k : TakesLine (ahead_of j.left a.fault) t line v) → Next a j.taken line k.left
+next_of : (a : Ahead) (s t v : InputState) (seen line : List ℕ) (m : LineMode) → line ≢ [] → (j : Joining a s seen m t) → (k : TakesLine (ahead_of j.left a.fault) t line v) → Next a j.taken line k.left v
 next_of a s t v seen line m some j k =
     let p = parts (ahead_of j.left a.fault) t v line some k in record {
       rest = drop_one (length j.taken) (physical_lines a.bytes) line (physical_lines k.left) (sym p.bytes ∙ j.rest);
@@ -201,13 +210,13 @@ second_nil [] ys h = h
 second_nil (x ∷ xs) ys h = cc
 
 -- the line as a text among all lines
-record Among (a : Ahead) (seen : List ℕ) (taken : List (List ℕ)) (line left : List ℕ) : Type 0 where
+record Among (a : Ahead) (seen : List ℕ) (taken : List (List ℕ)) (line left : List ℕ) (v : InputState) : Type 0 where
   rest : physical_lines left ≡ drop (suc (length taken)) (physical_lines a.bytes)
   lines : whole_lines a ≡ map Some taken ++ Some (chars line) ∷ whole_lines (ahead_of left a.fault)
   one : IsOneLine (chars line)
-  ends : (a.fault ≡ None) ⊎ (is_whole_line line ≡ true)
+  ends : IsAtEnd a.fault left v ⊎ (is_whole_line line ≡ true)
 
-among : (a : Ahead) (s t v : InputState) (seen line : List ℕ) (m : LineMode) → line ≢ [] → IsUtf8 line → (j : Joining a s seen m t) → (k : TakesLine (ahead_of j.left a.fault) t line v) → Among a seen j.taken line k.left
+among : (a : Ahead) (s t v : InputState) (seen line : List ℕ) (m : LineMode) → line ≢ [] → IsUtf8 line → (j : Joining a s seen m t) → (k : TakesLine (ahead_of j.left a.fault) t line v) → Among a seen j.taken line k.left v
 among a s t v seen line m some u j k =
     let n = next_of a s t v seen line m some j k in
     let ls = whole_lines (ahead_of k.left a.fault) in
@@ -217,6 +226,68 @@ among a s t v seen line m some u j k =
       one = line_is_one (map Some j.taken) (chars line) ls (subst AreCut e (cut_line_texts (whole_before a.fault a.bytes)));
       ends = n.ends;
     }
+
+nothing_left : (line left : List ℕ) → line ≢ [] → line ++ left ≢ []
+nothing_left [] left some h = some refl
+nothing_left (c ∷ line) left some h = cc
+
+lines_first : (line more : List ℕ) → is_whole_line line ≡ true → lines_so_far (line ++ more) ≡ line_text line ∷ lines_so_far more
+lines_first line more w = ap line_texts (up_to_whole line more w) ∙ ap (map line_text) (whole_line line (up_to_last_line_feed more) w)
+
+-- one more whole line
+more_whole : (used line : List ℕ) (taken : List (List ℕ)) (seen : List ℕ) → IsUtf8 line → is_whole_line line ≡ true → AreWhole used taken seen → AreWhole (used ++ line) (taken ++ chars line ∷ []) (seen ++ chars line)
+more_whole used line taken seen u w h = record {
+  ends = inr (ends_join seen (chars line) (whole_ends (chars line) (whole_chars line (is_utf8-from_IsUtf8 line u) w)));
+  lines = λ more. ap lines_so_far (append_assoc used line more) ∙ h.lines (line ++ more)
+      ∙ ap (λ ls. map Some taken ++ ls) (lines_first line more w ∙ ap (λ l. l ∷ lines_so_far more) (text_of line u))
+      ∙ one_more taken (chars line) (lines_so_far more);
+}
+
+-- before a line the end was not read
+whole_so_far : (a : Ahead) (s t v : InputState) (seen line : List ℕ) (m : LineMode) → line ≢ [] → (j : Joining a s seen m t) → TakesLine (ahead_of j.left a.fault) t line v → AreWhole j.used j.taken seen
+whole_so_far a s t v seen line m some j k = elim j.ends [ inl f ↦ absurd (nothing_left line k.left some (sym k.joins ∙ f.1)) | inr h ↦ h ]
+
+some_texts : (taken : List (List ℕ)) (ls : Lines) → taken ≢ [] → map Some taken ++ ls ≢ []
+some_texts [] ls some h = some refl
+some_texts (t ∷ taken) ls some h = cc
+
+some_taken : (taken : List (List ℕ)) (t : List ℕ) → taken ++ t ∷ [] ≢ []
+some_taken [] t h = cc
+some_taken (u ∷ taken) t h = cc
+
+-- the first line alone tells whether it is skipped
+skipped_same : (taken : List (List ℕ)) (ls ms : Lines) → taken ≢ [] → IsSkipped (map Some taken ++ ls) → IsSkipped (map Some taken ++ ms)
+skipped_same [] ls ms some h = absurd (some refl)
+skipped_same (t ∷ taken) ls ms some h = h
+
+skipped_before_broken : (taken : List (List ℕ)) (ls ms : Lines) → IsSkipped (map Some taken ++ None ∷ ls) → IsSkipped (map Some taken ++ None ∷ ms)
+skipped_before_broken [] ls ms h = h
+skipped_before_broken (t ∷ taken) ls ms h = h
+
+-- whole lines stay what they are, whatever follows them
+text_always : (bytes : List ℕ) (taken : List (List ℕ)) (text : List ℕ) (ls : Lines) → taken ≢ [] → ((more : List ℕ) → lines_so_far (bytes ++ more) ≡ map Some taken ++ lines_so_far more) → ¬ (IsSkipped (map Some taken ++ ls)) → ((last : Type 0) → IsWhole (concat taken) text last) → IsNextAlways bytes (length taken) (Text text)
+text_always bytes taken text ls some lines shown whole = λ more.
+    let e = lines more in
+    let ms = lines_so_far more in (
+      λ h. some_texts taken ms some (sym e ∙ h),
+      subst (λ l. IsNext l (length taken) (Text text)) (sym e) (next-text taken ms text (λ h. shown (skipped_same taken ms ls some h)) (whole (length taken ≡ length (map Some taken ++ ms)))),
+      ap (drop (length taken)) e ∙ left_after taken ms,
+    )
+
+skip_always : (bytes text : List ℕ) → ((more : List ℕ) → lines_so_far (bytes ++ more) ≡ Some text ∷ lines_so_far more) → begins_with hash (skip_leading_whitespace text) ≡ true → IsNextAlways bytes 1 Skip
+skip_always bytes text lines comment = λ more.
+    let e = lines more in
+    let ms = lines_so_far more in
+    (λ h. some_after [] (Some text) ms (sym e ∙ h), subst (λ l. IsNext l 1 Skip) (sym e) (next-skip text ms comment), ap (drop 1) e)
+
+broken_always : (bytes : List ℕ) (taken : List (List ℕ)) (m : LineMode) (ls : Lines) → ((more : List ℕ) → lines_so_far (bytes ++ more) ≡ map Some taken ++ None ∷ lines_so_far more) → ¬ (IsSkipped (map Some taken ++ None ∷ ls)) → IsGoing (concat taken) m → IsNextAlways bytes (suc (length taken)) Broken
+broken_always bytes taken m ls lines shown goes = λ more.
+    let e = lines more in
+    let ms = lines_so_far more in (
+      λ h. some_after (map Some taken) None ms (sym e ∙ h),
+      subst (λ l. IsNext l (suc (length taken)) Broken) (sym e) (next-broken taken ms m (subst AreCut e (cut_line_texts (up_to_last_line_feed (bytes ++ more)))) (λ h. shown (skipped_before_broken taken ms ls h)) goes),
+      ap (drop (suc (length taken))) e ∙ left_after_broken taken ms,
+    )
 
 -- a line that goes on
 pub joining_goes : (a : Ahead) (s t v : InputState) (seen line : List ℕ) (m n : LineMode) → line ≢ [] → IsUtf8 line → (seen ≡ [] → begins_with hash (skip_leading_whitespace (chars line)) ≡ false) → walk m seen (chars line) ≡ going n → (j : Joining a s seen m t) → TakesLine (record { bytes = j.left; fault = a.fault }) t line v → Joining a s (seen ++ chars line) n v
@@ -231,7 +302,9 @@ joining_goes a s t v seen line m n some u comment walks j k =
       is_going = subst (IsWalked (Unit {0}) seen (chars line)) walks (walk-is (Unit {0}) m seen (chars line) j.is_going p.one);
       shown = λ more. not_skipped (whole_lines a) j.taken (chars line) (whole_lines (ahead_of k.left a.fault)) p.lines j.shown (λ e. comment (j.joined ∙ ap concat e));
       first = λ e. absurd (chars_some line u some (second_nil seen (chars line) e));
-      ends = elim p.ends [ inl f ↦ inl f | inr w ↦ inr (inr (ends_join seen (chars line) (whole_ends (chars line) (whole_chars line (is_utf8-from_IsUtf8 line u) w)))) ];
+      used = j.used ++ line;
+      joins = j.joins ∙ ap (λ l. j.used ++ l) k.joins ∙ sym (append_assoc j.used line k.left);
+      ends = elim p.ends [ inl f ↦ inl f | inr w ↦ inr (more_whole j.used line j.taken seen u w (whole_so_far a s t v seen line m some j k)) ];
       reads = fits_more a (ahead_of j.left a.fault) (ahead_of k.left a.fault) s t v j.reads k.reads;
     }
 
@@ -249,7 +322,17 @@ joining_ends a s t v seen line text m some u comment walks j k =
       some = λ h. some_after (map Some j.taken) (Some (chars line)) ls (sym p.lines ∙ h);
       is_next = subst (λ l. IsNext l (length all) (Text text)) (sym e) (next-text all ls text (λ h. shown (subst IsSkipped (sym e) h)) (subst (λ l. IsWhole l text last) (ap (λ l. l ++ chars line) j.joined ∙ sym (concat_more j.taken (chars line))) whole));
       open_at_end = λ h. absurd h;
+      used = j.used ++ line;
       left = k.left;
+      joins = j.joins ∙ ap (λ l. j.used ++ l) k.joins ∙ sym (append_assoc j.used line k.left);
+      stays = elim p.ends [
+        | inl f ↦ inl f
+        | inr w ↦ inr (
+          λ h. h,
+          text_always (j.used ++ line) all text ls (some_taken j.taken (chars line)) (more_whole j.used line j.taken seen u w (whole_so_far a s t v seen line m some j k)).lines (λ h. shown (subst IsSkipped (sym e) h))
+              (λ at_last. subst (λ l. IsWhole l text at_last) (ap (λ l. l ++ chars line) j.joined ∙ sym (concat_more j.taken (chars line))) (subst (IsWalked at_last seen (chars line)) walks (walk-is at_last m seen (chars line) j.is_going p.one))),
+        )
+      ];
       rest = p.rest ∙ ap (λ i. drop i (physical_lines a.bytes)) (sym (length_more j.taken (chars line)));
       later = sym (ap (drop (length all)) e ∙ left_after all ls);
       is_left = k.is_left;
@@ -266,7 +349,16 @@ joining_skips a s t v seen line m some u empty comment j k =
       some = λ h. some_after [] (Some (chars line)) ls (sym e ∙ h);
       is_next = subst (λ l. IsNext l 1 Skip) (sym e) (next-skip (chars line) ls comment);
       open_at_end = λ h. absurd h;
+      used = j.used ++ line;
       left = k.left;
+      joins = j.joins ∙ ap (λ l. j.used ++ l) k.joins ∙ sym (append_assoc j.used line k.left);
+      stays = elim p.ends [
+        | inl f ↦ inl f
+        | inr w ↦ inr (
+          λ h. h,
+          skip_always (j.used ++ line) (chars line) (λ more. (more_whole j.used line j.taken seen u w (whole_so_far a s t v seen line m some j k)).lines more ∙ ap (λ ts. map Some (ts ++ chars line ∷ []) ++ lines_so_far more) (j.first empty)) comment,
+        )
+      ];
       rest = p.rest ∙ ap (λ ts. drop (suc (length ts)) (physical_lines a.bytes)) (j.first empty);
       later = sym (ap (drop 1) e);
       is_left = k.is_left;
@@ -285,7 +377,17 @@ joining_breaks a s t v seen line m some broken j k =
       is_next = subst (λ l. IsNext l (suc (length j.taken)) Broken) (sym e)
           (next-broken j.taken ls m (subst AreCut e (cut_line_texts (whole_before a.fault a.bytes))) (λ h. shown (subst IsSkipped (sym e) h)) (subst (λ l. IsGoing l m) j.joined j.is_going));
       open_at_end = λ h. absurd h;
+      used = j.used ++ line;
       left = k.left;
+      joins = j.joins ∙ ap (λ l. j.used ++ l) k.joins ∙ sym (append_assoc j.used line k.left);
+      stays = elim n.ends [
+        | inl f ↦ inl f
+        | inr w ↦ inr (
+          λ h. h,
+          broken_always (j.used ++ line) j.taken m ls (λ more. ap lines_so_far (append_assoc j.used line more) ∙ (whole_so_far a s t v seen line m some j k).lines (line ++ more) ∙ ap (λ l. map Some j.taken ++ l) (lines_first line more w ∙ ap (λ l. l ∷ lines_so_far more) (no_text line broken)))
+              (λ h. shown (subst IsSkipped (sym e) h)) (subst (λ l. IsGoing l m) j.joined j.is_going),
+        )
+      ];
       rest = n.rest;
       later = sym (ap (drop (suc (length j.taken))) e ∙ left_after_broken j.taken ls);
       is_left = k.is_left;
@@ -315,7 +417,10 @@ joining_end a s t v seen m begun j k =
       is_next = subst (λ l. IsNext l (length j.taken) (at_input_end m seen)) (sym e) (subst (λ l. IsNext (map Some j.taken) (length j.taken) (at_input_end m l)) (sym j.joined)
           (at_end j.taken m lines (subst AreCut e (cut_line_texts (whole_before a.fault a.bytes))) (λ h. j.shown some (subst IsSkipped (sym e) h)) (subst (λ l. IsGoing l m) j.joined j.is_going)));
       open_at_end = λ h. n.2;
+      used = j.used;
       left = k.left;
+      joins = j.joins ∙ ap (λ l. j.used ++ l) (n.0 ∙ sym n.1);
+      stays = inl (n.2, n.1, n.3);
       rest = ap physical_lines (n.1 ∙ sym n.0) ∙ j.rest;
       later = ap (λ l. line_texts (whole_before a.fault l)) n.1 ∙ no_texts a.fault ∙ sym (ap (drop (length j.taken)) (e ∙ sym (append-nil (map Some j.taken))) ∙ left_after j.taken []);
       is_left = k.is_left;
@@ -340,38 +445,46 @@ not_outside seen m g ends is = read (subst (Read scans.outside seen) (reads_all 
     read : Reads seen seen input_end [] → ⊥
     read r = let e : true ≡ false = sym ends ∙ ap ends_line r.front_is ∙ tokens_end r.tokens [] r.are in cc
 
--- a fault that is told before a line feed
-undecided : (a : Ahead) (s t : InputState) (seen : List ℕ) (m : LineMode) (kind : ErrorKind) (j : Joining a s seen m t) → a.fault ≡ Some kind → no_line_feed j.left ≡ true → IsUndecided a
-undecided a s t seen m kind j fault none count next some is = at j.ends
+-- bytes before a fault, of which those after the lines that were taken have no line feed
+undecided : (seen : List ℕ) (m : LineMode) (used front : List ℕ) (taken : List (List ℕ)) → seen ≡ concat taken → IsGoing seen m → (taken ≢ [] → ¬ (IsSkipped (map Some taken))) → AreWhole used taken seen → no_line_feed front ≡ true → IsUndecided (used ++ front)
+undecided seen m used front taken joined is_going shown whole none count next some is = at whole.ends
   where
-    no_texts_left : (f : Option ErrorKind) → f ≡ Some kind → line_texts (whole_before f j.left) ≡ []
-    no_texts_left None e = absurd (none-some kind e)
-    no_texts_left (Some k) e = ap line_texts (up_to_none j.left none)
+    e : lines_so_far (used ++ front) ≡ map Some taken
+    e = whole.lines front ∙ ap (λ ls. map Some taken ++ line_texts ls) (up_to_none front none) ∙ append-nil (map Some taken)
 
-    e : whole_lines a ≡ map Some j.taken
-    e = all_taken a s t seen m j (no_texts_left a.fault fault)
-
-    cut : AreCut (whole_lines a)
-    cut = cut_line_texts (whole_before a.fault a.bytes)
+    cut : AreCut (lines_so_far (used ++ front))
+    cut = cut_line_texts (up_to_last_line_feed (used ++ front))
 
     open_next : m ≢ Outside → IsOpen next
     open_next differs =
-        let taken : j.taken ≢ [] = λ h. some (e ∙ ap (map Some) h) in
-        let o = next-open j.taken m (λ h. some (e ∙ h)) (subst AreCut e cut) (λ h. j.shown taken (subst IsSkipped (sym e) h)) (subst (λ l. IsGoing l m) j.joined j.is_going) differs in
-        let same = one_next (whole_lines a) (length j.taken) count (Open (concat j.taken) (byte_len (concat j.taken))) next some cut (subst (λ l. IsNext l (length j.taken) (Open (concat j.taken) (byte_len (concat j.taken)))) (sym e) o) is in
+        let some' : taken ≢ [] = λ h. some (e ∙ ap (map Some) h) in
+        let o = next-open taken m (λ h. some (e ∙ h)) (subst AreCut e cut) (shown some') (subst (λ l. IsGoing l m) joined is_going) differs in
+        let same = one_next (lines_so_far (used ++ front)) (length taken) count (Open (concat taken) (byte_len (concat taken))) next some cut (subst (λ l. IsNext l (length taken) (Open (concat taken) (byte_len (concat taken)))) (sym e) o) is in
         subst IsOpen same.1 tt
 
-    at : (a.fault ≡ None) ⊎ ((j.taken ≡ []) ⊎ (ends_line seen ≡ true)) → IsOpen next
-    at (inl f) = absurd (none-some kind (sym f ∙ fault))
-    at (inr (inl h)) = absurd (some (e ∙ ap (map Some) h))
-    at (inr (inr h)) = open_next (not_outside seen m j.is_going h)
+    at : (taken ≡ []) ⊎ (ends_line seen ≡ true) → IsOpen next
+    at (inl h) = absurd (some (e ∙ ap (map Some) h))
+    at (inr h) = open_next (not_outside seen m is_going h)
 
-pub joining_fails : {A : Type 0} (a : Ahead) (s t v : InputState) (seen : List ℕ) (m : LineMode) (e : Error A) → (j : Joining a s seen m t) → IsFinal (record { bytes = j.left; fault = a.fault }) t (no_line_feed j.left ≡ true) e v → IsFinal a s (IsUndecided a) e v
+skipped_more : (lines more : Lines) → IsSkipped lines → IsSkipped (lines ++ more)
+skipped_more [] more h = absurd h
+skipped_more (None ∷ lines) more h = h
+skipped_more (Some t ∷ lines) more h = h
+
+pub joining_fails : {A : Type 0} (a : Ahead) (s t v : InputState) (seen : List ℕ) (m : LineMode) (e : Error A) → (j : Joining a s seen m t) → IsFinal (record { bytes = j.left; fault = a.fault }) t (λ bytes. no_line_feed bytes ≡ true) e v → IsFinal a s IsUndecided e v
 joining_fails a s t v seen m e j fails =
     let b = ahead_of j.left a.fault in
-    io_weaker (IsReadFault b t (no_line_feed j.left ≡ true) v) (IsReadFault a s (IsUndecided a) v) e
-    (λ x h. elim h [ inl f ↦ inl (f.0, undecided a s t seen m (error_kind x) j f.0 f.1) | inr met ↦ inr (bound_before a b s t v x j.reads met) ])
+    final_before a b s t v (λ bytes. no_line_feed bytes ≡ true) IsUndecided j.used e j.joins refl j.reads
+    (λ kind front later cut why none. undecided seen m j.used front j.taken j.joined j.is_going (λ some h. j.shown some (subst IsSkipped (sym j.lines) (skipped_more (map Some j.taken) (whole_lines b) h))) (whole kind front later cut why j.ends) none)
     fails
+  where
+    whole : (kind : ErrorKind) (front later : List ℕ) → j.left ≡ front ++ later → (a.fault ≡ Some kind) ⊎ (t.reads + t.unread + end_reads t.at_end ≤ length front) → IsAtEnd a.fault j.left t ⊎ AreWhole j.used j.taken seen → AreWhole j.used j.taken seen
+    whole kind front later cut why (inr h) = h
+    whole kind front later cut (inl told) (inl f) = absurd (none-some kind (sym f.0 ∙ told))
+    whole kind front later cut (inr each) (inl f) =
+        let read = ap end_reads f.2 in
+        let empty = ap length (sym cut ∙ f.1) in
+        absurd (omega (arith, each, read, empty, length-append front later))
 
 begun_chars : {A : Type 0} (text : String A) → string_bytes text ≢ [] → chars (string_bytes text) ≢ []
 begun_chars text some h = some (sym (encodes-chars (string_bytes text) (IsUtf8-string_bytes text)) ∙ ap encode_utf8_all h)

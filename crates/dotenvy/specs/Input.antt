@@ -56,16 +56,21 @@ end_reads at_end = if at_end then 1 else 0
 abbrev pub ReadsFit : Ahead → InputState → Ahead → InputState → Type 0
 ReadsFit a s b t = s.reads + s.unread + length b.bytes + end_reads s.at_end ≤ t.reads + t.unread + length a.bytes + end_reads t.at_end
 
--- the bound on reads was met on the way from s to t: none is left, and each gave a byte at least
-abbrev pub BoundIsMet : Ahead → InputState → InputState → IoError → Type 0
-BoundIsMet a s t e = (error_kind e ≡ Other) × (t.reads ≡ 0) × (s.reads + s.unread + end_reads s.at_end ≤ length a.bytes)
+-- the bound on reads was met on the way from s to t after a front of the bytes, of which P holds: no read is left, and each gave a byte at least
+pub record BoundIsMet (a : Ahead) (s : InputState) (P : List ℕ → Type 0) (t : InputState) : Type 0 where
+  pub front : List ℕ
+  pub later : List ℕ
+  pub cut : a.bytes ≡ front ++ later
+  pub holds : P front
+  pub none_left : t.reads ≡ 0
+  pub each_gave : s.reads + s.unread + end_reads s.at_end ≤ length front
 
--- a fault of reading: the one that is told, met where P holds, or the bound on reads
-abbrev pub IsReadFault : Ahead → InputState → Type 0 → InputState → IoError → Type 0
-IsReadFault a s P t e = ((a.fault ≡ Some (error_kind e)) × P) ⊎ BoundIsMet a s t e
+-- a fault of reading, met after bytes of which P holds: the one that is told, after all of them; or the bound on reads
+abbrev pub IsReadFault : Ahead → InputState → (List ℕ → Type 0) → InputState → IoError → Type 0
+IsReadFault a s P t e = ((a.fault ≡ Some (error_kind e)) × P a.bytes) ⊎ ((error_kind e ≡ Other) × BoundIsMet a s P t)
 
 -- a final fault: memory was refused, or a fault of reading
-abbrev pub IsFinal : {A : Type 0} → Ahead → InputState → Type 0 → Error A → InputState → Type 0
+abbrev pub IsFinal : {A : Type 0} → Ahead → InputState → (List ℕ → Type 0) → Error A → InputState → Type 0
 IsFinal a s P e t = IsMemory e ⊎ IsIoOf (IsReadFault a s P t) e
 
 -- the source answers this fault next
@@ -90,7 +95,7 @@ ReadsOnce a old (Err e) after new = IsMemory e ⊎ IsIoOf (FaultIsNext a) e
 -- one read: something more was read, or the end
 abbrev pub ReadsMore : {A : Type 0} → Ahead → InputState → Result (Unit {0}) (Error A) → InputState → Type 0
 ReadsMore a s (Ok _) t = (t.left ≡ Some a) × ReadsFit a s a t
-ReadsMore a s (Err e) t = IsFinal a s (length a.bytes ≡ s.unread) e t
+ReadsMore a s (Err e) t = IsFinal a s (λ bytes. length bytes ≡ s.unread) e t
 
 -- the first bytes of what is left were moved to a line: up to a line feed, or all that were read
 pub record MovesLine (a : Ahead) (s : InputState) (old : List ℕ) (whole : Bool) (new : List ℕ) (t : InputState) : Type 0 where
@@ -109,13 +114,13 @@ pub record TakesLine (a : Ahead) (s : InputState) (line : List ℕ) (t : InputSt
   pub left : List ℕ
   pub joins : a.bytes ≡ line ++ left
   pub is_left : t.left ≡ Some (record { bytes = left; fault = a.fault })
-  pub is_line : (is_whole_line line ≡ true) ⊎ ((no_line_feed line ≡ true) × (left ≡ []) × (a.fault ≡ None))
+  pub is_line : (is_whole_line line ≡ true) ⊎ ((no_line_feed line ≡ true) × (left ≡ []) × (a.fault ≡ None) × (t.at_end ≡ true))
   pub reads : ReadsFit a s (record { bytes = left; fault = a.fault }) t
 
 -- a physical line was read, or a fault that is told came before a line feed
 abbrev pub ReadsLine : {A : Type 0} → Ahead → InputState → Result (Unit {0}) (Error A) → List ℕ → InputState → Type 0
 ReadsLine a s (Ok _) line t = TakesLine a s line t
-ReadsLine a s (Err e) line t = IsFinal a s (no_line_feed a.bytes ≡ true) e t
+ReadsLine a s (Err e) line t = IsFinal a s (λ bytes. no_line_feed bytes ≡ true) e t
 
 -- the front of a byte order mark, and not all of it
 abbrev pub begins_mark : List ℕ → Bool
@@ -124,4 +129,4 @@ begins_mark bytes = nat_lt (length bytes) 3 && starts_with nat_eq byte_order_mar
 -- a byte order mark that stood next was dropped, and nothing else, or a fault that is told came before that was decided
 abbrev pub DropsMark : {A : Type 0} → Ahead → InputState → Result (Unit {0}) (Error A) → InputState → Type 0
 DropsMark a s (Ok _) t = (t.left ≡ Some (record { bytes = without_mark a.bytes; fault = a.fault })) × ReadsFit a s (record { bytes = without_mark a.bytes; fault = a.fault }) t
-DropsMark a s (Err e) t = IsFinal a s (begins_mark a.bytes ≡ true) e t
+DropsMark a s (Err e) t = IsFinal a s (λ bytes. begins_mark bytes ≡ true) e t

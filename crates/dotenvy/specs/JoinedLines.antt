@@ -43,7 +43,7 @@ TakesJoined a s BrokenLine t = TakesNext a s Broken t
 
 abbrev pub JoinsNext : {A : Type 0} → Ahead → InputState → Result (Joined A) (Error A) → InputState → Type 0
 JoinsNext a s (Ok joined) t = TakesJoined a s joined t
-JoinsNext a s (Err e) t = IsFinal a s (IsUndecided a) e t
+JoinsNext a s (Err e) t = IsFinal a s IsUndecided e t
 
 -- something was used up, but at the end
 abbrev pub UsesSome : {A : Type 0} → InputState → Joined A → InputState → Type 0

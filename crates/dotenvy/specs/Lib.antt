@@ -26,8 +26,12 @@ pub mod Iter
 pub mod Names
 pub mod Reading
 pub mod NextItem
+pub mod LineItem
 pub mod LoadsLeft
+pub mod Listed
+pub mod ItemRuns
 pub mod Laws
+pub mod ItemLaws
 pub mod WorkedFiles
 pub mod WorkedLoads
 pub mod WorkedSearches

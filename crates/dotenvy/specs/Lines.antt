@@ -1,5 +1,5 @@
 -- What the splitter answers, and what it leaves.
-use Rattle.std.specs.Prelude.{ℕ, ◌≡◌, ◌≢◌, ◌⊎◌, ◌+◌, List, [], drop, Option, Some, None, Result, Ok, Err, refl, string_bytes}
+use Rattle.std.specs.Prelude.{ℕ, true, ◌≡◌, ◌≢◌, ◌⊎◌, ◌+◌, ◌++◌, List, [], drop, Option, Some, None, Result, Ok, Err, refl, string_bytes}
 use Rattle.std.specs.Str.{chars}
 use Rattle.std.specs.IoError.{error_kind}
 use Rattle.std.specs.declared.string.String.{String}
@@ -50,21 +50,36 @@ stage_fuel Failed n = 0
 abbrev pub fuel_of : LinesState → ℕ
 fuel_of s = stage_fuel s.stage (supply s.input)
 
--- from s with a left the next logical line was taken; an open end is one at the end of input alone. What follows its physical lines is left
+-- the physical lines of bytes whose end was not reached: those up to the last line feed
+abbrev pub lines_so_far : List ℕ → List (Option (List ℕ))
+lines_so_far bytes = line_texts (up_to_last_line_feed bytes)
+
+-- the end was read, no fault stands there, and nothing is left
+abbrev pub IsAtEnd : Option ErrorKind → List ℕ → InputState → Type 0
+IsAtEnd fault left t = (fault ≡ None) × (left ≡ []) × (t.at_end ≡ true)
+
+-- whatever follows the bytes, their first physical lines, so many, are this logical line
+abbrev pub IsNextAlways : List ℕ → ℕ → Logical → Type 0
+IsNextAlways bytes count next = (more : List ℕ) → (lines_so_far (bytes ++ more) ≢ []) × IsNext (lines_so_far (bytes ++ more)) count next × (drop count (lines_so_far (bytes ++ more)) ≡ lines_so_far more)
+
+-- from s with a left the next logical line was taken; an open end is one at the end of input alone. What follows its physical lines is left, and unless the end was read they are that line whatever follows
 pub record TakesNext (a : Ahead) (s : InputState) (next : Logical) (t : InputState) : Type 0 where
   pub count : ℕ
   pub some : whole_lines a ≢ []
   pub is_next : IsNext (whole_lines a) count next
   pub open_at_end : IsOpen next → a.fault ≡ None
+  pub used : List ℕ
   pub left : List ℕ
+  pub joins : a.bytes ≡ used ++ left
   pub rest : physical_lines left ≡ drop count (physical_lines a.bytes)
   pub later : whole_lines (record { bytes = left; fault = a.fault }) ≡ drop count (whole_lines a)
+  pub stays : IsAtEnd a.fault left t ⊎ ((IsOpen next → ⊥) × IsNextAlways used count next)
   pub is_left : t.left ≡ Some (record { bytes = left; fault = a.fault })
   pub reads : ReadsFit a s (record { bytes = left; fault = a.fault }) t
 
--- no logical line is whole
-abbrev pub IsUndecided : Ahead → Type 0
-IsUndecided a = (count : ℕ) (next : Logical) → whole_lines a ≢ [] → IsNext (whole_lines a) count next → IsOpen next
+-- of bytes whose end was not reached no logical line is whole
+abbrev pub IsUndecided : List ℕ → Type 0
+IsUndecided bytes = (count : ℕ) (next : Logical) → lines_so_far bytes ≢ [] → IsNext (lines_so_far bytes) count next → IsOpen next
 
 -- a logical line as an answer: a text, empty for a line that is skipped
 abbrev pub TakesText : {A : Type 0} → Ahead → InputState → String A → InputState → Type 0
@@ -87,11 +102,11 @@ abbrev pub GoesOn : LinesState → Type 0
 GoesOn t = (t.stage ≡ stage_open) ⊎ ((t.stage ≡ Ended) × (t.input.left ≡ Some (record { bytes = []; fault = None })))
 
 -- the iterator has failed by a fault that is final: in what is told, no logical line comes whole before it
-abbrev pub FailsFor : {T A : Type 0} → Ahead → InputState → Result T (Error A) → Type 0 → LinesState → Type 0
+abbrev pub FailsFor : {T A : Type 0} → Ahead → InputState → Result T (Error A) → (List ℕ → Type 0) → LinesState → Type 0
 FailsFor a s (Ok x) P t = ⊥
 FailsFor a s (Err e) P t = (t.stage ≡ Failed) × IsFinal a s P e t.input
 
 -- an answer of an open iterator with a left
 abbrev pub NextIs : {A : Type 0} → Ahead → InputState → Option (Result (String A) (Error A)) → LinesState → Type 0
 NextIs a s None t = (a.bytes ≡ []) × (a.fault ≡ None) × (t.stage ≡ Ended)
-NextIs a s (Some r) t = (TakesAnswer a s r t.input × GoesOn t) ⊎ FailsFor a s r (IsUndecided a) t
+NextIs a s (Some r) t = (TakesAnswer a s r t.input × GoesOn t) ⊎ FailsFor a s r IsUndecided t

@@ -35,7 +35,7 @@ Rule = LookUp → LookUp → List Entry → Loaded
 abbrev pub LoadsLeft : {A : Type 0} → Rule → IterState → Texts → Result (Unit {0}) (Error A) → Texts → Type 0
 LoadsLeft rule s old answer new =
     (a : Ahead) → IsTold s.lines.input.left a → (entries : List Entry) → HasLeft s.dialect a.fault (without_mark a.bytes) entries →
-    (read : List Entry) × IsReading a s.lines.input entries read × Leaves (rule (values_of old) (recalled_of s.remembered) read) new answer
+    (read : List Entry) × IsReading s.dialect a s.lines.input entries read × Leaves (rule (values_of old) (recalled_of s.remembered) read) new answer
 
 -- a name that is no key has the value that it had
 abbrev pub ChangesKeys : Texts → Texts → Type 0

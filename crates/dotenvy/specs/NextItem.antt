@@ -1,5 +1,5 @@
 -- What the next item is, and what it leaves.
-use Rattle.std.specs.Prelude.{ℕ, ◌≡◌, ◌⊎◌, List, [], ◌∷◌, Option, Some, None, Result, Ok, Err, unwrap_or, string_bytes}
+use Rattle.std.specs.Prelude.{ℕ, ◌≡◌, ◌⊎◌, List, [], ◌∷◌, ◌++◌, Option, Some, None, Result, Ok, Err, unwrap_or, string_bytes}
 use Rattle.std.specs.Str.{chars}
 use Rattle.std.specs.IoError.{error_kind}
 use Rattle.std.specs.declared.string.String.{String}
@@ -7,12 +7,14 @@ use Rattle.dotenvy.specs.declared.errors.Error.{Error}
 use Rattle.dotenvy.specs.declared.lines.Stage.TheVariants.{Open, Ended}
 use Rattle.dotenvy.specs.Errors.{IsMemory, IsNulOf, IsIoOf, IsLineParseOf}
 use Rattle.dotenvy.specs.Entries.{Failure, LineParse, Io, Nul, Memory, Entry, Declares, Fails}
+use Rattle.dotenvy.specs.declared.dialect.Dialect.{Dialect}
+use Rattle.dotenvy.specs.Decided.{HasDecided}
 use Rattle.dotenvy.specs.Items.{LookUp, meaning, with_value}
 use Rattle.dotenvy.specs.Environment.{Texts}
 use Rattle.dotenvy.specs.Names.{recalled_of, names_of}
 use Rattle.dotenvy.specs.Source.{Ahead}
 use Rattle.dotenvy.specs.Input.{IsTold, ReadsFit}
-use Rattle.dotenvy.specs.Lines.{GoesOn, FailsFor}
+use Rattle.dotenvy.specs.Lines.{IsAtEnd, GoesOn, FailsFor}
 use Rattle.dotenvy.specs.Reading.{HasLeft}
 use Rattle.dotenvy.specs.Iter.{IterState}
 
@@ -39,11 +41,18 @@ abbrev pub RemembersEntry : LookUp → LookUp → LookUp → Entry → Type 0
 RemembersEntry look_up old new (Declares key pieces) = (name : List ℕ) → text_of new name ≡ text_of (with_value old key (meaning look_up pieces)) name
 RemembersEntry look_up old new (Fails failure) = (name : List ℕ) → text_of new name ≡ text_of old name
 
--- of these entries, which are those of what s has left, the first was taken, and t has the later ones left
+-- whatever follows the bytes, these are the first entries that are decided
+abbrev pub DecideFirst : Dialect → List ℕ → List Entry → Type 0
+DecideFirst dialect bytes entries = (more : List ℕ) (decided : List Entry) → HasDecided dialect more decided → HasDecided dialect (bytes ++ more) (entries ++ decided)
+
+-- of these entries, which are those of what s has left, the first was taken, and t has the later ones left; unless the end was read, the bytes that were used decide it whatever follows
 pub record TakesEntry (names : Texts) (a : Ahead) (s : IterState) (entries : List Entry) (entry : Entry) (t : IterState) : Type 0 where
   pub later : List Entry
   pub first : entries ≡ entry ∷ later
+  pub used : List ℕ
   pub left : List ℕ
+  pub joins : a.bytes ≡ used ++ left
+  pub stays : IsAtEnd a.fault left t.lines.input ⊎ DecideFirst s.dialect used (entry ∷ [])
   pub is_left : t.lines.input.left ≡ Some (record { bytes = left; fault = a.fault })
   pub has_left : HasLeft s.dialect a.fault left later
   pub goes_on : GoesOn t.lines
@@ -51,12 +60,12 @@ pub record TakesEntry (names : Texts) (a : Ahead) (s : IterState) (entries : Lis
   pub remembers : RemembersEntry (names_of names s.remembered) (recalled_of s.remembered) (recalled_of t.remembered) entry
   pub dialect : t.dialect ≡ s.dialect
 
--- the item under this environment: the first of the entries left; none where there is none and no fault; or a fault of reading, which is told only where no entry is left
+-- the item under this environment: the first of the entries left; none where there is none and no fault; or a fault of reading, where the bytes before it decide no entry
 abbrev pub ItemIs : {A : Type 0} → Texts → Ahead → IterState → List Entry → Option (Result (String A × String A) (Error A)) → IterState → Type 0
 ItemIs names a s entries None t = (entries ≡ []) × (a.fault ≡ None) × (t.lines.stage ≡ Ended)
 ItemIs names a s entries (Some item) t =
     ((entry : Entry) × IsItem (names_of names s.remembered) entry item × TakesEntry names a s entries entry t)
-    ⊎ FailsFor a s.lines.input item (entries ≡ []) t.lines
+    ⊎ FailsFor a s.lines.input item (λ bytes. HasDecided s.dialect bytes []) t.lines
 
 -- the same of every iterator: one that has ended or failed gives none, and stays as it is
 abbrev pub NextItem : {A : Type 0} → Texts → IterState → Option (Result (String A × String A) (Error A)) → IterState → Type 0

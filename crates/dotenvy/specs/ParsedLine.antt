@@ -9,7 +9,7 @@ use Rattle.dotenvy.specs.Characters.{is_empty_or_comment}
 use Rattle.dotenvy.specs.Statement.{is_key, IsStatement}
 use Rattle.dotenvy.specs.Line.{Outcome, Nothing, Pair, Fault, trimmed}
 use Rattle.dotenvy.specs.Items.{LookUp, meaning}
-use Rattle.dotenvy.specs.Remembered.{remembered_of}
+use Rattle.dotenvy.specs.Remembered.{Remembered}
 
 -- the answer is what the line says, where names stand for these texts
 abbrev pub IsLineAnswer : {A : Type 0} → LookUp → Outcome → Result (Option (String A × String A)) (Error A) → Type 0
@@ -23,9 +23,9 @@ IsLineAnswer look_up (Fault text index) (Ok pair) = ⊥
 IsLineAnswer look_up (Fault text index) (Err e) = IsLineParseOf text index e
 
 -- a pair is remembered, with no value where nothing or a comment is assigned; else all stays
-abbrev pub Remembers : {A : Type 0} → List ℕ → List (String A × Option (String A)) → List (String A × Option (String A)) → Result (Option (String A × String A)) (Error A) → Type 0
+abbrev pub Remembers : {A : Type 0} → List ℕ → Remembered → Remembered → Result (Option (String A × String A)) (Error A) → Type 0
 Remembers line old new (Ok None) = new ≡ old
-Remembers line old new (Ok (Some pair)) = (rest : List ℕ) × IsStatement (trimmed line) (chars (string_bytes pair.0)) rest × (remembered_of new ≡ fin.insert (remembered_of old) (string_bytes pair.0) (if is_empty_or_comment rest then None else Some (string_bytes pair.1)))
+Remembers line old new (Ok (Some pair)) = (rest : List ℕ) × IsStatement (trimmed line) (chars (string_bytes pair.0)) rest × (new ≡ fin.insert old (string_bytes pair.0) (if is_empty_or_comment rest then None else Some (string_bytes pair.1)))
 Remembers line old new (Err e) = new ≡ old
 
 -- the key of a pair is one

@@ -5,6 +5,7 @@ use Rattle.std.specs.declared.io.ErrorKind.TheVariants.{Other}
 use Rattle.dotenvy.specs.declared.dialect.Dialect.{Dialect}
 use Rattle.dotenvy.specs.Entries.{Failure, Entry, Fails, Io, Memory, HasEntries}
 use Rattle.dotenvy.specs.Decided.{HasDecided}
+use Rattle.dotenvy.specs.Marks.{without_mark}
 use Rattle.dotenvy.specs.Source.{Ahead}
 use Rattle.dotenvy.specs.Input.{InputState, end_reads}
 
@@ -18,19 +19,23 @@ abbrev pub told_fault : Option ErrorKind → List Entry
 told_fault None = []
 told_fault (Some kind) = Fails (Io kind) ∷ []
 
--- a reading of a from s on is cut short by this failure: memory is refused, or the bound on reads is met, where each read gave a byte at least
-abbrev pub CutsShort : Ahead → InputState → Failure → Type 0
-CutsShort a s failure = (failure ≡ Memory) ⊎ ((failure ≡ Io Other) × (s.reads + s.unread + end_reads s.at_end ≤ length a.bytes))
-
--- some of the first entries, and then what cuts the reading short
-pub record IsCutShort (a : Ahead) (s : InputState) (entries read : List Entry) : Type 0 where
+-- memory is refused after some of the first entries
+pub record StopsAtMemory (entries read : List Entry) : Type 0 where
   pub front : List Entry
   pub back : List Entry
-  pub failure : Failure
   pub cut : entries ≡ front ++ back
-  pub ends : read ≡ front ++ Fails failure ∷ []
-  pub cuts_short : CutsShort a s failure
+  pub ends : read ≡ front ++ Fails Memory ∷ []
 
--- a reading of a from s on, where these are the entries left, gives all of them and the fault that is told, or is cut short
-abbrev pub IsReading : Ahead → InputState → List Entry → List Entry → Type 0
-IsReading a s entries read = (read ≡ entries ++ told_fault a.fault) ⊎ IsCutShort a s entries read
+-- a reading of a from s on, without a byte order mark at its front, stops at the bound on reads: after the entries that the bytes read so far decide, where each read gave a byte at least
+pub record StopsAtBound (dialect : Dialect) (a : Ahead) (s : InputState) (read : List Entry) : Type 0 where
+  pub bytes : List ℕ
+  pub later : List ℕ
+  pub cut : a.bytes ≡ bytes ++ later
+  pub each_gave : s.reads + s.unread + end_reads s.at_end ≤ length bytes
+  pub decided : List Entry
+  pub has_decided : HasDecided dialect (without_mark bytes) decided
+  pub ends : read ≡ decided ++ Fails (Io Other) ∷ []
+
+-- a reading of a from s on, where these are the entries without the byte order mark: all of them and the fault that is told; or it stops before
+abbrev pub IsReading : Dialect → Ahead → InputState → List Entry → List Entry → Type 0
+IsReading dialect a s entries read = (read ≡ entries ++ told_fault a.fault) ⊎ (StopsAtMemory entries read ⊎ StopsAtBound dialect a s read)

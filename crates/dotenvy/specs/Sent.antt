@@ -1,5 +1,10 @@
--- What a call that writes has appended to its sink.
-use Rattle.std.specs.Prelude.{ℕ, ◌≡◌, List, [], ◌++◌, Option, Some, None, Result, Ok, Err}
+-- What a call that writes has appended to its sink, and which errors it answers.
+use Rattle.std.specs.Prelude.{ℕ, ◌≡◌, ◌<◌, ◌^◌, ◌⊎◌, Bool, true, false, List, [], ◌++◌, length, Option, Some, None, Result, Ok, Err, IfErr}
+use Rattle.std.specs.IoError.{error_kind}
+use Rattle.std.specs.declared.io.Error.{Error as IoError}
+use Rattle.std.specs.declared.io.ErrorKind.TheVariants.{Other}
+use Rattle.dotenvy.specs.declared.errors.Error.{Error}
+use Rattle.dotenvy.specs.Errors.{IsMemory, IsIoOf}
 
 -- of these bytes all but `rest` were appended
 abbrev pub Appended : Option (List ℕ) → Option (List ℕ) → List ℕ → List ℕ → Type 0
@@ -10,3 +15,20 @@ Appended (Some held) after bytes rest = (front : List ℕ) × (bytes ≡ front +
 abbrev pub Sends : {E : Type 0} → Option (List ℕ) → Option (List ℕ) → List ℕ → Result (Unit {0}) E → Type 0
 Sends before after bytes (Ok done) = Appended before after bytes []
 Sends before after bytes (Err error) = (rest : List ℕ) × Appended before after bytes rest
+
+-- a fault of writing so many bytes by so many writes at most, where the sink told `before` whether a write has failed, and then `after`: if none had, one of these writes failed, or all of them were made, each took a byte at least, and bytes were left
+abbrev pub IsWriteFault : ℕ → ℕ → Bool → Bool → IoError → Type 0
+IsWriteFault most len before after e = before ≡ false → (after ≡ true) ⊎ ((error_kind e ≡ Other) × (most < len))
+
+-- the most writes that one call makes
+abbrev pub most_writes : ℕ
+most_writes = 2 ^ 32
+
+-- a fault of writing these bytes
+abbrev pub IsFaultOfWriting : {A W : Type 0} → (W → Bool) → W → W → List ℕ → Error A → Type 0
+IsFaultOfWriting has_failed old new bytes e = IsIoOf (IsWriteFault most_writes (length bytes) (has_failed old) (has_failed new)) e
+
+-- the bytes are built and then sent to a sink: if memory is refused, it stays as it was; any other error is a fault of writing
+pub record Writes {A W : Type 0} (held : W → Option (List ℕ)) (has_failed : W → Bool) (old new : W) (bytes : List ℕ) (answer : Result (Unit {0}) (Error A)) : Type 0 where
+  pub sends : Sends (held old) (held new) bytes answer
+  pub error : IfErr answer (λ e. (IsMemory e × (new ≡ old)) ⊎ IsFaultOfWriting has_failed old new bytes e)

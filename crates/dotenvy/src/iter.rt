@@ -1,6 +1,6 @@
 //! The pairs of an environment file, one at a time, and the two loads.
 
-ghost use Rattle.std.specs.Prelude.{◌≡◌, ◌≢◌, ◌<◌, ◌≤◌, IfErr, IfOk, IfSome, IsSome, IsTrue, None, Ok, chars, string_bytes};
+ghost use Rattle.std.specs.Prelude.{◌≡◌, ◌≢◌, ◌<◌, ◌≤◌, ◌↔◌, ◌⊎◌, Err, IfErr, IfOk, IfSome, IsSome, IsTrue, None, Ok, chars, string_bytes};
 ghost use Rattle.std.specs.Iterator.{at_most};
 ghost use Rattle.dotenvy.specs.declared.lines.Stage.TheVariants.{Failed, Open};
 ghost use Rattle.dotenvy.specs.Errors.{IsMemory, IsMemoryErr};
@@ -9,6 +9,10 @@ ghost use Rattle.dotenvy.specs.Environment.{KeepsNames};
 ghost use Rattle.dotenvy.specs.Statement.{is_key};
 ghost use Rattle.dotenvy.specs.Run.{Keep, Replace, run};
 ghost use Rattle.dotenvy.specs.Loads.{load_result, override_result};
+ghost use Rattle.dotenvy.specs.Line.{Outcome, Says};
+ghost use Rattle.dotenvy.specs.Names.{names_of};
+ghost use Rattle.dotenvy.specs.ParsedLine.{IsLineAnswer, Remembers, HasKey};
+ghost use Rattle.dotenvy.specs.LineItem.{AddsLine};
 ghost use Rattle.dotenvy.specs.NextItem.{NextItem};
 ghost use Rattle.dotenvy.specs.LoadsLeft.{ChangesKeys, LoadsLeft};
 
@@ -51,6 +55,13 @@ impl<R: Source, A: Allocator> Model for Iter<R, A> {
     ghost coded = { iter_code };
 
     ghost view = { λ s. record { lines = s.lines; remembered = remembered_of s.remembered.entries; dialect = s.dialect } };
+}
+
+// Whether memory was refused.
+fn is_refused<A: Allocator>(said: &ParsedLine<A>) -> bool
+    ensures { IsTrue result ↔ IsMemoryErr said.now }
+{
+    matches!(said, Err(Error::Memory(_)))
 }
 
 impl<R: Source, A: Allocator + Clone> Iter<R, A> {
@@ -103,30 +114,39 @@ impl<R: Source, A: Allocator + Clone> Iter<R, A> {
     ///     let (key, value) = item?;
     /// }
     /// ```
-    pub fn items<'a>(&'a mut self, env: &'a Environment<A>) -> Items<'a, R, A> {
+    pub fn items<'a>(&'a mut self, env: &'a Environment<A>) -> Items<'a, R, A>
+        ensures file { (result.file.now ≡ self.old) × (result.file.ghost_name ≡ self.entry.ghost_name) }
+        ensures env { result.env.now ≡ env.now }
+    {
         Items { file: self, env }
     }
 
-    // What a logical line adds to the items, if anything.
+    // What a logical line adds to the items, if anything. Refused memory is the last item.
     fn item_of(
         &mut self,
         line: Result<String<A>, A>,
         env: &Environment<A>,
     ) -> Option<Result<Pair<A>, A>>
+        ensures adds { AddsLine env.now.names self.old line result self.new }
+        ensures dialect { self.new.dialect ≡ self.old.dialect }
         ensures falls { item_fuel self.new ≤ item_fuel self.old }
         ensures memory { IfSome result (λ item. IsMemoryErr item → self.new.lines.stage ≡ Failed) }
         ensures key { IfSome result (λ item. IfOk item (λ pair. IsTrue (is_key (chars (string_bytes pair.0))))) }
     {
         let said = self.said_by(line, env);
-        if let Err(Error::Memory(_)) = said {
+        if is_refused(&said) {
             self.lines.fail();
         }
         said.transpose()
     }
 
+    // What a logical line says. Its own fault stays as it is.
     fn said_by(&mut self, line: Result<String<A>, A>, env: &Environment<A>) -> ParsedLine<A>
-        ensures same { self.new.lines ≡ self.old.lines }
-        ensures key { IfOk result (λ said. IfSome said (λ pair. IsTrue (is_key (chars (string_bytes pair.0))))) }
+        ensures says { IfOk line (λ text. IsMemoryErr result ⊎ ((outcome : Outcome) × Says self.old.dialect (chars (string_bytes text)) outcome × IsLineAnswer (names_of env.now.names self.old.remembered) outcome result)) }
+        ensures remembers { IfOk line (λ text. Remembers (chars (string_bytes text)) self.old.remembered self.new.remembered result) }
+        ensures fault { IfErr line (λ e. (result ≡ Err e) × (self.new.remembered ≡ self.old.remembered)) }
+        ensures same { (self.new.lines ≡ self.old.lines) × (self.new.dialect ≡ self.old.dialect) }
+        ensures key { IfOk result HasKey }
     {
         let text = line?;
         let alloc = self.lines.allocator().clone()?;
@@ -158,7 +178,7 @@ impl<R: Source + Drop, A: Allocator + Clone> Iter<R, A> {
         ensures mark { env.new.loaded ≡ env.old.loaded }
     {
         self.lines.drop_mark()?;
-        'items: while let Some(item) = self.next_item(env) {
+        'keeping: while let Some(item) = self.next_item(env) {
             let (key, value) = item?;
             if !env.contains(key.as_str()) {
                 env.set(key, value)?;
@@ -179,7 +199,7 @@ impl<R: Source + Drop, A: Allocator + Clone> Iter<R, A> {
         ensures mark { env.new.loaded ≡ env.old.loaded }
     {
         self.lines.drop_mark()?;
-        'items: while let Some(item) = self.next_item(env) {
+        'replacing: while let Some(item) = self.next_item(env) {
             let (key, value) = item?;
             env.set(key, value)?;
         }
@@ -197,7 +217,7 @@ pub struct Items<'a, R: Source, A: Allocator = Global> {
 impl<'a, R: Source, A: Allocator + Clone> Iterator for Items<'a, R, A> {
     type Item = Result<(String<A>, String<A>), A>;
 
-    ghost next_gives = { λ s item t. NextItem s.env.now.names s.file.now item t.file.now };
+    ghost next_gives = { λ s item t. NextItem s.env.now.names s.file.now item t.file.now × (t.file.ghost_name ≡ s.file.ghost_name) × (t.env.now ≡ s.env.now) };
 
     ghost remaining = { λ s. at_most (item_fuel s.file.now) };
 

@@ -173,7 +173,7 @@ pub(crate) fn parse_line<A: Allocator + Clone>(
     dialect: Dialect,
 ) -> ParsedLine<A>
     ensures answer { IsMemoryErr result ⊎ ((outcome : Outcome) × Says dialect (chars line.now) outcome × IsLineAnswer (names_of environment.now.names (remembered_of remembered.old.entries)) outcome result) }
-    ensures remembers { Remembers (chars line.now) remembered.old.entries remembered.new.entries result }
+    ensures remembers { Remembers (chars line.now) (remembered_of remembered.old.entries) (remembered_of remembered.new.entries) result }
     ensures key { IfOk result HasKey }
 {
     let names = Names {

@@ -1,9 +1,14 @@
 //! The written form of pairs, and the listing of a file.
 
-ghost use Rattle.std.specs.Prelude.{◌≡◌, ◌++◌, IfOk, OnOk, IsTrue, chars, string_bytes};
-ghost use Rattle.std.specs.FinMap as map;
+ghost use Rattle.std.specs.Prelude.{◌≡◌, ◌≤◌, ◌+◌, ◌++◌, ◌∷◌, [], length, IfOk, IfErr, IsTrue, chars, encode_utf8_all, string_bytes, string_len};
+ghost use Rattle.std.specs.String.{string_capacity};
 ghost use Rattle.dotenvy.specs.Statement.{is_key};
-ghost use Rattle.dotenvy.specs.Sent.{Sends};
+ghost use Rattle.dotenvy.specs.Characters.{byte_len};
+ghost use Rattle.dotenvy.specs.Names.{saturated};
+ghost use Rattle.dotenvy.specs.Errors.{IsIoOf};
+ghost use Rattle.dotenvy.specs.Written.{needs_backslash, written_character, written_text, written_bytes};
+ghost use Rattle.dotenvy.specs.Sent.{Sends, IsWriteFault, Writes};
+ghost use Rattle.dotenvy.specs.Listed.{AreTexts, pairs_of, Lists, ListsSome};
 
 use crate::dialect::Dialect;
 use crate::environment::Environment;
@@ -17,12 +22,16 @@ use std::io::ErrorKind;
 // The most writes that one call makes.
 const MOST_WRITES: u64 = 4_294_967_296;
 
-fn needs_backslash(c: char) -> bool {
+fn needs_backslash(c: char) -> bool
+    ensures { result ≡ needs_backslash c }
+{
     matches!(c, '\\' | '"' | '$')
 }
 
 // How many bytes the written form of a pair takes, or the greatest number where that is more.
-fn written_len(key: &str, text: &str) -> usize {
+fn written_len(key: &str, text: &str) -> usize
+    ensures { result ≡ saturated (byte_len (written_text ((chars key.now, chars text.now) ∷ []))) }
+{
     let escaped = text.chars().filter(|c| needs_backslash(*c)).count();
     let around = "=\"\"\n".len();
     key.len()
@@ -31,23 +40,36 @@ fn written_len(key: &str, text: &str) -> usize {
         .saturating_add(around)
 }
 
-fn push_written<A: Allocator>(
-    out: &mut String<A>,
-    key: &str,
-    text: &str,
-) -> std::result::Result<(), AllocError> {
-    out.push_str(key)?;
-    out.push_str("=\"")?;
-    'characters: for c in text.chars() {
-        if needs_backslash(c) {
-            out.push('\\')?;
-        }
-        out.push(c)?;
+// Appends a character of a value, as it is written, to a text that has room for it.
+fn push_character<A: Allocator>(out: &mut String<A>, c: char)
+    requires { string_len out.old + byte_len (written_character c) ≤ string_capacity out.old }
+    ensures bytes { string_bytes out.new ≡ string_bytes out.old ++ encode_utf8_all (written_character c) }
+    ensures capacity { string_capacity out.old ≤ string_capacity out.new }
+{
+    if needs_backslash(c) {
+        out.push('\\').unwrap();
     }
-    out.push_str("\"\n")
+    out.push(c).unwrap();
 }
 
-fn listing_len<A: Allocator>(env: &Environment<A>) -> usize {
+// Appends the written form of a pair to a text that has room for it.
+fn push_written<A: Allocator>(out: &mut String<A>, key: &str, text: &str)
+    requires { string_len out.old + byte_len (written_text ((chars key.now, chars text.now) ∷ [])) ≤ string_capacity out.old }
+    ensures bytes { string_bytes out.new ≡ string_bytes out.old ++ written_bytes ((chars key.now, chars text.now) ∷ []) }
+    ensures capacity { string_capacity out.old ≤ string_capacity out.new }
+{
+    out.push_str(key).unwrap();
+    out.push_str("=\"").unwrap();
+    'characters: for c in text.chars() {
+        push_character(out, c);
+    }
+    out.push_str("\"\n").unwrap();
+}
+
+fn listing_len<A: Allocator>(env: &Environment<A>) -> usize
+    ensures len { result ≡ saturated (byte_len (written_text (pairs_of env.now.names))) }
+    ensures texts { AreTexts env.now.names }
+{
     let mut len = 0usize;
     'pairs: for (key, value) in env.iter() {
         len = len.saturating_add(written_len(key.as_str(), value.as_str()));
@@ -59,17 +81,21 @@ fn listing_len<A: Allocator>(env: &Environment<A>) -> usize {
 fn listing<A: Allocator + Clone>(
     alloc: A,
     env: &Environment<A>,
-) -> std::result::Result<String<A>, AllocError> {
+) -> std::result::Result<String<A>, AllocError>
+    ensures bytes { IfOk result (λ text. string_bytes text ≡ written_bytes (pairs_of env.now.names)) }
+    ensures texts { AreTexts env.now.names }
+{
     let mut out = String::with_capacity(alloc, listing_len(env))?;
     'pairs: for (key, value) in env.iter() {
-        push_written(&mut out, key.as_str(), value.as_str())?;
+        push_written(&mut out, key.as_str(), value.as_str());
     }
     Ok(out)
 }
 
 // Writes all of the bytes, in at most `writes_left` writes.
 fn write_all<W: Sink, A: Allocator>(writer: &mut W, bytes: &[u8], writes_left: u64) -> Result<(), A>
-    ensures { Sends (W.held writer.old) (W.held writer.new) bytes.now result }
+    ensures sends { Sends (W.held writer.old) (W.held writer.new) bytes.now result }
+    ensures fault { IfErr result (IsIoOf (IsWriteFault writes_left (length bytes.now) (W.has_failed writer.old) (W.has_failed writer.new))) }
 {
     let mut rest = bytes;
     'writes: for _ in 0..writes_left {
@@ -108,9 +134,10 @@ pub fn write_pair<W: Sink, A: Allocator + Clone>(
     text: &str,
 ) -> Result<(), A>
     requires { IsTrue (is_key (chars key.now)) }
+    ensures { Writes W.held W.has_failed writer.old writer.new (written_bytes ((chars key.now, chars text.now) ∷ [])) result }
 {
     let mut out = String::with_capacity(alloc, written_len(key, text))?;
-    push_written(&mut out, key, text)?;
+    push_written(&mut out, key, text);
     write_all(writer, out.as_bytes(), MOST_WRITES)
 }
 
@@ -127,7 +154,10 @@ pub fn list<R: Source + Drop, W: Sink, A: Allocator + Clone>(
     alloc: A,
     reader: R,
     writer: &mut W,
-) -> Result<(), A> {
+) -> Result<(), A>
+    ensures lists { Lists Dialect.V15 (R.ahead reader) W.held W.has_failed writer.old writer.new result }
+    ensures some { ListsSome W.held W.has_failed writer.old writer.new result }
+{
     list_with(alloc, reader, writer, Dialect::V15)
 }
 
@@ -137,9 +167,15 @@ pub fn list_with<R: Source + Drop, W: Sink, A: Allocator + Clone>(
     reader: R,
     writer: &mut W,
     dialect: Dialect,
-) -> Result<(), A> {
+) -> Result<(), A>
+    ensures lists { Lists dialect (R.ahead reader) W.held W.has_failed writer.old writer.new result }
+    ensures some { ListsSome W.held W.has_failed writer.old writer.new result }
+{
     let mut env = Environment::new(alloc.clone()?);
     Iter::with_dialect(alloc.clone()?, reader, dialect)?.load(&mut env)?;
     let text = listing(alloc, &env)?;
     write_all(writer, text.as_bytes(), MOST_WRITES)
 }
+
+#[cfg(test)]
+mod tests;

@@ -1,4 +1,4 @@
-use Rattle.std.proofs.Common.{arith, subst, sym, inl}
+use Rattle.std.proofs.Common.{arith, subst, sym, ◌∙◌, inl}
 use Rattle.std.proofs.lemmas.Result.{err_from_is_err_and}
 use Rattle.std.specs.Prelude.{List, ℕ}
 use Rattle.dotenvy.proofs.Inputs.{Reading, reading_start, reading_moves, reading_whole, reading_ends, reading_more, reading_fails}
@@ -18,7 +18,7 @@ returns-then-branch-clause-told g c = λ a told. reading_whole a c.args.self.now
 pub returns-then-is_at_end-clause-told : goal.returns-then-is_at_end-clause-told
 returns-then-is_at_end-clause-told g c = λ a told.
     let m = reading_moves a c.args.self.now c.reading.self c.move_to_line.new.self c.reading.line.items c.move_to_line.new.line.items c.in_ok-move_to_line.field-0 c.if-branch.false (c.reading.invariant.1 a told) c.in_ok-move_to_line.ensures.told in
-    reading_ends a c.args.self.now c.move_to_line.new.self c.move_to_line.new.line.items m.0 m.1 (λ b left. c.is_at_end.ensures.told b left c.if-is_at_end.true)
+    reading_ends a c.args.self.now c.move_to_line.new.self c.move_to_line.new.line.items m.0 m.1 (sym c.is_at_end.ensures.value ∙ c.if-is_at_end.true) (λ b left. c.is_at_end.ensures.told b left c.if-is_at_end.true)
 
 pub reading-smaller : goal.reading-smaller
 reading-smaller g c = let f = c.in_ok-read_more.ensures.falls in let s = c.move_to_line.ensures.supply in omega (arith, f, s)

@@ -1,0 +1,237 @@
+-- The next item: the lines that add nothing are passed, and the first that adds one gives it.
+use Rattle.std.proofs.Common.{◌≡◌, ◌≢◌, ℕ, ◌+◌, ◌≤◌, true, false, List, [], ◌∷◌, ◌++◌, length, length-append, append_assoc, Option, Some, None, Result, Ok, Err, ◌⊎◌, inl, inr, refl, sym, ◌∙◌, ap, subst, arith, string_bytes}
+use Rattle.std.specs.Str.{chars}
+use Rattle.std.specs.declared.string.String.{String}
+use Rattle.std.specs.declared.io.ErrorKind.{ErrorKind}
+use Rattle.std.specs.declared.io.ErrorKind.TheVariants.{InvalidData}
+use Rattle.std.specs.Prelude.{is_some}
+use Rattle.std.proofs.lemmas.Str.{chars-nil}
+use Rattle.std.proofs.lemmas.Option.{none-some}
+use Rattle.dotenvy.specs.declared.dialect.Dialect.{Dialect}
+use Rattle.dotenvy.specs.declared.errors.Error.{Error}
+use Rattle.dotenvy.specs.declared.errors.Error.TheVariants.{LineParse, Io, EnvVar, Nul, Memory}
+use Rattle.dotenvy.specs.declared.lines.Stage.TheVariants.{Open, Ended, Failed}
+use Rattle.dotenvy.specs.LogicalLine.{Logical, Skip, Text, Open as OpenEnd, Broken}
+use Rattle.dotenvy.specs.Line.{Outcome, Nothing, Says}
+use Rattle.dotenvy.specs.Entries.{Entry, Fails, LineParse as FailsLine, Io as FailsIo, outcome_entries, Gives}
+use Rattle.dotenvy.specs.PhysicalLines.{line_texts}
+use Rattle.dotenvy.specs.Decided.{HasDecided}
+use Rattle.dotenvy.specs.Environment.{Texts}
+use Rattle.dotenvy.specs.Source.{Ahead}
+use Rattle.dotenvy.specs.Input.{InputState, IsTold, ReadsFit, IsFinal, end_reads}
+use Rattle.dotenvy.specs.Lines.{LinesState, whole_lines, lines_so_far, IsOpen, IsAtEnd, IsNextAlways, TakesNext, TakesAnswer, IsUndecided, GoesOn, FailsFor, NextIs}
+use Rattle.dotenvy.specs.Reading.{HasLeft}
+use Rattle.dotenvy.specs.Names.{recalled_of}
+use Rattle.dotenvy.specs.Iter.{IterState}
+use Rattle.dotenvy.specs.NextItem.{text_of, DecideFirst, ItemIs}
+use Rattle.dotenvy.specs.LineItem.{lines_after, AddsEntries, IsRefused, AddsLine}
+use Rattle.dotenvy.proofs.Inputs.{fits_more, final_before}
+use Rattle.dotenvy.proofs.LineEntries.{left_once, left_exists, left-none, left-next, decided-next, decided-none}
+use Rattle.dotenvy.proofs.Outcomes.{one_outcome}
+
+abbrev ahead_of : List ℕ → Option ErrorKind → Ahead
+ahead_of bytes fault = record { bytes = bytes; fault = fault }
+
+-- from s, where these entries are left, lines that add nothing were passed
+pub record Passed (a : Ahead) (s : IterState) (entries : List Entry) (t : IterState) : Type 0 where
+  pub used : List ℕ
+  pub left : List ℕ
+  pub joins : a.bytes ≡ used ++ left
+  pub stays : IsAtEnd a.fault left t.lines.input ⊎ DecideFirst s.dialect used []
+  pub is_left : t.lines.input.left ≡ Some (record { bytes = left; fault = a.fault })
+  pub has_left : HasLeft s.dialect a.fault left entries
+  pub goes_on : GoesOn t.lines
+  pub reads : ReadsFit a s.lines.input (record { bytes = left; fault = a.fault }) t.lines.input
+  pub remembered : t.remembered ≡ s.remembered
+  pub dialect : t.dialect ≡ s.dialect
+
+-- at first none
+pub none_passed : (a : Ahead) (s : IterState) (entries : List Entry) → s.lines.stage ≡ Open → s.lines.input.left ≡ Some a → HasLeft s.dialect a.fault a.bytes entries → Passed a s entries s
+none_passed a s entries is_open told has = record {
+  used = [];
+  left = a.bytes;
+  joins = refl;
+  stays = inr (λ more decided has. has);
+  is_left = told;
+  has_left = has;
+  goes_on = inl is_open;
+  reads = omega arith;
+  remembered = refl;
+  dialect = refl;
+}
+
+some_left : (a b : Ahead) (o : Option Ahead) → o ≡ Some a → o ≡ Some b → a ≡ b
+some_left a b o h k = cc
+
+no_entries : (dialect : Dialect) (fault : Option ErrorKind) (left : List ℕ) (entries : List Entry) → HasLeft dialect fault left entries → left ≡ [] → fault ≡ None → entries ≡ []
+no_entries dialect fault left entries has empty none = left_once dialect fault left entries [] has (left-none dialect fault left empty none)
+
+-- where no line is left there is no entry and no fault
+pub passed_all : (a : Ahead) (s t : IterState) (u : LinesState) (entries : List Entry) → (p : Passed a s entries t) →
+    (t.lines.stage ≢ Open → u ≡ t.lines) →
+    (t.lines.stage ≡ Open → (p.left ≡ []) × (a.fault ≡ None) × (u.stage ≡ Ended)) → (entries ≡ []) × (a.fault ≡ None) × (u.stage ≡ Ended)
+passed_all a s t u entries p shut told = at p.goes_on
+  where
+    at : GoesOn t.lines → (entries ≡ []) × (a.fault ≡ None) × (u.stage ≡ Ended)
+    at (inl is_open) = let e = told is_open in (no_entries s.dialect a.fault p.left entries p.has_left e.0 e.1, e.1, e.2)
+    at (inr (ended, nothing)) =
+        let same = some_left (ahead_of p.left a.fault) (ahead_of [] None) t.lines.input.left p.is_left nothing in
+        let not_open : t.lines.stage ≢ Open = λ h. (let f : Ended ≡ Open = sym ended ∙ h in cc) in
+        (no_entries s.dialect a.fault p.left entries p.has_left (ap (λ b. b.bytes) same) (ap (λ b. b.fault) same), ap (λ b. b.fault) same, ap (λ l. l.stage) (shut not_open) ∙ ended)
+
+-- a logical line was taken: the entries left are its own, and then those of what it leaves
+took : (dialect : Dialect) (fault : Option ErrorKind) (bytes : List ℕ) (entries : List Entry) (s t : InputState) (next : Logical) (front : List Entry) → (k : TakesNext (record { bytes = bytes; fault = fault }) s next t) → Gives dialect next front → HasLeft dialect fault bytes entries → (later : List Entry) × HasLeft dialect fault k.left later × (entries ≡ front ++ later)
+took dialect fault bytes entries s t next front k gives has =
+    let l = left_exists dialect fault k.left in
+    (l.0, l.1, left_once dialect fault bytes entries (front ++ l.0) has (left-next dialect fault bytes s t next front l.0 k gives l.1))
+
+-- what one more line leads to: an item, or all that was passed
+abbrev pub LeadsTo : {A : Type 0} → Texts → Ahead → IterState → List Entry → Option (Result (String A × String A) (Error A)) → IterState → Type 0
+LeadsTo names a s entries None v = Passed a s entries v
+LeadsTo names a s entries (Some item) v = ItemIs names a s entries (Some item) v
+
+-- with one more logical line
+decide_more : (dialect : Dialect) (used bytes : List ℕ) (count : ℕ) (next : Logical) (front : List Entry) → DecideFirst dialect used [] → (IsOpen next → ⊥) → IsNextAlways bytes count next → Gives dialect next front → DecideFirst dialect (used ++ bytes) front
+decide_more dialect used bytes count next front first no_open always gives more decided has =
+    subst (λ all. HasDecided dialect all (front ++ decided)) (sym (append_assoc used bytes more)) (first (bytes ++ more) (front ++ decided) (decided-next dialect bytes more count next front decided no_open always gives has))
+
+no_lines : (fault : Option ErrorKind) (left : List ℕ) → left ≡ [] → whole_lines (ahead_of left fault) ≡ []
+no_lines None left empty = ap line_texts empty
+no_lines (Some kind) left empty = ap lines_so_far empty
+
+-- the bytes before which a line was taken decide what was passed
+passed_stays : (a : Ahead) (s t : IterState) (entries : List Entry) (next : Logical) (m : InputState) → (p : Passed a s entries t) → TakesNext (record { bytes = p.left; fault = a.fault }) t.lines.input next m → DecideFirst s.dialect p.used []
+passed_stays a s t entries next m p k = elim p.stays [ inl ended ↦ absurd (k.some (no_lines a.fault p.left ended.1)) | inr first ↦ first ]
+
+taken_stays : (a : Ahead) (s t : IterState) (entries front : List Entry) (next : Logical) (m : InputState) → (p : Passed a s entries t) → (k : TakesNext (record { bytes = p.left; fault = a.fault }) t.lines.input next m) → Gives s.dialect next front → IsAtEnd a.fault k.left m ⊎ DecideFirst s.dialect (p.used ++ k.used) front
+taken_stays a s t entries front next m p k gives = elim k.stays [ inl ended ↦ inl ended | inr always ↦ inr (decide_more s.dialect p.used k.used k.count next front (passed_stays a s t entries next m p k) always.0 always.1 gives) ]
+
+taken_joins : (a : Ahead) (s t : IterState) (entries : List Entry) (next : Logical) (m : InputState) → (p : Passed a s entries t) → (k : TakesNext (record { bytes = p.left; fault = a.fault }) t.lines.input next m) → a.bytes ≡ (p.used ++ k.used) ++ k.left
+taken_joins a s t entries next m p k = p.joins ∙ ap (λ bytes. p.used ++ bytes) k.joins ∙ sym (append_assoc p.used k.used k.left)
+
+-- a line whose own entries are these was taken
+added : {A : Type 0} (names : Texts) (a : Ahead) (s t v : IterState) (m : LinesState) (entries front : List Entry) (next : Logical) (item : Option (Result (String A × String A) (Error A))) → (p : Passed a s entries t) → TakesNext (record { bytes = p.left; fault = a.fault }) t.lines.input next m.input → GoesOn m → Gives s.dialect next front → AddsEntries names s.remembered front item v.remembered → v.lines ≡ m → v.dialect ≡ s.dialect → LeadsTo names a s entries item v
+added names a s t v m entries [] next None p k goes_on gives adds lines dialect =
+    let l = took s.dialect a.fault p.left entries t.lines.input m.input next [] k gives p.has_left in record {
+      used = p.used ++ k.used;
+      left = k.left;
+      joins = taken_joins a s t entries next m.input p k;
+      stays = subst (λ n. IsAtEnd a.fault k.left n.input ⊎ DecideFirst s.dialect (p.used ++ k.used) []) (sym lines) (taken_stays a s t entries [] next m.input p k gives);
+      is_left = ap (λ n. n.input.left) lines ∙ k.is_left;
+      has_left = subst (HasLeft s.dialect a.fault k.left) (sym l.2) l.1;
+      goes_on = subst GoesOn (sym lines) goes_on;
+      reads = subst (λ n. ReadsFit a s.lines.input (ahead_of k.left a.fault) n.input) (sym lines) (fits_more a (ahead_of p.left a.fault) (ahead_of k.left a.fault) s.lines.input t.lines.input m.input p.reads k.reads);
+      remembered = adds;
+      dialect = dialect;
+    }
+added names a s t v m entries [] next (Some item) p k goes_on gives adds lines dialect = absurd adds
+added names a s t v m entries (entry ∷ later) next None p k goes_on gives adds lines dialect = absurd adds
+added names a s t v m entries (entry ∷ later) next (Some item) p k goes_on gives (one, is, remembers) lines dialect =
+    let l = took s.dialect a.fault p.left entries t.lines.input m.input next (entry ∷ later) k gives p.has_left in
+    inl (
+      entry,
+      is,
+      record {
+        later = l.0;
+        first = l.2 ∙ ap (λ es. entry ∷ (es ++ l.0)) one;
+        used = p.used ++ k.used;
+        left = k.left;
+        joins = taken_joins a s t entries next m.input p k;
+        stays = subst (λ n. IsAtEnd a.fault k.left n.input ⊎ DecideFirst s.dialect (p.used ++ k.used) (entry ∷ [])) (sym lines) (subst (λ es. IsAtEnd a.fault k.left m.input ⊎ DecideFirst s.dialect (p.used ++ k.used) (entry ∷ es)) one (taken_stays a s t entries (entry ∷ later) next m.input p k gives));
+        is_left = ap (λ n. n.input.left) lines ∙ k.is_left;
+        has_left = l.1;
+        goes_on = subst GoesOn (sym lines) goes_on;
+        reads = subst (λ n. ReadsFit a s.lines.input (ahead_of k.left a.fault) n.input) (sym lines) (fits_more a (ahead_of p.left a.fault) (ahead_of k.left a.fault) s.lines.input t.lines.input m.input p.reads k.reads);
+        remembers = remembers;
+        dialect = dialect;
+      },
+    )
+
+-- a text was taken, and adds what it says
+text_added : {A : Type 0} (names : Texts) (a : Ahead) (s t v : IterState) (m : LinesState) (entries : List Entry) (text : String A) (outcome : Outcome) (item : Option (Result (String A × String A) (Error A))) → (p : Passed a s entries t) → NextIs (record { bytes = p.left; fault = a.fault }) t.lines.input (Some (Ok text)) m → Says s.dialect (chars (string_bytes text)) outcome → AddsEntries names s.remembered (outcome_entries outcome) item v.remembered → v.lines ≡ m → v.dialect ≡ s.dialect → LeadsTo names a s entries item v
+text_added names a s t v m entries text outcome item p (inl (inl (empty, k), goes_on)) says adds lines dialect =
+    let nothing : outcome ≡ Nothing = one_outcome s.dialect [] outcome Nothing (subst (λ cs. Says s.dialect cs outcome) (ap chars empty ∙ chars-nil) says) refl in
+    added names a s t v m entries (outcome_entries outcome) Skip item p k goes_on (ap outcome_entries nothing) adds lines dialect
+text_added names a s t v m entries text outcome item p (inl (inr k, goes_on)) says adds lines dialect = added names a s t v m entries (outcome_entries outcome) (Text (chars (string_bytes text))) item p k goes_on (outcome, says, refl) adds lines dialect
+text_added names a s t v m entries text outcome item p (inr fails) says adds lines dialect = absurd fails
+
+-- refused memory is a final fault
+refused_leads : {A : Type 0} (names : Texts) (a : Ahead) (s v : IterState) (entries : List Entry) (item : Option (Result (String A × String A) (Error A))) → IsRefused item v.lines → LeadsTo names a s entries item v
+refused_leads names a s v entries None is = absurd is
+refused_leads names a s v entries (Some (Ok pair)) is = absurd is.0
+refused_leads names a s v entries (Some (Err e)) is = inr (is.1, inl is.0)
+
+-- a fault of the grammar was taken, and adds itself
+fault_added : {A : Type 0} (names : Texts) (a : Ahead) (s t v : IterState) (m : LinesState) (entries : List Entry) (e : Error A) → (p : Passed a s entries t) → TakesAnswer {A = A} (record { bytes = p.left; fault = a.fault }) t.lines.input (Err e) m.input → GoesOn m → v.remembered ≡ s.remembered → v.lines ≡ lines_after e m → v.dialect ≡ s.dialect → LeadsTo names a s entries (Some (Err e)) v
+fault_added names a s t v m entries (LineParse text index) p k goes_on remembered lines dialect = added names a s t v m entries (Fails (FailsLine (chars (string_bytes text)) index) ∷ []) (OpenEnd (chars (string_bytes text)) index) (Some (Err (LineParse text index))) p k goes_on refl (refl, (refl, refl), λ name. ap (λ r. text_of (recalled_of r) name) remembered) lines dialect
+fault_added names a s t v m entries (Io e) p k goes_on remembered lines dialect = added names a s t v m entries (Fails (FailsIo InvalidData) ∷ []) Broken (Some (Err (Io e))) p k.1 goes_on refl (refl, k.0, λ name. ap (λ r. text_of (recalled_of r) name) remembered) lines dialect
+fault_added names a s t v m entries (EnvVar e) p k goes_on remembered lines dialect = absurd k
+fault_added names a s t v m entries (Nul key) p k goes_on remembered lines dialect = absurd k
+fault_added names a s t v m entries (Memory e) p k goes_on remembered lines dialect = absurd k
+
+after_failed : {A : Type 0} (e : Error A) (m : LinesState) → m.stage ≡ Failed → (lines_after e m).stage ≡ Failed
+after_failed (LineParse text index) m h = h
+after_failed (Io e) m h = h
+after_failed (EnvVar e) m h = h
+after_failed (Nul key) m h = h
+after_failed (Memory e) m h = refl
+
+after_input : {A : Type 0} (e : Error A) (m : LinesState) → (lines_after e m).input ≡ m.input
+after_input (LineParse text index) m = refl
+after_input (Io e) m = refl
+after_input (EnvVar e) m = refl
+after_input (Nul key) m = refl
+after_input (Memory e) m = refl
+
+-- where no logical line is whole before a fault, nothing more is decided
+none_decided : (dialect : Dialect) (fault : Option ErrorKind) (kind : ErrorKind) (t : InputState) (used left front later : List ℕ) → left ≡ front ++ later → (fault ≡ Some kind) ⊎ (t.reads + t.unread + end_reads t.at_end ≤ length front) → IsAtEnd fault left t ⊎ DecideFirst dialect used [] → IsUndecided front → HasDecided dialect (used ++ front) []
+none_decided dialect fault kind t used left front later cut why (inr first) undecided = first front [] (decided-none dialect front undecided)
+none_decided dialect fault kind t used left front later cut (inl told) (inl ended) undecided = absurd (none-some kind (sym ended.0 ∙ told))
+none_decided dialect fault kind t used left front later cut (inr each) (inl ended) undecided =
+    let read = ap end_reads ended.2 in
+    let empty = ap length (sym cut ∙ ended.1) in
+    absurd (omega (arith, each, read, empty, length-append front later))
+
+-- a final fault adds itself, and the bytes before it decide no entry
+final_added : {A : Type 0} (names : Texts) (a : Ahead) (s t v : IterState) (m : LinesState) (entries : List Entry) (e : Error A) → (p : Passed a s entries t) → FailsFor {T = String A} (record { bytes = p.left; fault = a.fault }) t.lines.input (Err e) IsUndecided m → v.lines ≡ lines_after e m → LeadsTo names a s entries (Some (Err e)) v
+final_added names a s t v m entries e p (failed, final) lines =
+    let b = ahead_of p.left a.fault in
+    inr (
+      ap (λ n. n.stage) lines ∙ after_failed e m failed,
+      subst (λ n. IsFinal a s.lines.input (λ bytes. HasDecided s.dialect bytes []) e n) (sym (ap (λ n. n.input) lines ∙ after_input e m))
+          (final_before a b s.lines.input t.lines.input m.input IsUndecided (λ bytes. HasDecided s.dialect bytes []) p.used e p.joins refl p.reads
+          (λ kind front later cut why undecided. none_decided s.dialect a.fault kind t.lines.input p.used p.left front later cut why p.stays undecided)
+          final),
+    )
+
+-- one more line
+pub line_leads : {A : Type 0} (names : Texts) (a : Ahead) (s t v : IterState) (m : LinesState) (entries : List Entry) (line : Result (String A) (Error A)) (item : Option (Result (String A × String A) (Error A))) → (p : Passed a s entries t) → NextIs (record { bytes = p.left; fault = a.fault }) t.lines.input (Some line) m → AddsLine names (record { lines = m; remembered = s.remembered; dialect = s.dialect }) line item v → v.dialect ≡ s.dialect → LeadsTo names a s entries item v
+line_leads names a s t v m entries (Ok text) item p next (inl refused) dialect = refused_leads names a s v entries item refused
+line_leads names a s t v m entries (Ok text) item p next (inr (outcome, says, adds, lines)) dialect = text_added names a s t v m entries text outcome item p next says adds lines dialect
+line_leads names a s t v m entries (Err e) item p (inl (takes, goes_on)) (is, remembered, lines) dialect = subst (λ i. LeadsTo names a s entries i v) (sym is) (fault_added names a s t v m entries e p takes goes_on remembered lines dialect)
+line_leads names a s t v m entries (Err e) item p (inr fails) (is, remembered, lines) dialect = subst (λ i. LeadsTo names a s entries i v) (sym is) (final_added names a s t v m entries e p fails lines)
+
+-- one more line of the code, whose splitter has what is left
+pub next_leads : {A : Type 0} (names : Texts) (s t v : IterState) (m : LinesState) (line : Result (String A) (Error A)) (item : Option (Result (String A × String A) (Error A))) →
+    (t.lines.stage ≢ Open → ◌≡◌ {A = Option (Result (String A) (Error A))} (Some line) None) →
+    ((b : Ahead) → t.lines.stage ≡ Open → IsTold t.lines.input.left b → NextIs b t.lines.input (Some line) m) →
+    AddsLine names (record { lines = m; remembered = t.remembered; dialect = t.dialect }) line item v →
+    v.dialect ≡ t.dialect → (a : Ahead) → IsTold s.lines.input.left a → (entries : List Entry) → Passed a s entries t → LeadsTo names a s entries item v
+next_leads names s t v m line item shut next adds dialect a told entries p =
+    let from_s : IterState = record { lines = m; remembered = s.remembered; dialect = s.dialect } in
+    let same : from_s ≡ record { lines = m; remembered = t.remembered; dialect = t.dialect } = sym (ap (λ r. record { lines = m; remembered = r; dialect = t.dialect }) p.remembered ∙ ap (λ d. record { lines = m; remembered = s.remembered; dialect = d }) p.dialect) in
+    line_leads names a s t v m entries line item p (next (ahead_of p.left a.fault) (goes p.goes_on) (p.is_left, told.1)) (subst (λ f. AddsLine names f line item v) (sym same) adds) (dialect ∙ p.dialect)
+  where
+    goes : GoesOn t.lines → t.lines.stage ≡ Open
+    goes (inl is_open) = is_open
+    goes (inr (ended, nothing)) = absurd (none-some line (sym (shut (λ h. (let f : Ended ≡ Open = sym ended ∙ h in cc)))))
+
+-- where an item came, it is the next one
+pub leads_item : {A : Type 0} (names : Texts) (a : Ahead) (s v : IterState) (entries : List Entry) (item : Option (Result (String A × String A) (Error A))) → is_some item ≡ true → LeadsTo names a s entries item v → ItemIs names a s entries item v
+leads_item names a s v entries None is l = cc
+leads_item names a s v entries (Some item) is l = l
+
+-- where none came, the line was passed
+pub leads_on : {A : Type 0} (names : Texts) (a : Ahead) (s v : IterState) (entries : List Entry) (item : Option (Result (String A × String A) (Error A))) → is_some item ≡ false → LeadsTo names a s entries item v → Passed a s entries v
+leads_on names a s v entries None is l = l
+leads_on names a s v entries (Some item) is l = cc

@@ -1,0 +1,5 @@
+use Rattle.dotenvy.proofs.ItemRuns as runs
+use Rattle.dotenvy.proofs.laws.items_in_order.Goals as goal
+
+pub returns : goal.returns
+returns g c = runs.items_in_order

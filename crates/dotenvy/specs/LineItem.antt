@@ -1,0 +1,43 @@
+-- What the answer to one logical line adds to the items.
+use Rattle.std.specs.Prelude.{◌≡◌, ◌⊎◌, List, [], ◌∷◌, Option, Some, None, Result, Ok, Err, string_bytes}
+use Rattle.std.specs.Str.{chars}
+use Rattle.std.specs.declared.string.String.{String}
+use Rattle.dotenvy.specs.declared.errors.Error.{Error}
+use Rattle.dotenvy.specs.declared.errors.Error.TheVariants.{LineParse, Io, EnvVar, Nul, Memory}
+use Rattle.dotenvy.specs.declared.lines.Stage.TheVariants.{Failed}
+use Rattle.dotenvy.specs.Errors.{IsMemoryErr}
+use Rattle.dotenvy.specs.Line.{Outcome, Says}
+use Rattle.dotenvy.specs.Lines.{LinesState}
+use Rattle.dotenvy.specs.Entries.{Entry, outcome_entries}
+use Rattle.dotenvy.specs.Environment.{Texts}
+use Rattle.dotenvy.specs.Remembered.{Remembered}
+use Rattle.dotenvy.specs.Names.{names_of, recalled_of}
+use Rattle.dotenvy.specs.Iter.{IterState}
+use Rattle.dotenvy.specs.NextItem.{IsItem, RemembersEntry}
+
+-- refused memory fails the logical lines, and no other fault does
+abbrev pub lines_after : {A : Type 0} → Error A → LinesState → LinesState
+lines_after (LineParse text index) s = s
+lines_after (Io e) s = s
+lines_after (EnvVar e) s = s
+lines_after (Nul key) s = s
+lines_after (Memory e) s = record { input = s.input; stage = Failed }
+
+-- no entry adds no item, and one entry its own; what is remembered then
+abbrev pub AddsEntries : {A : Type 0} → Texts → Remembered → List Entry → Option (Result (String A × String A) (Error A)) → Remembered → Type 0
+AddsEntries names old [] None new = new ≡ old
+AddsEntries names old [] (Some item) new = ⊥
+AddsEntries names old (entry ∷ later) None new = ⊥
+AddsEntries names old (entry ∷ later) (Some item) new = (later ≡ []) × IsItem (names_of names old) entry item × RemembersEntry (names_of names old) (recalled_of old) (recalled_of new) entry
+
+-- memory was refused, and the logical lines have failed
+abbrev pub IsRefused : {A : Type 0} → Option (Result (String A × String A) (Error A)) → LinesState → Type 0
+IsRefused None t = ⊥
+IsRefused (Some item) t = IsMemoryErr item × (t.stage ≡ Failed)
+
+-- a text adds what it says, unless memory is refused; a fault adds itself
+abbrev pub AddsLine : {A : Type 0} → Texts → IterState → Result (String A) (Error A) → Option (Result (String A × String A) (Error A)) → IterState → Type 0
+AddsLine names s (Ok text) item t =
+    IsRefused item t.lines
+    ⊎ ((outcome : Outcome) × Says s.dialect (chars (string_bytes text)) outcome × AddsEntries names s.remembered (outcome_entries outcome) item t.remembered × (t.lines ≡ s.lines))
+AddsLine names s (Err e) item t = (item ≡ Some (Err e)) × (t.remembered ≡ s.remembered) × (t.lines ≡ lines_after e s.lines)
