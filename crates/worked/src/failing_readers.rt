@@ -2,8 +2,8 @@
 //! after.
 
 use crate::reader::{PlayedReader, Step};
-use crate::shown::{answer, items, items_of, loads, loads_over};
-use dotenvy::{Bytes, Dialect, Environment, Iter};
+use crate::shown::{items, items_of, loads, loads_over};
+use dotenvy::{Dialect, Environment, Iter};
 use std::alloc::{AllocError, Global};
 use std::io::ErrorKind;
 use std::test::Fail;
@@ -54,10 +54,7 @@ fn a_fault_while_the_mark_is_read(rt: HostRuntime) -> Result<(), Fail> {
 }
 
 /// A reader that fails in the second line, and goes on with others after it.
-fn failing_in_a_line<'a>(
-    alloc: Global,
-    fault: ErrorKind,
-) -> std::result::Result<PlayedReader<'a>, AllocError> {
+fn failing_in_a_line<'a>(alloc: Global, fault: ErrorKind) -> Result<PlayedReader<'a>, AllocError> {
     Ok(PlayedReader::new(vec![in alloc;
         Step::Give(b"A=1\nB="),
         Step::Fail(fault),
@@ -166,11 +163,5 @@ fn bytes_that_are_no_whole_mark_are_a_line(rt: HostRuntime) -> Result<(), Fail> 
         loads(alloc, &[], file)?.as_str(),
         "io InvalidData:  | io InvalidData: "
     );
-    let mut entries = dotenvy::from_read_iter(alloc, Bytes::new(b"\xef\xbb\xbfT=1\n"))?;
-    let item = entries
-        .next_item(&Environment::new(alloc))
-        .ok_or("no item")?;
-    let fault = answer(alloc, item.map(|_| ()))?;
-    assert_eq!(rt; fault.as_str(), "fault at 0: \u{feff}T=1");
     Ok(())
 }

@@ -1,7 +1,7 @@
 //! What loads set, where they stop, and what they leave.
 
 use crate::reader::PlayedReader;
-use crate::shown::{environment, items_of, loads, pairs};
+use crate::shown::{environment, item, items_of, loads, pairs};
 use dotenvy::{Bytes, Dialect, Environment, Iter, Plain};
 use std::fs;
 use std::fs::File;
@@ -85,6 +85,17 @@ fn byte_order_marks(rt: HostRuntime) -> Result<(), Fail> {
             "at {input:?}"
         );
     }
+    Ok(())
+}
+
+#[test]
+fn a_mark_is_dropped_by_loads_alone(rt: HostRuntime) -> Result<(), Fail> {
+    let alloc = rt.alloc();
+    let mut entries = dotenvy::from_read_iter(alloc, Bytes::new(b"\xef\xbb\xbfT=1\n"))?;
+    let first = entries
+        .next_item(&Environment::new(alloc))
+        .ok_or("no item")?;
+    assert_eq!(rt; item(alloc, first)?.as_str(), "fault at 0: \u{feff}T=1");
     Ok(())
 }
 
