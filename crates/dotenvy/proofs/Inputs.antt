@@ -22,7 +22,7 @@ use Rattle.dotenvy.specs.Marks.{byte_order_mark, without_mark}
 use Rattle.dotenvy.specs.Source.{Ahead}
 use Rattle.dotenvy.proofs.Basics.{and_left, and_right}
 use Rattle.dotenvy.specs.Errors.{IsMemory, IsIoOf}
-use Rattle.dotenvy.specs.Input.{InputState, left_of, IsTold, IsAllRead, ReadsFit, BoundIsMet, IsReadFault, IsFinal, FaultIsNext, Takes, end_reads, drop_left, used_up, MovesLine, TakesLine, begins_mark}
+use Rattle.dotenvy.specs.Input.{InputState, left_of, IsTold, IsAllRead, ReadsFit, IsReadFault, IsFinal, FaultIsNext, Takes, end_reads, drop_left, used_up, MovesLine, TakesLine, begins_mark}
 
 abbrev is_lf : ℕ → Bool
 is_lf b = b == 10

@@ -1,7 +1,7 @@
 -- The items that calls give one after another are those of the definition.
-use Rattle.std.proofs.Common.{◌≡◌, ℕ, ◌+◌, ◌<◌, true, false, cond, List, [], ◌∷◌, ◌++◌, length, length-append, Option, Some, None, Ok, Err, refl, sym, ◌∙◌, ap, subst, inl, inr, ⊎_elim, arith}
-use Rattle.std.specs.Prelude.{◌⊎◌, unwrap_or, bytes_eq}
-use Rattle.std.specs.Option.{option_or, option_flatten}
+use Rattle.std.proofs.Common.{◌≡◌, ℕ, ◌+◌, ◌<◌, List, [], ◌∷◌, ◌++◌, length, length-append, Some, None, Ok, Err, refl, sym, ◌∙◌, ap, subst, inl, inr, ⊎_elim, arith}
+use Rattle.std.specs.Prelude.{unwrap_or, bytes_eq}
+use Rattle.std.specs.Option.{option_flatten}
 use Rattle.std.proofs.lemmas.Option.{none-some}
 use Rattle.std.specs.Str.{chars, encode_utf8_all}
 use Rattle.std.specs.Prelude.{option_map}
@@ -12,7 +12,6 @@ use Rattle.dotenvy.specs.declared.dialect.Dialect.{Dialect}
 use Rattle.dotenvy.specs.declared.errors.Error.{Error}
 use Rattle.dotenvy.specs.declared.errors.Error.TheVariants.{LineParse, Io as io, EnvVar, Nul, Memory}
 use Rattle.dotenvy.specs.declared.lines.Stage.TheVariants.{Open, Ended, Failed}
-use Rattle.dotenvy.specs.Value.{Piece, Text, Name}
 use Rattle.dotenvy.specs.Entries.{Entry, Declares, Fails}
 use Rattle.dotenvy.specs.Items.{LookUp, no_values, meaning, or_else, with_value, items_from, items}
 use Rattle.dotenvy.specs.Environment.{Texts}

@@ -3,7 +3,6 @@ use Rattle.std.proofs.Common.{◌≡◌, ℕ, length, arith, List, [], ◌∷◌
 use Rattle.std.proofs.lemmas.Option.{none-some}
 use Rattle.std.specs.declared.io.ErrorKind.{ErrorKind}
 use Rattle.dotenvy.specs.declared.dialect.Dialect.{Dialect}
-use Rattle.dotenvy.specs.PhysicalLines.{line_texts}
 use Rattle.dotenvy.specs.LogicalLine.{Logical, Skip, Text, Open, Broken}
 use Rattle.dotenvy.specs.Entries.{Entry, AreLogicalLines, Gives, GiveAll, HasEntries}
 use Rattle.dotenvy.specs.Decided.{up_to_last_line_feed, without_open_end, HasDecided}

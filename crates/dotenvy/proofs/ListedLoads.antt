@@ -1,6 +1,6 @@
 -- What a listing answers, from what its load left.
-use Rattle.std.proofs.Common.{◌≡◌, ℕ, ◌+◌, ◌<◌, ◌≤◌, ◌≢◌, Bool, true, false, cond, List, [], ◌∷◌, ◌++◌, refl, sym, ◌∙◌, ap, subst, arith, length, inl, inr}
-use Rattle.std.specs.Prelude.{◌⊎◌, Option, Some, None, option_map, Result, Ok, Err, IfErr, string_bytes}
+use Rattle.std.proofs.Common.{◌≡◌, ℕ, Bool, true, false, cond, List, [], ◌∷◌, refl, sym, ◌∙◌, ap, subst, inl, inr}
+use Rattle.std.specs.Prelude.{Option, Some, None, option_map, Result, Ok, Err, IfErr, string_bytes}
 use Rattle.std.specs.Result.{IsErrAnd}
 use Rattle.std.specs.Str.{chars, encode_utf8_all, IsUtf8}
 use Rattle.std.specs.FinMap as fin
@@ -16,23 +16,20 @@ use Rattle.std.proofs.lemmas.Str.{encodes-chars, encodes_same, IsUtf8-string_byt
 use Rattle.dotenvy.specs.declared.dialect.Dialect.{Dialect}
 use Rattle.dotenvy.specs.declared.errors.Error.{Error}
 use Rattle.dotenvy.specs.Statement.{is_key}
-use Rattle.dotenvy.specs.Errors.{IsMemory, IsIoOf}
+use Rattle.dotenvy.specs.Errors.{IsMemory}
 use Rattle.dotenvy.specs.Entries.{Failure, Memory, Entry, Fails}
 use Rattle.dotenvy.specs.Items.{LookUp, no_values}
 use Rattle.dotenvy.specs.Environment.{Texts, text_entries}
-use Rattle.dotenvy.specs.Remembered.{recalled}
 use Rattle.dotenvy.specs.Names.{values_of, recalled_of}
 use Rattle.dotenvy.specs.Source.{Ahead}
 use Rattle.dotenvy.specs.declared.lines.Stage.TheVariants.{Open}
 use Rattle.dotenvy.specs.Iter.{IterState, fresh}
-use Rattle.dotenvy.specs.Run.{Loaded}
 use Rattle.dotenvy.specs.Loads.{load_result}
-use Rattle.dotenvy.specs.NextItem.{IsFailure}
 use Rattle.dotenvy.specs.LoadsLeft.{IsAnswer, Leaves, Rule, LoadsLeft, ChangesKeys}
 use Rattle.dotenvy.specs.Written.{written_bytes}
 use Rattle.dotenvy.proofs.Basics.{some_same}
 use Rattle.dotenvy.proofs.Keys.{encodes-key}
-use Rattle.dotenvy.specs.Sent.{Appended, Sends, IsWriteFault, IsFaultOfWriting, Writes}
+use Rattle.dotenvy.specs.Sent.{Appended, Sends, IsFaultOfWriting, Writes}
 use Rattle.dotenvy.specs.Listed.{AreTexts, HoldsLoaded, pairs_of, ListsLoaded, Lists, ListsSome}
 
 -- nothing of some bytes was appended

@@ -1,5 +1,5 @@
 -- How far a load came, what each item adds, and how a load ends.
-use Rattle.std.proofs.Common.{◌≡◌, ℕ, Bool, true, false, ◌&&◌, List, [], ◌∷◌, ◌++◌, ◌+◌, ◌≤◌, length, length-append, drop, Option, Some, None, Result, Ok, Err, refl, sym, ◌∙◌, ap, subst, inl, inr, append_assoc, arith}
+use Rattle.std.proofs.Common.{◌≡◌, ℕ, Bool, true, false, ◌&&◌, List, [], ◌∷◌, ◌++◌, length, length-append, drop, Option, Some, None, Result, Ok, Err, refl, sym, ◌∙◌, ap, subst, inl, inr, append_assoc, arith}
 use Rattle.std.proofs.lemmas.Bool.{ltb-true}
 use Rattle.std.specs.Prelude.{◌⊎◌, ◌==◌, not, nat_eq, nat_lt, string_bytes, if◌then◌else◌}
 use Rattle.std.specs.Str.{chars}
@@ -20,7 +20,7 @@ use Rattle.dotenvy.specs.declared.lines.Stage.TheVariants.{Open, Ended}
 use Rattle.dotenvy.specs.Errors.{IsMemory, IsNulOf}
 use Rattle.dotenvy.specs.Statement.{is_key}
 use Rattle.dotenvy.specs.Value.{Piece}
-use Rattle.dotenvy.specs.Entries.{Failure, LineParse, Io, Nul, Memory, Entry, Declares, Fails}
+use Rattle.dotenvy.specs.Entries.{Failure, Io, Nul, Memory, Entry, Declares, Fails}
 use Rattle.dotenvy.specs.Decided.{up_to_last_line_feed, HasDecided}
 use Rattle.dotenvy.specs.Marks.{byte_order_mark, without_mark}
 use Rattle.dotenvy.specs.Items.{LookUp, meaning, with_value}

@@ -14,7 +14,6 @@ use Rattle.dotenvy.specs.Source.{Ahead}
 use Rattle.dotenvy.specs.Input.{IsTold}
 use Rattle.dotenvy.specs.Iter.{fresh}
 use Rattle.dotenvy.specs.Reading.{HasLeft, IsReading}
-use Rattle.dotenvy.specs.Run.{Loaded}
 use Rattle.dotenvy.specs.Loads.{load_result}
 use Rattle.dotenvy.specs.LoadsLeft.{IsAnswer}
 

@@ -1,9 +1,8 @@
-use Rattle.std.proofs.Common.{◌≡◌, ◌++◌, ◌∷◌, [], List, rules, arith, ap, length}
+use Rattle.std.proofs.Common.{rules, arith}
 use Rattle.std.specs.Prelude.{string_bytes}
 use Rattle.std.specs.String.{string_capacity}
-use Rattle.std.specs.Str.{chars}
 use Rattle.dotenvy.specs.Environment.{text_entries}
-use Rattle.dotenvy.proofs.WrittenBytes.{texts, room_for_first, listed_first}
+use Rattle.dotenvy.proofs.WrittenBytes.{room_for_first, listed_first}
 use Rattle.dotenvy.proofs.written.listing.Goals as goal
 
 pub push_written-requires : goal.push_written-requires

@@ -1,11 +1,7 @@
-use Rattle.std.proofs.Common.{◌≡◌, ◌∷◌, [], List, rules, arith, ap, length}
+use Rattle.std.proofs.Common.{rules, arith}
 use Rattle.std.specs.Prelude.{string_bytes}
-use Rattle.std.specs.Str.{chars}
-use Rattle.dotenvy.specs.Characters.{byte_len}
-use Rattle.dotenvy.specs.Written.{written_text}
 use Rattle.dotenvy.specs.Environment.{text_entries}
-use Rattle.dotenvy.specs.Listed.{pairs_of}
-use Rattle.dotenvy.proofs.WrittenBytes.{texts, counted_first, counted_all}
+use Rattle.dotenvy.proofs.WrittenBytes.{counted_first, counted_all}
 use Rattle.dotenvy.proofs.ListedLoads.{listed_texts}
 use Rattle.dotenvy.proofs.written.listing_len.Goals as goal
 

@@ -1,8 +1,8 @@
-use Rattle.std.proofs.Common.{◌≡◌, ◌≤◌, ◌++◌, ◌∷◌, [], ◌+◌, length, append_assoc, rules, arith, sym, ◌∙◌, ap}
+use Rattle.std.proofs.Common.{◌≡◌, ◌++◌, ◌∷◌, [], length, append_assoc, rules, arith, sym, ◌∙◌, ap}
 use Rattle.std.specs.Prelude.{string_bytes, string_len, encode_utf8, encode_utf8_all}
 use Rattle.std.specs.String.{string_capacity}
 use Rattle.std.proofs.lemmas.Str.{encode_ascii}
-use Rattle.dotenvy.specs.Characters.{backslash, byte_len}
+use Rattle.dotenvy.specs.Characters.{backslash}
 use Rattle.dotenvy.specs.Written.{written_character}
 use Rattle.dotenvy.proofs.WrittenBytes.{escaped_bytes, unescaped_bytes, when_ok}
 use Rattle.dotenvy.proofs.written.push_character.Goals as goal

@@ -1,4 +1,4 @@
-use Rattle.std.proofs.Common.{◌≡◌, ◌≤◌, ◌+◌, ◌++◌, ◌∷◌, [], length, length-append, rules, arith, ap, ℕ, List}
+use Rattle.std.proofs.Common.{◌≡◌, ◌+◌, ◌∷◌, [], length, length-append, rules, arith, ap, ℕ, List}
 use Rattle.std.specs.Prelude.{string_bytes, string_len}
 use Rattle.std.specs.String.{string_capacity}
 use Rattle.std.specs.Str.{chars}

@@ -1,4 +1,4 @@
-use Rattle.std.proofs.Common.{filter, length, ◌≡◌, refl, arith, rules, tests}
+use Rattle.std.proofs.Common.{filter, length, ◌≡◌, arith, rules, tests}
 use Rattle.std.specs.Str.{chars}
 use Rattle.std.proofs.lemmas.Iterator.{YieldsList-from_chars}
 use Rattle.std.proofs.lemmas.Iterator.Consumers.{YieldsList-from_filter, count_from_yields_List}
