@@ -3,3 +3,4 @@ pub mod Laws
 pub mod WorkedWords
 pub mod Failures
 pub mod Asks
+pub mod Ends

@@ -1,7 +1,10 @@
 //! What the program does once it has its words, over any reader and writer.
 
-ghost use Rattle.std.specs.Prelude.{◌≡◌, ◌↔◌, IfOk, IsErrOf, false};
+ghost use Rattle.std.specs.Prelude.{◌≡◌, ◌↔◌, IfOk, IsErrOf, true, false};
+ghost use Rattle.dotenvy.specs.declared.dialect.Dialect.TheVariants.{V15};
+ghost use Rattle.dotenvy.specs.Listed.{Lists, ListsSome};
 ghost use Rattle.dotenvy_run.specs.Asks.{asks_list};
+ghost use Rattle.dotenvy_run.specs.Ends.{EndsAs};
 
 use crate::failure::{Failure, Usage};
 use dotenvy::{Sink, Source};
@@ -22,6 +25,10 @@ pub fn run<R: Source + Drop, W: Sink>(
     // Words are refused before anything is read or written.
     ensures usage { IsErrOf result (Failure.Usage Usage.MissingCommand) ↔ (asks_list words.now ≡ false) }
     ensures untouched { asks_list words.now ≡ false → writer.new ≡ writer.old }
+
+    // The one word `--list` lists the file.
+    ensures lists { asks_list words.now ≡ true → EndsAs (Lists V15 (R.ahead reader) W.held W.has_failed writer.old writer.new) result }
+    ensures some { asks_list words.now ≡ true → EndsAs (ListsSome W.held W.has_failed writer.old writer.new) result }
 {
     match words {
         [word] if word.as_str() == "--list" => match dotenvy::list(alloc, reader, writer) {
