@@ -17,7 +17,7 @@ use Rattle.dotenvy.specs.Reading.{HasLeft, IsReading}
 use Rattle.dotenvy.specs.Loads.{load_result}
 use Rattle.dotenvy.specs.LoadsLeft.{IsAnswer}
 
--- the map holds the values of this look-up, by their bytes, and no others
+-- the map holds the values of this look-up, by their bytes, and no others; its names are keys, whose bytes are their characters
 abbrev pub HoldsLoaded : Texts → LookUp → Type 0
 HoldsLoaded names look = (name : List ℕ) → fin.get names name ≡ option_map encode_utf8_all (look name)
 

@@ -16,9 +16,13 @@ abbrev pub Sends : {E : Type 0} → Option (List ℕ) → Option (List ℕ) → 
 Sends before after bytes (Ok done) = Appended before after bytes []
 Sends before after bytes (Err error) = (rest : List ℕ) × Appended before after bytes rest
 
--- a fault of writing so many bytes by so many writes at most, where the sink told `before` whether a write has failed, and then `after`: if none had, one of these writes failed, or all of them were made, each took a byte at least, and bytes were left
+-- no write was left: so many were made, each took a byte at least, and bytes were left
+abbrev pub NoWriteIsLeft : ℕ → ℕ → IoError → Type 0
+NoWriteIsLeft most len e = (error_kind e ≡ Other) × (most < len)
+
+-- a fault of writing so many bytes, by what the sink told before and after: if no write had failed before, one of these did, or none was left
 abbrev pub IsWriteFault : ℕ → ℕ → Bool → Bool → IoError → Type 0
-IsWriteFault most len before after e = before ≡ false → (after ≡ true) ⊎ ((error_kind e ≡ Other) × (most < len))
+IsWriteFault most len before after e = before ≡ false → (after ≡ true) ⊎ NoWriteIsLeft most len e
 
 -- the most writes that one call makes
 abbrev pub most_writes : ℕ

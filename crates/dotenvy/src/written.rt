@@ -66,6 +66,7 @@ fn push_written<A: Allocator>(out: &mut String<A>, key: &str, text: &str)
     out.push_str("\"\n").unwrap();
 }
 
+// How many bytes the listing takes, or the greatest number where that is more.
 fn listing_len<A: Allocator>(env: &Environment<A>) -> usize
     ensures len { result ≡ saturated (byte_len (written_text (pairs_of env.now.names))) }
     ensures texts { AreTexts env.now.names }
