@@ -5,6 +5,7 @@ pub mod LoadsTwice
 pub mod ReadBack
 pub mod ReadBackLines
 pub mod WrittenTexts
+pub mod Writes
 pub mod WrittenBytes
 pub mod ListedLoads
 pub mod Scans

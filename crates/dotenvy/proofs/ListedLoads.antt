@@ -13,6 +13,7 @@ use Rattle.std.proofs.lemmas.Option.{none-some}
 use Rattle.std.specs.Option.{option_flatten}
 use Rattle.std.proofs.lemmas.Bool.{true≢false}
 use Rattle.std.proofs.lemmas.Str.{encodes-chars, encodes_same, IsUtf8-string_bytes}
+use Rattle.std.specs.declared.io.ErrorKind.{ErrorKind}
 use Rattle.dotenvy.specs.declared.dialect.Dialect.{Dialect}
 use Rattle.dotenvy.specs.declared.errors.Error.{Error}
 use Rattle.dotenvy.specs.Statement.{is_key}
@@ -38,29 +39,29 @@ none_appended None bytes = tt
 none_appended (Some xs) bytes = ([], refl, ap Some (sym (append-nil xs)))
 
 -- refused memory leaves a sink as it was
-pub unwritten : {A W : Type 0} (held : W → Option (List ℕ)) (has_failed : W → Bool) (old : W) (bytes : List ℕ) (answer : Result (Unit {0}) (Error A)) → IsErrAnd answer IsMemory → Writes held has_failed old old bytes answer
-unwritten held has_failed old bytes (Ok done) h = absurd h
-unwritten held has_failed old bytes (Err e) h = record { sends = (bytes, none_appended (held old) bytes); error = inl (h, refl) }
+pub unwritten : {A W : Type 0} (held : W → Option (List ℕ)) (last_fault : W → Option ErrorKind) (old : W) (bytes : List ℕ) (answer : Result (Unit {0}) (Error A)) → IsErrAnd answer IsMemory → Writes held last_fault old old bytes answer
+unwritten held last_fault old bytes (Ok done) h = absurd h
+unwritten held last_fault old bytes (Err e) h = record { sends = (bytes, none_appended (held old) bytes); error = inl (h, refl) }
 
 -- bytes that were built were written
-pub built_written : {A W : Type 0} (held : W → Option (List ℕ)) (has_failed : W → Bool) (old new : W) (bytes : List ℕ) (answer : Result (Unit {0}) (Error A)) → Sends (held old) (held new) bytes answer → IfErr answer (IsFaultOfWriting has_failed old new bytes) → Writes held has_failed old new bytes answer
-built_written held has_failed old new bytes (Ok done) s f = record { sends = s; error = tt }
-built_written held has_failed old new bytes (Err e) s f = record { sends = s; error = inr f }
+pub built_written : {A W : Type 0} (held : W → Option (List ℕ)) (last_fault : W → Option ErrorKind) (old new : W) (bytes : List ℕ) (answer : Result (Unit {0}) (Error A)) → Sends (held old) (held new) bytes answer → IfErr answer (IsFaultOfWriting last_fault old new bytes) → Writes held last_fault old new bytes answer
+built_written held last_fault old new bytes (Ok done) s f = record { sends = s; error = tt }
+built_written held last_fault old new bytes (Err e) s f = record { sends = s; error = inr f }
 
 -- an error before the first write
-pub none_listed : {A W : Type 0} (held : W → Option (List ℕ)) (has_failed : W → Bool) (old : W) (P : Error A → Type 0) (answer : Result (Unit {0}) (Error A)) → IsErrAnd answer P → ListsSome held has_failed old old answer
-none_listed held has_failed old P (Ok done) h = absurd h
-none_listed held has_failed old P (Err e) h = (fin.empty, (written_bytes (pairs_of fin.empty), none_appended (held old) _), inl refl)
+pub none_listed : {A W : Type 0} (held : W → Option (List ℕ)) (last_fault : W → Option ErrorKind) (old : W) (P : Error A → Type 0) (answer : Result (Unit {0}) (Error A)) → IsErrAnd answer P → ListsSome held last_fault old old answer
+none_listed held last_fault old P (Ok done) h = absurd h
+none_listed held last_fault old P (Err e) h = (fin.empty, (written_bytes (pairs_of fin.empty), none_appended (held old) _), inl refl)
 
 -- the listing of these names was sent
-pub some_listed : {A W : Type 0} (held : W → Option (List ℕ)) (has_failed : W → Bool) (old new : W) (names : Texts) (answer : Result (Unit {0}) (Error A)) → Sends (held old) (held new) (written_bytes (pairs_of names)) answer → IfErr answer (IsFaultOfWriting has_failed old new (written_bytes (pairs_of names))) → ListsSome held has_failed old new answer
-some_listed held has_failed old new names (Ok done) s f = (names, s, tt)
-some_listed held has_failed old new names (Err e) s f = (names, s, inr f)
+pub some_listed : {A W : Type 0} (held : W → Option (List ℕ)) (last_fault : W → Option ErrorKind) (old new : W) (names : Texts) (answer : Result (Unit {0}) (Error A)) → Sends (held old) (held new) (written_bytes (pairs_of names)) answer → IfErr answer (IsFaultOfWriting last_fault old new (written_bytes (pairs_of names))) → ListsSome held last_fault old new answer
+some_listed held last_fault old new names (Ok done) s f = (names, s, tt)
+some_listed held last_fault old new names (Err e) s f = (names, s, inr f)
 
 -- memory that is refused before anything is read cuts the reading short
-pub unread_lists : {A W : Type 0} (dialect : Dialect) (ahead : Option Ahead) (held : W → Option (List ℕ)) (has_failed : W → Bool) (old : W) (answer : Result (Unit {0}) (Error A)) → IsErrAnd answer IsMemory → Lists dialect ahead held has_failed old old answer
-unread_lists dialect ahead held has_failed old (Ok done) h = absurd h
-unread_lists dialect ahead held has_failed old (Err e) h = λ a told entries has.
+pub unread_lists : {A W : Type 0} (dialect : Dialect) (ahead : Option Ahead) (held : W → Option (List ℕ)) (last_fault : W → Option ErrorKind) (old : W) (answer : Result (Unit {0}) (Error A)) → IsErrAnd answer IsMemory → Lists dialect ahead held last_fault old old answer
+unread_lists dialect ahead held last_fault old (Ok done) h = absurd h
+unread_lists dialect ahead held last_fault old (Err e) h = λ a told entries has.
     (Fails Memory ∷ [], inr (inl (record { front = []; back = entries; cut = refl; ends = refl })), (h, refl))
 
 empty_values : values_of fin.empty ≡ no_values
@@ -96,26 +97,26 @@ holds_loaded names look are keys values = λ name. at name (is_key name) refl �
     at name true h = sym (text_again (fin.get names name) (are name)) ∙ ap (λ n. option_map encode_utf8_all (option_map chars (fin.get names n))) (sym (encodes-key name h))
     at name false h = absent name h ∙ sym (ap (λ o. option_map encode_utf8_all (option_map chars o)) (absent (encode_utf8_all name) (key_from_bytes name h)))
 
-failed_after : {A W : Type 0} (held : W → Option (List ℕ)) (has_failed : W → Bool) (old : W) (look : LookUp) (answer : Result (Unit {0}) Failure) (e : Error A) → IsAnswer answer (Err e) → ListsLoaded held has_failed old old look answer (Err e)
-failed_after held has_failed old look (Ok done) e is = absurd is
-failed_after held has_failed old look (Err failure) e is = (is, refl)
+failed_after : {A W : Type 0} (held : W → Option (List ℕ)) (last_fault : W → Option ErrorKind) (old : W) (look : LookUp) (answer : Result (Unit {0}) Failure) (e : Error A) → IsAnswer answer (Err e) → ListsLoaded held last_fault old old look answer (Err e)
+failed_after held last_fault old look (Ok done) e is = absurd is
+failed_after held last_fault old look (Err failure) e is = (is, refl)
 
 -- a failure of the load is answered
-pub failed_lists : {A W : Type 0} (dialect : Dialect) (ahead : Option Ahead) (held : W → Option (List ℕ)) (has_failed : W → Bool) (old : W) (names : Texts) (e : Error A) → LoadsLeft load_result (fresh ahead dialect) fin.empty (Err e) names → Lists dialect ahead held has_failed old old (Err e)
-failed_lists dialect ahead held has_failed old names e loads = λ a told entries has.
+pub failed_lists : {A W : Type 0} (dialect : Dialect) (ahead : Option Ahead) (held : W → Option (List ℕ)) (last_fault : W → Option ErrorKind) (old : W) (names : Texts) (e : Error A) → LoadsLeft load_result (fresh ahead dialect) fin.empty (Err e) names → Lists dialect ahead held last_fault old old (Err e)
+failed_lists dialect ahead held last_fault old names e loads = λ a told entries has.
     let l = loads a told entries has in
-    (l.0, l.1, failed_after held has_failed old _ _ e (subst (λ loaded. IsAnswer loaded.answer (Err e)) (first_load l.0) l.2.is_answer))
+    (l.0, l.1, failed_after held last_fault old _ _ e (subst (λ loaded. IsAnswer loaded.answer (Err e)) (first_load l.0) l.2.is_answer))
 
-listed_after : {A W : Type 0} (held : W → Option (List ℕ)) (has_failed : W → Bool) (old new : W) (look : LookUp) (stop : Result (Unit {0}) Failure) (names : Texts) (answer : Result (Unit {0}) (Error A)) → IsAnswer {A = A} stop (Ok tt) → HoldsLoaded names look → Writes held has_failed old new (written_bytes (pairs_of names)) answer → ListsLoaded held has_failed old new look stop answer
-listed_after held has_failed old new look (Ok done) names answer is holds writes = (names, holds, writes)
-listed_after held has_failed old new look (Err failure) names answer is holds writes = absurd is
+listed_after : {A W : Type 0} (held : W → Option (List ℕ)) (last_fault : W → Option ErrorKind) (old new : W) (look : LookUp) (stop : Result (Unit {0}) Failure) (names : Texts) (answer : Result (Unit {0}) (Error A)) → IsAnswer {A = A} stop (Ok tt) → HoldsLoaded names look → Writes held last_fault old new (written_bytes (pairs_of names)) answer → ListsLoaded held last_fault old new look stop answer
+listed_after held last_fault old new look (Ok done) names answer is holds writes = (names, holds, writes)
+listed_after held last_fault old new look (Err failure) names answer is holds writes = absurd is
 
 -- what was loaded is written
-pub loaded_lists : {A W : Type 0} (dialect : Dialect) (ahead : Option Ahead) (held : W → Option (List ℕ)) (has_failed : W → Bool) (old new : W) (names : Texts) (answer : Result (Unit {0}) (Error A)) → LoadsLeft {A = A} load_result (fresh ahead dialect) fin.empty (Ok tt) names → ChangesKeys fin.empty names → AreTexts names → Writes held has_failed old new (written_bytes (pairs_of names)) answer → Lists dialect ahead held has_failed old new answer
-loaded_lists {A = A} dialect ahead held has_failed old new names answer loads keys are writes = λ a told entries has.
+pub loaded_lists : {A W : Type 0} (dialect : Dialect) (ahead : Option Ahead) (held : W → Option (List ℕ)) (last_fault : W → Option ErrorKind) (old new : W) (names : Texts) (answer : Result (Unit {0}) (Error A)) → LoadsLeft {A = A} load_result (fresh ahead dialect) fin.empty (Ok tt) names → ChangesKeys fin.empty names → AreTexts names → Writes held last_fault old new (written_bytes (pairs_of names)) answer → Lists dialect ahead held last_fault old new answer
+loaded_lists {A = A} dialect ahead held last_fault old new names answer loads keys are writes = λ a told entries has.
     let l = loads a told entries has in
     let left : Leaves {A = A} (load_result no_values no_values l.0) names (Ok tt) = subst (λ loaded. Leaves {A = A} loaded names (Ok tt)) (first_load l.0) l.2 in
-    (l.0, l.1, listed_after held has_failed old new _ _ names answer left.is_answer (holds_loaded names _ are keys left.values) writes)
+    (l.0, l.1, listed_after held last_fault old new _ _ names answer left.is_answer (holds_loaded names _ are keys left.values) writes)
 
 -- a load by an iterator that is fresh, into an environment that is empty
 pub fresh_load : {A : Type 0} (rule : Rule) (ahead : Option Ahead) (dialect : Dialect) (s : IterState) (old new : Texts) (answer : Result (Unit {0}) (Error A)) → s ≡ fresh ahead dialect → old ≡ fin.empty → (s.lines.stage ≡ Open → LoadsLeft rule s old answer new) → LoadsLeft rule (fresh ahead dialect) fin.empty answer new

@@ -1,7 +1,8 @@
 -- What a listing of a file writes and answers.
-use Rattle.std.specs.Prelude.{ℕ, ◌≡◌, ◌⊎◌, Bool, List, map, Option, Some, option_map, Result, Ok, Err, IfErr}
+use Rattle.std.specs.Prelude.{ℕ, ◌≡◌, ◌⊎◌, List, map, Option, Some, option_map, Result, Ok, Err, IfErr}
 use Rattle.std.specs.Str.{chars, encode_utf8_all, IsUtf8}
 use Rattle.std.specs.FinMap as fin
+use Rattle.std.specs.declared.io.ErrorKind.{ErrorKind}
 use Rattle.dotenvy.specs.declared.dialect.Dialect.{Dialect}
 use Rattle.dotenvy.specs.declared.errors.Error.{Error}
 use Rattle.dotenvy.specs.Written.{written_bytes}
@@ -30,19 +31,19 @@ abbrev pub pairs_of : Texts → List (List ℕ × List ℕ)
 pairs_of names = map (λ p. (chars p.0, chars p.1)) (fin.entries names)
 
 -- after a load that leaves these values: its failure is answered, and the sink is as it was; else the written form of its pairs is written
-abbrev pub ListsLoaded : {A W : Type 0} → (W → Option (List ℕ)) → (W → Bool) → W → W → LookUp → Result (Unit {0}) Failure → Result (Unit {0}) (Error A) → Type 0
-ListsLoaded held has_failed old new look (Err failure) answer = IsAnswer (Err failure) answer × (new ≡ old)
-ListsLoaded held has_failed old new look (Ok done) answer = (names : Texts) × HoldsLoaded names look × Writes held has_failed old new (written_bytes (pairs_of names)) answer
+abbrev pub ListsLoaded : {A W : Type 0} → (W → Option (List ℕ)) → (W → Option ErrorKind) → W → W → LookUp → Result (Unit {0}) Failure → Result (Unit {0}) (Error A) → Type 0
+ListsLoaded held last_fault old new look (Err failure) answer = IsAnswer (Err failure) answer × (new ≡ old)
+ListsLoaded held last_fault old new look (Ok done) answer = (names : Texts) × HoldsLoaded names look × Writes held last_fault old new (written_bytes (pairs_of names)) answer
 
 -- a listing of a source that tells its bytes: they are loaded into an empty environment, and listed
-abbrev pub Lists : {A W : Type 0} → Dialect → Option Ahead → (W → Option (List ℕ)) → (W → Bool) → W → W → Result (Unit {0}) (Error A) → Type 0
-Lists dialect ahead held has_failed old new answer =
+abbrev pub Lists : {A W : Type 0} → Dialect → Option Ahead → (W → Option (List ℕ)) → (W → Option ErrorKind) → W → W → Result (Unit {0}) (Error A) → Type 0
+Lists dialect ahead held last_fault old new answer =
     (a : Ahead) → IsTold ahead a → (entries : List Entry) → HasLeft dialect a.fault (without_mark a.bytes) entries →
     (read : List Entry) × IsReading dialect a (fresh ahead dialect).lines.input entries read
-    × (let loaded = load_result no_values no_values read in ListsLoaded held has_failed old new loaded.env loaded.answer answer)
+    × (let loaded = load_result no_values no_values read in ListsLoaded held last_fault old new loaded.env loaded.answer answer)
 
 -- a listing of any source: the written form of some pairs is sent, in byte order of the names; an error leaves the sink as it was, or is a fault of writing
-abbrev pub ListsSome : {A W : Type 0} → (W → Option (List ℕ)) → (W → Bool) → W → W → Result (Unit {0}) (Error A) → Type 0
-ListsSome held has_failed old new answer =
+abbrev pub ListsSome : {A W : Type 0} → (W → Option (List ℕ)) → (W → Option ErrorKind) → W → W → Result (Unit {0}) (Error A) → Type 0
+ListsSome held last_fault old new answer =
     (names : Texts) × Sends (held old) (held new) (written_bytes (pairs_of names)) answer
-    × IfErr answer (λ e. (new ≡ old) ⊎ IsFaultOfWriting has_failed old new (written_bytes (pairs_of names)) e)
+    × IfErr answer (λ e. (new ≡ old) ⊎ IsFaultOfWriting last_fault old new (written_bytes (pairs_of names)) e)

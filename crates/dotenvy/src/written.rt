@@ -96,7 +96,7 @@ fn listing<A: Allocator + Clone>(
 // Writes all of the bytes, in at most `writes_left` writes.
 fn write_all<W: Sink, A: Allocator>(writer: &mut W, bytes: &[u8], writes_left: u64) -> Result<(), A>
     ensures sends { Sends (W.held writer.old) (W.held writer.new) bytes.now result }
-    ensures fault { IfErr result (IsIoOf (IsWriteFault writes_left (length bytes.now) (W.has_failed writer.old) (W.has_failed writer.new))) }
+    ensures fault { IfErr result (IsIoOf (IsWriteFault writes_left (length bytes.now) (W.last_fault writer.old) (W.last_fault writer.new))) }
 {
     let mut rest = bytes;
     'writes: for _ in 0..writes_left {
@@ -135,7 +135,7 @@ pub fn write_pair<W: Sink, A: Allocator + Clone>(
     text: &str,
 ) -> Result<(), A>
     requires { IsTrue (is_key (chars key.now)) }
-    ensures { Writes W.held W.has_failed writer.old writer.new (written_bytes ((chars key.now, chars text.now) ∷ [])) result }
+    ensures { Writes W.held W.last_fault writer.old writer.new (written_bytes ((chars key.now, chars text.now) ∷ [])) result }
 {
     let mut out = String::with_capacity(alloc, written_len(key, text))?;
     push_written(&mut out, key, text);
@@ -156,8 +156,8 @@ pub fn list<R: Source + Drop, W: Sink, A: Allocator + Clone>(
     reader: R,
     writer: &mut W,
 ) -> Result<(), A>
-    ensures lists { Lists Dialect.V15 (R.ahead reader) W.held W.has_failed writer.old writer.new result }
-    ensures some { ListsSome W.held W.has_failed writer.old writer.new result }
+    ensures lists { Lists Dialect.V15 (R.ahead reader) W.held W.last_fault writer.old writer.new result }
+    ensures some { ListsSome W.held W.last_fault writer.old writer.new result }
 {
     list_with(alloc, reader, writer, Dialect::V15)
 }
@@ -169,8 +169,8 @@ pub fn list_with<R: Source + Drop, W: Sink, A: Allocator + Clone>(
     writer: &mut W,
     dialect: Dialect,
 ) -> Result<(), A>
-    ensures lists { Lists dialect (R.ahead reader) W.held W.has_failed writer.old writer.new result }
-    ensures some { ListsSome W.held W.has_failed writer.old writer.new result }
+    ensures lists { Lists dialect (R.ahead reader) W.held W.last_fault writer.old writer.new result }
+    ensures some { ListsSome W.held W.last_fault writer.old writer.new result }
 {
     let mut env = Environment::new(alloc.clone()?);
     Iter::with_dialect(alloc.clone()?, reader, dialect)?.load(&mut env)?;

@@ -27,8 +27,8 @@ pub fn run<R: Source + Drop, W: Sink>(
     ensures untouched { asks_list words.now ≡ false → writer.new ≡ writer.old }
 
     // The one word `--list` lists the file.
-    ensures lists { asks_list words.now ≡ true → EndsAs (Lists V15 (R.ahead reader) W.held W.has_failed writer.old writer.new) result }
-    ensures some { asks_list words.now ≡ true → EndsAs (ListsSome W.held W.has_failed writer.old writer.new) result }
+    ensures lists { asks_list words.now ≡ true → EndsAs (Lists V15 (R.ahead reader) W.held W.last_fault writer.old writer.new) result }
+    ensures some { asks_list words.now ≡ true → EndsAs (ListsSome W.held W.last_fault writer.old writer.new) result }
 {
     match words {
         [word] if word.as_str() == "--list" => match dotenvy::list(alloc, reader, writer) {
