@@ -22,9 +22,9 @@ fn words<R: AllocGlobal + Env>(rt: &R) -> io::Result<Vec<String>> {
 
 fn main(rt: HostRuntime) -> io::Result<ExitCode> {
     let words = words(&rt)?;
-    let reader = Plain::new(rt.reader());
+    let mut reader = Plain::new(rt.reader());
     let mut writer = Plain::new(io::writer(&rt));
-    match run(rt.alloc(), words.as_slice(), reader, &mut writer) {
+    match run(rt.alloc(), words.as_slice(), &mut reader, &mut writer) {
         Ok(status) => Ok(ExitCode::from(status)),
         Err(failure) => {
             eprintln!(rt; "{failure}")?;

@@ -14,20 +14,20 @@ use std::alloc::Global;
 /// other words for now. Answers the status to end with.
 ///
 /// Over the three lines `B=2`, `A=1`, `A=3` it writes `A="1"` and `B="2"`, a line each.
-pub fn run<R: Source + Drop, W: Sink>(
+pub fn run<R: Source, W: Sink>(
     alloc: Global,
     words: &[String],
-    reader: R,
+    reader: &mut R,
     writer: &mut W,
 ) -> Result<u8, Failure>
     ensures status { IfOk result (λ status. status ≡ 0) }
 
     // Words are refused before anything is read or written.
     ensures usage { IsErrOf result (Failure.Usage Usage.MissingCommand) ↔ (asks_list words.now ≡ false) }
-    ensures untouched { asks_list words.now ≡ false → writer.new ≡ writer.old }
+    ensures untouched { asks_list words.now ≡ false → (reader.new ≡ reader.old) × (writer.new ≡ writer.old) }
 
     // The one word `--list` lists the file.
-    ensures lists { asks_list words.now ≡ true → EndsAs (Lists V15 (R.ahead reader) W.held W.last_fault writer.old writer.new) result }
+    ensures lists { asks_list words.now ≡ true → EndsAs (Lists V15 (R.ahead reader.old) W.held W.last_fault writer.old writer.new) result }
     ensures some { asks_list words.now ≡ true → EndsAs (ListsSome W.held W.last_fault writer.old writer.new) result }
 {
     match words {
@@ -52,7 +52,7 @@ mod tests {
             .map(|word| String::from_str(alloc, word))
             .try_collect(alloc)?;
         let mut output = Plain::new(Vec::new(alloc));
-        let text = match run(alloc, words.as_slice(), Bytes::new(input), &mut output) {
+        let text = match run(alloc, words.as_slice(), &mut Bytes::new(input), &mut output) {
             Ok(status) => format!(in alloc; "status {status}")?,
             Err(failure) => failure.to_string(alloc)?,
         };
