@@ -1,5 +1,5 @@
 -- Facts on tests, options and codes that many proofs use.
-use Rattle.std.proofs.Common.{◌≡◌, ℕ, Bool, true, false, ◌&&◌, ◌||◌, not, Option, Some, refl, arith}
+use Rattle.std.proofs.Common.{◌≡◌, ℕ, Bool, true, false, cond, ◌&&◌, ◌||◌, not, Option, Some, refl, arith}
 use Rattle.std.specs.Prelude.{◌==◌}
 use Rattle.std.proofs.lemmas.Bool.Decides.{nat_tests}
 
@@ -42,3 +42,12 @@ same_from c d h = grind (arith, nat_tests, h)
 pub not_false : (b : Bool) → not b ≡ false → b ≡ true
 not_false true h = refl
 not_false false h = cc
+
+-- a choice whose test is known
+pub if_true : {A : Type 0} (x y : A) (b : Bool) → b ≡ true → cond b x y ≡ x
+if_true x y true h = refl
+if_true x y false h = cc
+
+pub if_false : {A : Type 0} (x y : A) (b : Bool) → b ≡ false → cond b x y ≡ y
+if_false x y false h = refl
+if_false x y true h = cc

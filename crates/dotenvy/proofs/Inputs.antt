@@ -68,7 +68,8 @@ none_at xs false t e = ltb-false _ _ t
 pub line_not_found : (xs : List ℕ) → position is_lf xs ≡ None → no_line_feed xs ≡ true
 line_not_found xs e = no_place xs (none_at xs _ refl e)
 
-abbrev ahead_of : List ℕ → Option ErrorKind → Ahead
+-- what is told, from its parts
+abbrev pub ahead_of : List ℕ → Option ErrorKind → Ahead
 ahead_of bytes fault = record { bytes = bytes; fault = fault }
 
 same_ahead : (a : Ahead) (bytes : List ℕ) (fault : Option ErrorKind) → bytes ≡ a.bytes → fault ≡ a.fault → Some (ahead_of bytes fault) ≡ Some a

@@ -6,16 +6,12 @@ use Rattle.dotenvy.specs.declared.dialect.Dialect.{Dialect}
 use Rattle.dotenvy.specs.LogicalLine.{Logical, Skip, Text, Open, Broken}
 use Rattle.dotenvy.specs.Entries.{Entry, AreLogicalLines, Gives, GiveAll, HasEntries}
 use Rattle.dotenvy.specs.Decided.{up_to_last_line_feed, without_open_end, HasDecided}
-use Rattle.dotenvy.specs.Source.{Ahead}
 use Rattle.dotenvy.specs.Input.{InputState}
 use Rattle.dotenvy.specs.Reading.{HasLeft}
 use Rattle.dotenvy.specs.Lines.{IsOpen, lines_so_far, IsNextAlways, TakesNext, IsUndecided}
 use Rattle.dotenvy.proofs.EntriesOnce.{lines_within, cut_line_texts, entries_exist, entries_once}
 use Rattle.dotenvy.proofs.DecidedFront.{decided_exist, decided_once}
 use Rattle.dotenvy.proofs.NextEntries.{entries-none}
-
-abbrev ahead_of : List ℕ → Option ErrorKind → Ahead
-ahead_of bytes fault = record { bytes = bytes; fault = fault }
 
 -- there are entries of what is left
 pub left_exists : (dialect : Dialect) (fault : Option ErrorKind) (bytes : List ℕ) → (entries : List Entry) × HasLeft dialect fault bytes entries

@@ -36,13 +36,10 @@ use Rattle.dotenvy.proofs.EntriesOnce.{cut_line_texts, whole_chars, one_last}
 use Rattle.dotenvy.proofs.DecidedFront.{tokens_end}
 use Rattle.dotenvy.proofs.Splitting.{IsGoing, going_start, IsWalked, walk-is}
 use Rattle.dotenvy.proofs.SplitLines.{left_after, left_after_broken, line_is_one, at_input_end, at_end, reads_all, next-skip, next-text, next-open, next-broken}
-use Rattle.dotenvy.proofs.Inputs.{fits_more, final_before}
+use Rattle.dotenvy.proofs.Inputs.{ahead_of, fits_more, final_before}
 
 abbrev Lines : Type 0
 Lines = List (Option (List ℕ))
-
-abbrev ahead_of : List ℕ → Option ErrorKind → Ahead
-ahead_of bytes fault = record { bytes = bytes; fault = fault }
 
 -- bytes up to their last line feed
 up_to_whole : (line left : List ℕ) → is_whole_line line ≡ true → up_to_last_line_feed (line ++ left) ≡ line ++ up_to_last_line_feed left

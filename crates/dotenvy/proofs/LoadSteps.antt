@@ -1,5 +1,5 @@
 -- How far a load came, what each item adds, and how a load ends.
-use Rattle.std.proofs.Common.{◌≡◌, ℕ, Bool, true, false, ◌&&◌, List, [], ◌∷◌, ◌++◌, length, length-append, drop, Option, Some, None, Result, Ok, Err, refl, sym, ◌∙◌, ap, subst, inl, inr, append_assoc, arith}
+use Rattle.std.proofs.Common.{◌≡◌, ℕ, Bool, true, false, ◌&&◌, List, [], ◌∷◌, ◌++◌, length, length-append, drop, Some, None, Result, Ok, Err, refl, sym, ◌∙◌, ap, subst, inl, inr, append_assoc, arith}
 use Rattle.std.proofs.lemmas.Bool.{ltb-true}
 use Rattle.std.specs.Prelude.{◌⊎◌, ◌==◌, not, nat_eq, nat_lt, string_bytes, if◌then◌else◌}
 use Rattle.std.specs.Str.{chars}
@@ -37,16 +37,13 @@ use Rattle.dotenvy.specs.Reading.{HasLeft, told_fault, StopsAtBound, IsReading}
 use Rattle.dotenvy.specs.NextItem.{RemembersEntry, DecideFirst, TakesEntry, ItemIs, NextItem}
 use Rattle.dotenvy.specs.LoadsLeft.{IsAnswer, Leaves, Rule, LoadsLeft}
 use Rattle.dotenvy.specs.Iter.{IterState}
-use Rattle.dotenvy.proofs.Basics.{and_left, and_right, same_from, not_false}
+use Rattle.dotenvy.proofs.Basics.{and_left, and_right, same_from, not_false, if_true, if_false}
 use Rattle.dotenvy.proofs.Nuls.{value_ok-chars}
 use Rattle.dotenvy.proofs.Keys.{chars-key}
-use Rattle.dotenvy.proofs.Inputs.{the_bytes, the_fault, fits_more}
+use Rattle.dotenvy.proofs.Inputs.{ahead_of, the_bytes, the_fault, fits_more}
 use Rattle.dotenvy.proofs.LineEntries.{left_once, left-none, left-fault, decided-none}
 use Rattle.dotenvy.proofs.KeyLookUps.{values_of-insert}
 use Rattle.dotenvy.proofs.LoadRuns.{run-same, after-same}
-
-abbrev ahead_of : List ℕ → Option ErrorKind → Ahead
-ahead_of bytes fault = record { bytes = bytes; fault = fault }
 
 -- a load of these entries: its mode and dialect, what is told, the input at its start, and what names meant then
 pub record Load : Type 0 where
@@ -226,14 +223,6 @@ came_pair {A = A} l names t u pair k next = at (came_item {A = A} l names t u (O
     at (inl (Fails failure, is, takes)) = absurd is
     at (inr fails) = absurd fails
 
-when_not : (x y : Loaded) (b : Bool) → b ≡ false → (if b then x else y) ≡ y
-when_not x y false h = refl
-when_not x y true h = cc
-
-when_so : (x y : Loaded) (b : Bool) → b ≡ true → (if b then x else y) ≡ x
-when_so x y true h = refl
-when_so x y false h = cc
-
 same-then : (x y z : Loaded) → SameLoad x y → SameLoad y z → SameLoad x z
 same-then x y z h k = record { env = λ n. h.env n ∙ k.env n; answer = h.answer ∙ k.answer }
 
@@ -254,7 +243,7 @@ declared_done l names new recall now key value pieces rest b k first means is go
       (same-as _ _ (ap (run_all l) (append_assoc k.done (Declares key pieces ∷ []) more)))
       (k.same (Declares key pieces ∷ more)))
       (same-then (run_on l names recall (Declares key pieces ∷ more)) (run l.mode after (with_value (recalled_of recall) key v) more) (run_on l new now more)
-      (same-as _ _ (when_not (record { env = values_of names; answer = Err (Nul key) }) (run l.mode after (with_value (recalled_of recall) key v) more) (sets l.mode (values_of names) key && has_nul v) (ap (λ t. t && has_nul v) is ∙ ap (λ t. b && has_nul t) (sym means) ∙ good)))
+      (same-as _ _ (if_false (record { env = values_of names; answer = Err (Nul key) }) (run l.mode after (with_value (recalled_of recall) key v) more) (sets l.mode (values_of names) key && has_nul v) (ap (λ t. t && has_nul v) is ∙ ap (λ t. b && has_nul t) (sym means) ∙ good)))
       (run-same l.mode after (values_of new) (with_value (recalled_of recall) key v) (recalled_of now) more
       (λ n. sym (values n ∙ after-same (values_of names) (values_of names) key value v n b (sets l.mode (values_of names) key) (sym is) means refl))
       (λ n. sym (remembers n))));
@@ -317,7 +306,7 @@ ends_set {A = A} l names t u pair e k next is key good nul = at (value_ok (strin
         let has : has_nul v ≡ true = ap has_nul (sym p.value) ∙ not_false (has_nul (chars (string_bytes pair.1))) (sym (value_ok-chars (string_bytes pair.1) (IsUtf8-string_bytes pair.1)) ∙ h) in
         ends_read l names t.remembered (Err e) k.loaded (Err (Nul text))
         (ap (λ es. run_on l names t.remembered (es ++ told_fault l.ahead.fault)) takes.first
-        ∙ when_so (record { env = values_of names; answer = Err (Nul text) }) (run l.mode (after_declaration l.mode (values_of names) text v) (with_value (recalled_of t.remembered) text v) (takes.later ++ told_fault l.ahead.fault)) (sets l.mode (values_of names) text && has_nul v) (ap (λ c. c && has_nul v) is ∙ has))
+        ∙ if_true (record { env = values_of names; answer = Err (Nul text) }) (run l.mode (after_declaration l.mode (values_of names) text v) (with_value (recalled_of t.remembered) text v) (takes.later ++ told_fault l.ahead.fault)) (sets l.mode (values_of names) text && has_nul v) (ap (λ c. c && has_nul v) is ∙ has))
         (subst (λ n. IsNulOf n e) (sym (chars-key (string_bytes pair.0) (IsUtf8-string_bytes pair.0) key)) (nul h))
 
 mark_undecided : (bytes : List ℕ) → begins_mark bytes ≡ true → up_to_last_line_feed (without_mark bytes) ≡ []
@@ -339,41 +328,33 @@ record Marked (bytes : List ℕ) : Type 0 where
   joins : bytes ≡ used ++ without_mark bytes
   stays : (more rest : List ℕ) → without_mark bytes ≡ more ++ rest → without_mark (used ++ more) ≡ more
 
-bytes_if : (x y : List ℕ) (b : Bool) → b ≡ true → (if b then x else y) ≡ x
-bytes_if x y true h = refl
-bytes_if x y false h = cc
-
-bytes_else : (x y : List ℕ) (b : Bool) → b ≡ false → (if b then x else y) ≡ y
-bytes_else x y false h = refl
-bytes_else x y true h = cc
-
 no_mark : (bytes more rest : List ℕ) → starts_with nat_eq bytes byte_order_mark ≡ false → bytes ≡ more ++ rest → without_mark more ≡ more
 no_mark bytes [] rest h e = refl
-no_mark bytes (b ∷ []) rest h e = bytes_else [] (b ∷ []) (starts_with nat_eq (b ∷ []) byte_order_mark) (short (0xEF == b))
+no_mark bytes (b ∷ []) rest h e = if_false [] (b ∷ []) (starts_with nat_eq (b ∷ []) byte_order_mark) (short (0xEF == b))
   where
     short : (t : Bool) → (t && false) ≡ false
     short true = refl
     short false = refl
-no_mark bytes (b ∷ c ∷ []) rest h e = bytes_else [] (b ∷ c ∷ []) (starts_with nat_eq (b ∷ c ∷ []) byte_order_mark) (short (0xEF == b) (0xBB == c))
+no_mark bytes (b ∷ c ∷ []) rest h e = if_false [] (b ∷ c ∷ []) (starts_with nat_eq (b ∷ c ∷ []) byte_order_mark) (short (0xEF == b) (0xBB == c))
   where
     short : (t u : Bool) → (t && (u && false)) ≡ false
     short true true = refl
     short true false = refl
     short false u = refl
-no_mark bytes (b ∷ c ∷ d ∷ more) rest h e = bytes_else more (b ∷ c ∷ d ∷ more) (starts_with nat_eq (b ∷ c ∷ d ∷ more) byte_order_mark) (ap (λ bs. starts_with nat_eq bs byte_order_mark) (sym e) ∙ h)
+no_mark bytes (b ∷ c ∷ d ∷ more) rest h e = if_false more (b ∷ c ∷ d ∷ more) (starts_with nat_eq (b ∷ c ∷ d ∷ more) byte_order_mark) (ap (λ bs. starts_with nat_eq bs byte_order_mark) (sym e) ∙ h)
 
 marked : (bytes : List ℕ) → Marked bytes
 marked bytes = at bytes (starts_with nat_eq bytes byte_order_mark) refl
   where
     at : (bs : List ℕ) (b : Bool) → starts_with nat_eq bs byte_order_mark ≡ b → Marked bs
-    at bs false h = let is = bytes_else (drop 3 bs) bs (starts_with nat_eq bs byte_order_mark) h in record { used = []; joins = sym is; stays = λ more rest e. no_mark bs more rest h (sym is ∙ e) }
+    at bs false h = let is = if_false (drop 3 bs) bs (starts_with nat_eq bs byte_order_mark) h in record { used = []; joins = sym is; stays = λ more rest e. no_mark bs more rest h (sym is ∙ e) }
     at [] true h = cc
     at (b ∷ []) true h = absurd (let e = and_right (0xEF == b) false h in let f : false ≡ true = e in cc)
     at (b ∷ c ∷ []) true h = absurd (let e = and_right (0xBB == c) false (and_right (0xEF == b) ((0xBB == c) && false) h) in let f : false ≡ true = e in cc)
     at (b ∷ c ∷ d ∷ bs) true h = record {
       used = b ∷ c ∷ d ∷ [];
-      joins = sym (ap (λ l. b ∷ c ∷ d ∷ l) (bytes_if bs (b ∷ c ∷ d ∷ bs) (starts_with nat_eq (b ∷ c ∷ d ∷ bs) byte_order_mark) h));
-      stays = λ more rest e. bytes_if more (b ∷ c ∷ d ∷ more) (starts_with nat_eq (b ∷ c ∷ d ∷ more) byte_order_mark) h;
+      joins = sym (ap (λ l. b ∷ c ∷ d ∷ l) (if_true bs (b ∷ c ∷ d ∷ bs) (starts_with nat_eq (b ∷ c ∷ d ∷ bs) byte_order_mark) h));
+      stays = λ more rest e. if_true more (b ∷ c ∷ d ∷ more) (starts_with nat_eq (b ∷ c ∷ d ∷ more) byte_order_mark) h;
     }
 
 -- a load begins behind the mark

@@ -25,12 +25,9 @@ use Rattle.dotenvy.specs.Names.{recalled_of}
 use Rattle.dotenvy.specs.Iter.{IterState}
 use Rattle.dotenvy.specs.NextItem.{text_of, DecideFirst, ItemIs}
 use Rattle.dotenvy.specs.LineItem.{lines_after, AddsEntries, IsRefused, AddsLine}
-use Rattle.dotenvy.proofs.Inputs.{fits_more, final_before}
+use Rattle.dotenvy.proofs.Inputs.{ahead_of, fits_more, final_before}
 use Rattle.dotenvy.proofs.LineEntries.{left_once, left_exists, left-none, left-next, decided-next, decided-none}
 use Rattle.dotenvy.proofs.Outcomes.{one_outcome}
-
-abbrev ahead_of : List ℕ → Option ErrorKind → Ahead
-ahead_of bytes fault = record { bytes = bytes; fault = fault }
 
 -- from s, where these entries are left, lines that add nothing were passed
 pub record Passed (a : Ahead) (s : IterState) (entries : List Entry) (t : IterState) : Type 0 where
