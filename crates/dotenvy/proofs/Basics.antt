@@ -1,5 +1,5 @@
 -- Facts on tests, options and codes that many proofs use.
-use Rattle.std.proofs.Common.{◌≡◌, ℕ, Bool, true, false, cond, ◌&&◌, ◌||◌, not, Option, Some, refl, arith}
+use Rattle.std.proofs.Common.{◌≡◌, ◌≢◌, ℕ, ◌<◌, List, [], ◌∷◌, length, ap, sym, ◌∙◌, Bool, true, false, cond, ◌&&◌, ◌||◌, not, Option, Some, refl, arith}
 use Rattle.std.specs.Prelude.{◌==◌}
 use Rattle.std.proofs.lemmas.Bool.Decides.{nat_tests}
 
@@ -51,3 +51,16 @@ if_true x y false h = cc
 pub if_false : {A : Type 0} (x y : A) (b : Bool) → b ≡ false → cond b x y ≡ y
 if_false x y false h = refl
 if_false x y true h = cc
+
+-- a test for emptiness
+nil_of : (xs : List ℕ) → length xs ≡ 0 → xs ≡ []
+nil_of [] h = refl
+nil_of (x ∷ xs) h = absurd (omega (arith, h))
+
+pub tested_empty : (xs : List ℕ) (n : ℕ) (b : Bool) → b ≡ (n == 0) → n ≡ length xs → b ≡ true → xs ≡ []
+tested_empty xs n b test len is = let zero' : n ≡ 0 = (let t : (n == 0) ≡ true = sym test ∙ is in grind (arith, nat_tests, t)) in nil_of xs (sym len ∙ zero')
+
+pub tested_some : (xs : List ℕ) (n : ℕ) (b : Bool) → b ≡ (n == 0) → n ≡ length xs → b ≡ false → (0 < n) × (xs ≢ [])
+tested_some xs n b test len is =
+    let some : 0 < n = (let t : (n == 0) ≡ false = sym test ∙ is in grind (arith, nat_tests, t)) in
+    (some, λ h. let l = ap length h in omega (arith, some, len, l))

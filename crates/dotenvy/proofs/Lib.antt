@@ -45,4 +45,5 @@ pub mod LineItems
 pub mod NextItems
 pub mod KeyLookUps
 pub mod LoadRuns
+pub mod DroppedMarks
 pub mod LoadSteps

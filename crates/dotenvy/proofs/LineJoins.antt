@@ -1,12 +1,11 @@
 -- The splitter's loop over physical lines: what it keeps, and a theorem for each way out of it.
-use Rattle.std.proofs.Common.{◌≡◌, ◌≢◌, ℕ, zero, suc, ◌<◌, Bool, true, false, cond, not, List, [], ◌∷◌, ◌++◌, ◌+◌, ◌≤◌, map, length, drop, refl, sym, ◌∙◌, ap, subst, append_assoc, arith, length-append, Some, None, Option, inl, inr, ◌⊎◌}
+use Rattle.std.proofs.Common.{◌≡◌, ◌≢◌, ℕ, zero, suc, Bool, true, false, cond, not, List, [], ◌∷◌, ◌++◌, ◌+◌, ◌≤◌, map, length, drop, refl, sym, ◌∙◌, ap, subst, append_assoc, arith, length-append, Some, None, Option, inl, inr, ◌⊎◌}
 use Rattle.std.specs.Prelude.{◌==◌, IsUtf8, encode_utf8_all, string_bytes, string_len, Result, Ok, Err}
 use Rattle.std.specs.List.{concat}
 use Rattle.std.specs.Str.{chars, is_utf8, skip_leading_whitespace}
 use Rattle.std.specs.declared.io.ErrorKind.{ErrorKind}
 use Rattle.std.specs.declared.string.String.{String}
 use Rattle.std.proofs.lemmas.Option.{none-some}
-use Rattle.std.proofs.lemmas.Bool.Decides.{nat_tests}
 use Rattle.std.proofs.lemmas.List.{append-nil, map-append}
 use Rattle.std.proofs.lemmas.List.Folds.{concat-append}
 use Rattle.std.proofs.lemmas.Str.{chars-nil, encodes-chars, IsUtf8-string_bytes, is_utf8-from_IsUtf8, IsUtf8-from_is_utf8}
@@ -29,7 +28,7 @@ use Rattle.dotenvy.specs.Lines.{whole_before, whole_lines, lines_so_far, IsOpen,
 use Rattle.dotenvy.specs.JoinedLines.{joined_at_end, TakesJoined, stage_after, Answers}
 use Rattle.dotenvy.proofs.Scans as scans
 use Rattle.dotenvy.proofs.Scans.{stops, scan, scan-reads, Reads, Read}
-use Rattle.dotenvy.proofs.Basics.{and_left, and_right}
+use Rattle.dotenvy.proofs.Basics.{and_left, and_right, tested_some}
 use Rattle.dotenvy.proofs.Cuts.{concat-lines}
 use Rattle.dotenvy.proofs.NextLine.{whole_line, last_line, ends_line, whole_ends, ends_join, one_next}
 use Rattle.dotenvy.proofs.EntriesOnce.{cut_line_texts, whole_chars, one_last}
@@ -494,19 +493,6 @@ joining_finish {A} a s t v text m r empty begun len j k = at (string_bytes text)
     at (b ∷ bytes) e =
         let some : string_bytes text ≢ [] = λ h. let f : b ∷ bytes ≡ [] = sym e ∙ h in cc in
         subst (λ (q : Joined A). TakesJoined a s q v) (sym (begun some)) (joining_at_end a s t v text m (begun_chars text some) (len ∙ sym (ap length (encodes-chars (string_bytes text) (IsUtf8-string_bytes text)))) j k)
-
-nil_of : (xs : List ℕ) → length xs ≡ 0 → xs ≡ []
-nil_of [] h = refl
-nil_of (x ∷ xs) h = absurd (omega (arith, h))
-
--- a test for emptiness
-pub tested_empty : (xs : List ℕ) (n : ℕ) (b : Bool) → b ≡ (n == 0) → n ≡ length xs → b ≡ true → xs ≡ []
-tested_empty xs n b test len is = let zero' : n ≡ 0 = (let t : (n == 0) ≡ true = sym test ∙ is in grind (arith, nat_tests, t)) in nil_of xs (sym len ∙ zero')
-
-pub tested_some : (xs : List ℕ) (n : ℕ) (b : Bool) → b ≡ (n == 0) → n ≡ length xs → b ≡ false → (0 < n) × (xs ≢ [])
-tested_some xs n b test len is =
-    let some : 0 < n = (let t : (n == 0) ≡ false = sym test ∙ is in grind (arith, nat_tests, t)) in
-    (some, λ h. let l = ap length h in omega (arith, some, len, l))
 
 pub text_begun : {A : Type 0} (text : String A) (b : Bool) → b ≡ (string_len text == 0) → string_len text ≡ length (string_bytes text) → b ≡ false → chars (string_bytes text) ≢ []
 text_begun text b test len is = begun_chars text (let t = tested_some (string_bytes text) (string_len text) b test len is in t.1)

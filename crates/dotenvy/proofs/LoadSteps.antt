@@ -1,9 +1,7 @@
 -- How far a load came, what each item adds, and how a load ends.
-use Rattle.std.proofs.Common.{◌≡◌, ℕ, Bool, true, false, ◌&&◌, List, [], ◌∷◌, ◌++◌, length, length-append, drop, Some, None, Result, Ok, Err, refl, sym, ◌∙◌, ap, subst, inl, inr, append_assoc, arith}
-use Rattle.std.proofs.lemmas.Bool.{ltb-true}
-use Rattle.std.specs.Prelude.{◌⊎◌, ◌==◌, not, nat_eq, nat_lt, string_bytes, if◌then◌else◌}
+use Rattle.std.proofs.Common.{◌≡◌, ℕ, Bool, true, false, ◌&&◌, List, [], ◌∷◌, ◌++◌, length, length-append, Some, None, Result, Ok, Err, refl, sym, ◌∙◌, ap, subst, inl, inr, append_assoc, arith}
+use Rattle.std.specs.Prelude.{◌⊎◌, not, string_bytes, if◌then◌else◌}
 use Rattle.std.specs.Str.{chars}
-use Rattle.std.specs.List.{starts_with}
 use Rattle.std.specs.FinMap.{insert}
 use Rattle.std.specs.IoError.{error_kind}
 use Rattle.std.specs.declared.io.Error.{Error as IoError}
@@ -21,8 +19,8 @@ use Rattle.dotenvy.specs.Errors.{IsMemory, IsNulOf}
 use Rattle.dotenvy.specs.Statement.{is_key}
 use Rattle.dotenvy.specs.Value.{Piece}
 use Rattle.dotenvy.specs.Entries.{Failure, Io, Nul, Memory, Entry, Declares, Fails}
-use Rattle.dotenvy.specs.Decided.{up_to_last_line_feed, HasDecided}
-use Rattle.dotenvy.specs.Marks.{byte_order_mark, without_mark}
+use Rattle.dotenvy.specs.Decided.{HasDecided}
+use Rattle.dotenvy.specs.Marks.{without_mark}
 use Rattle.dotenvy.specs.Items.{LookUp, meaning, with_value}
 use Rattle.dotenvy.specs.Run.{Mode, Loaded, sets, after_declaration, run, has_nul}
 use Rattle.dotenvy.specs.Loads.{SameLoad}
@@ -31,19 +29,19 @@ use Rattle.dotenvy.specs.Remembered.{Remembered}
 use Rattle.dotenvy.specs.Names.{values_of, recalled_of, names_of}
 use Rattle.dotenvy.specs.Source.{Ahead}
 use Rattle.dotenvy.specs.Input.{InputState, IsTold, ReadsFit, BoundIsMet, IsFinal, begins_mark, DropsMark, end_reads}
-use Rattle.dotenvy.specs.PhysicalLines.{line_texts}
 use Rattle.dotenvy.specs.Lines.{IsAtEnd, GoesOn}
 use Rattle.dotenvy.specs.Reading.{HasLeft, told_fault, StopsAtBound, IsReading}
 use Rattle.dotenvy.specs.NextItem.{RemembersEntry, DecideFirst, TakesEntry, ItemIs, NextItem}
 use Rattle.dotenvy.specs.LoadsLeft.{IsAnswer, Leaves, Rule, LoadsLeft}
 use Rattle.dotenvy.specs.Iter.{IterState}
-use Rattle.dotenvy.proofs.Basics.{and_left, and_right, same_from, not_false, if_true, if_false}
+use Rattle.dotenvy.proofs.Basics.{not_false, if_true, if_false}
 use Rattle.dotenvy.proofs.Nuls.{value_ok-chars}
 use Rattle.dotenvy.proofs.Keys.{chars-key}
 use Rattle.dotenvy.proofs.Inputs.{ahead_of, the_bytes, the_fault, fits_more}
-use Rattle.dotenvy.proofs.LineEntries.{left_once, left-none, left-fault, decided-none}
+use Rattle.dotenvy.proofs.LineEntries.{left_once, left-none, left-fault}
 use Rattle.dotenvy.proofs.KeyLookUps.{values_of-insert}
 use Rattle.dotenvy.proofs.LoadRuns.{run-same, after-same}
+use Rattle.dotenvy.proofs.DroppedMarks.{mark_decides, marked}
 
 -- a load of these entries: its mode and dialect, what is told, the input at its start, and what names meant then
 pub record Load : Type 0 where
@@ -308,54 +306,6 @@ ends_set {A = A} l names t u pair e k next is key good nul = at (value_ok (strin
         (ap (λ es. run_on l names t.remembered (es ++ told_fault l.ahead.fault)) takes.first
         ∙ if_true (record { env = values_of names; answer = Err (Nul text) }) (run l.mode (after_declaration l.mode (values_of names) text v) (with_value (recalled_of t.remembered) text v) (takes.later ++ told_fault l.ahead.fault)) (sets l.mode (values_of names) text && has_nul v) (ap (λ c. c && has_nul v) is ∙ has))
         (subst (λ n. IsNulOf n e) (sym (chars-key (string_bytes pair.0) (IsUtf8-string_bytes pair.0) key)) (nul h))
-
-mark_undecided : (bytes : List ℕ) → begins_mark bytes ≡ true → up_to_last_line_feed (without_mark bytes) ≡ []
-mark_undecided [] h = refl
-mark_undecided (b ∷ []) h = ap (λ c. up_to_last_line_feed (without_mark (c ∷ []))) (same_from b 0xEF (and_left (b == 0xEF) true h))
-mark_undecided (b ∷ c ∷ []) h =
-    let first = same_from b 0xEF (and_left (b == 0xEF) ((c == 0xBB) && true) h) in
-    let second = same_from c 0xBB (and_left (c == 0xBB) true (and_right (b == 0xEF) ((c == 0xBB) && true) h)) in
-    ap (λ d. up_to_last_line_feed (without_mark (d ∷ c ∷ []))) first ∙ ap (λ d. up_to_last_line_feed (without_mark (0xEF ∷ d ∷ []))) second
-mark_undecided (b ∷ c ∷ d ∷ bytes) h = let f = ltb-true _ _ (and_left (nat_lt (length (b ∷ c ∷ d ∷ bytes)) 3) (starts_with nat_eq byte_order_mark (b ∷ c ∷ d ∷ bytes)) h) in absurd (omega (arith, f))
-
--- the front of a mark decides no entry
-mark_decides : (dialect : Dialect) (bytes : List ℕ) → begins_mark bytes ≡ true → HasDecided dialect (without_mark bytes) []
-mark_decides dialect bytes begins = decided-none dialect (without_mark bytes) (λ count next some none. absurd (some (ap line_texts (mark_undecided bytes begins))))
-
--- what is used of bytes that may begin with a mark
-record Marked (bytes : List ℕ) : Type 0 where
-  used : List ℕ
-  joins : bytes ≡ used ++ without_mark bytes
-  stays : (more rest : List ℕ) → without_mark bytes ≡ more ++ rest → without_mark (used ++ more) ≡ more
-
-no_mark : (bytes more rest : List ℕ) → starts_with nat_eq bytes byte_order_mark ≡ false → bytes ≡ more ++ rest → without_mark more ≡ more
-no_mark bytes [] rest h e = refl
-no_mark bytes (b ∷ []) rest h e = if_false [] (b ∷ []) (starts_with nat_eq (b ∷ []) byte_order_mark) (short (0xEF == b))
-  where
-    short : (t : Bool) → (t && false) ≡ false
-    short true = refl
-    short false = refl
-no_mark bytes (b ∷ c ∷ []) rest h e = if_false [] (b ∷ c ∷ []) (starts_with nat_eq (b ∷ c ∷ []) byte_order_mark) (short (0xEF == b) (0xBB == c))
-  where
-    short : (t u : Bool) → (t && (u && false)) ≡ false
-    short true true = refl
-    short true false = refl
-    short false u = refl
-no_mark bytes (b ∷ c ∷ d ∷ more) rest h e = if_false more (b ∷ c ∷ d ∷ more) (starts_with nat_eq (b ∷ c ∷ d ∷ more) byte_order_mark) (ap (λ bs. starts_with nat_eq bs byte_order_mark) (sym e) ∙ h)
-
-marked : (bytes : List ℕ) → Marked bytes
-marked bytes = at bytes (starts_with nat_eq bytes byte_order_mark) refl
-  where
-    at : (bs : List ℕ) (b : Bool) → starts_with nat_eq bs byte_order_mark ≡ b → Marked bs
-    at bs false h = let is = if_false (drop 3 bs) bs (starts_with nat_eq bs byte_order_mark) h in record { used = []; joins = sym is; stays = λ more rest e. no_mark bs more rest h (sym is ∙ e) }
-    at [] true h = cc
-    at (b ∷ []) true h = absurd (let e = and_right (0xEF == b) false h in let f : false ≡ true = e in cc)
-    at (b ∷ c ∷ []) true h = absurd (let e = and_right (0xBB == c) false (and_right (0xEF == b) ((0xBB == c) && false) h) in let f : false ≡ true = e in cc)
-    at (b ∷ c ∷ d ∷ bs) true h = record {
-      used = b ∷ c ∷ d ∷ [];
-      joins = sym (ap (λ l. b ∷ c ∷ d ∷ l) (if_true bs (b ∷ c ∷ d ∷ bs) (starts_with nat_eq (b ∷ c ∷ d ∷ bs) byte_order_mark) h));
-      stays = λ more rest e. if_true more (b ∷ c ∷ d ∷ more) (starts_with nat_eq (b ∷ c ∷ d ∷ more) byte_order_mark) h;
-    }
 
 -- a load begins behind the mark
 pub came_start : (A : Type 0) (mode : Mode) (s t : IterState) (old : Texts) → t.lines.stage ≡ s.lines.stage → t.remembered ≡ s.remembered → t.dialect ≡ s.dialect → ((a : Ahead) → s.lines.stage ≡ Open → IsTold s.lines.input.left a → DropsMark {A = A} a s.lines.input (Ok tt) t.lines.input) → CameTo mode s old old t

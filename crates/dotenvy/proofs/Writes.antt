@@ -10,6 +10,7 @@ use Rattle.std.proofs.lemmas.List.{take-append-drop, take_all}
 use Rattle.std.proofs.lemmas.Bool.Decides.{nat_tests}
 use denote.Enum.Bare.{sameb, differs_true, differs_false}
 use Rattle.dotenvy.specs.Source.{WriteAppends, fault_after}
+use Rattle.dotenvy.proofs.Basics.{tested_some}
 use Rattle.dotenvy.specs.Sent.{Appended, IsWriteFault}
 
 -- a slice up to the end
@@ -30,11 +31,7 @@ pub appended_same : (held mid after : Option (List ℕ)) (bytes rest : List ℕ)
 appended_same None mid after bytes rest e before write = tt
 appended_same (Some xs) mid after bytes rest e (front, cut, now) write = (front, cut, (subst (λ o. WriteAppends o after (Err e) rest) now write).1)
 
--- the test for emptiness
-some_bytes : (xs : List ℕ) (b : Bool) → b ≡ (length xs == 0) → b ≡ false → xs ≢ []
-some_bytes [] b test none e = let f : true ≡ false = sym test ∙ none in cc
-some_bytes (x ∷ xs) b test none e = cc
-
+-- a fault of a write of some bytes is the last
 fault_told : (last : Option ErrorKind) (xs : List ℕ) (e : Error) → xs ≢ [] → fault_after last xs (Err e) ≡ Some (error_kind e)
 fault_told last [] e some = absurd (some refl)
 fault_told last (x ∷ xs) e some = refl
@@ -50,7 +47,7 @@ fault_kept last (x ∷ xs) n some = at (n == 0) refl
 -- a fault that is no interruption is answered
 pub fault_answered : (before last after : Option ErrorKind) (rest : List ℕ) (empty differs : Bool) (e : Error) (most len : ℕ) (kind : ErrorKind) → after ≡ fault_after last rest (Err e) → empty ≡ (length rest == 0) → empty ≡ false → differs ≡ not (sameb the_type kind Interrupted) → kind ≡ error_kind e → differs ≡ true → IsWriteFault most len before after e
 fault_answered before last after rest empty differs e most len kind told test some test' is yes' none =
-    inl (told ∙ fault_told last rest e (some_bytes rest empty test some), λ same. differs_true the_type kind Interrupted (sym test' ∙ yes') (is ∙ same))
+    inl (told ∙ fault_told last rest e (tested_some rest (length rest) empty test refl some).1, λ same. differs_true the_type kind Interrupted (sym test' ∙ yes') (is ∙ same))
 
 -- where no write had failed before, one was interrupted, or each took a byte
 abbrev pub Taken : Option ErrorKind → Option ErrorKind → ℕ → List ℕ → List ℕ → Type 0
@@ -70,4 +67,4 @@ taken_more before last after count rest bytes n taken told some within none =
 
 pub taken_again : (before last after : Option ErrorKind) (count : ℕ) (rest bytes : List ℕ) (empty differs : Bool) (e : Error) (kind : ErrorKind) → after ≡ fault_after last rest (Err e) → empty ≡ (length rest == 0) → empty ≡ false → differs ≡ not (sameb the_type kind Interrupted) → kind ≡ error_kind e → differs ≡ false → Taken before after (count + 1) rest bytes
 taken_again before last after count rest bytes empty differs e kind told test some test' is no' none =
-    inl (told ∙ fault_told last rest e (some_bytes rest empty test some) ∙ ap Some (sym is ∙ differs_false the_type tt kind Interrupted (sym test' ∙ no')))
+    inl (told ∙ fault_told last rest e (tested_some rest (length rest) empty test refl some).1 ∙ ap Some (sym is ∙ differs_false the_type tt kind Interrupted (sym test' ∙ no')))

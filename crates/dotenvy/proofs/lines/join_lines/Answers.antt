@@ -8,7 +8,8 @@ use Rattle.dotenvy.specs.Source.{Ahead}
 use Rattle.dotenvy.specs.Characters.{begins_with, hash}
 use Rattle.dotenvy.specs.LineModes.{kept, ended}
 use Rattle.dotenvy.specs.Input.{TakesLine, supply}
-use Rattle.dotenvy.proofs.LineJoins.{Joining, joining_start, joining_told, joining_goes, joining_ends, joining_skips, joining_breaks, joining_finish, joining_fails, tested_empty, tested_some, text_begun}
+use Rattle.dotenvy.proofs.LineJoins.{Joining, joining_start, joining_told, joining_goes, joining_ends, joining_skips, joining_breaks, joining_finish, joining_fails, text_begun}
+use Rattle.dotenvy.proofs.Basics.{tested_empty, tested_some}
 use Rattle.dotenvy.proofs.lines.join_lines.Goals as goal
 use Rattle.dotenvy.proofs.lines.join_lines.Goals.{else-is_empty-2-via-then-is_empty-2+else-is_comment, else-is_empty-2-via-else-is_empty-2}
 
