@@ -24,6 +24,8 @@ pub mod ParseLine
 pub mod NextEntries
 pub mod WorkedFiles
 pub mod SearchOnce
+pub mod Paths
+pub mod Searching
 pub mod WorkedSearches
 pub mod TextMaps
 pub mod Keys

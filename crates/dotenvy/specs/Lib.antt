@@ -15,6 +15,7 @@ pub mod Written
 pub mod Decided
 pub mod Search
 pub mod Errors
+pub mod Find
 pub mod Source
 pub mod Sent
 pub mod Environment
@@ -29,6 +30,7 @@ pub mod NextItem
 pub mod LineItem
 pub mod LoadsLeft
 pub mod Listed
+pub mod FirstUse
 pub mod ItemRuns
 pub mod Laws
 pub mod ItemLaws

@@ -1,0 +1,95 @@
+// A file found in the current directory or above it, opened.
+ghost use Rattle.std.specs.Prelude.{◌≡◌, IfErr, IfOk, None, codes};
+ghost use Rattle.std.specs.Path.{path_bytes, path_buf_bytes};
+ghost use Rattle.dotenvy.specs.Errors.{TellsMemory};
+ghost use Rattle.dotenvy.specs.Find.{IsPathOf};
+ghost use Rattle.dotenvy.specs.Iter.{fresh};
+
+use crate::dialect::Dialect;
+use crate::errors::{Error, Result};
+use crate::iter::Iter;
+use crate::search;
+use crate::search::Look;
+use crate::source::Plain;
+use std::alloc::{Alloc, Allocator};
+use std::env::Env;
+use std::fs::{File, Files};
+use std::path::{Path, PathBuf};
+use std::{env, fs};
+
+/// A search for the file of a name, from the current directory up.
+#[derive(Drop)]
+pub(crate) struct Finder<'a> {
+    filename: Path<'a>,
+}
+
+impl<'a> Finder<'a> {
+    pub(crate) fn new() -> Finder<'a>
+        ensures { path_bytes result.filename ≡ codes ".env" }
+    {
+        Finder {
+            filename: Path::new(".env"),
+        }
+    }
+
+    pub(crate) fn filename(self, filename: Path<'a>) -> Finder<'a>
+        ensures { path_bytes result.filename ≡ path_bytes filename.entry }
+    {
+        Finder { filename }
+    }
+
+    /// The path of the file that was found, and an iterator over it. Links are followed.
+    pub(crate) fn find<A: Allocator + Clone, R: Files + Env + Alloc<A = A>>(
+        self,
+        rt: &R,
+        dialect: Dialect,
+    ) -> Result<(PathBuf<A>, Iter<Plain<R::File>, A>), A>
+        ensures path { IfOk result (λ found. IsPathOf (path_bytes self.entry.filename) (path_buf_bytes found.0)) }
+        ensures file { IfOk result (λ found. found.1 ≡ fresh None dialect) }
+        ensures memory { IfErr result TellsMemory }
+    {
+        match self.found(rt, dialect) {
+            Ok(found) => Ok(found),
+            Err(error) => Err(error.or_memory()),
+        }
+    }
+
+    // As `find`, but a fault of a system that had no memory is left as it is.
+    fn found<A: Allocator + Clone, R: Files + Env + Alloc<A = A>>(
+        self,
+        rt: &R,
+        dialect: Dialect,
+    ) -> Result<(PathBuf<A>, Iter<Plain<R::File>, A>), A>
+        ensures path { IfOk result (λ found. IsPathOf (path_bytes self.entry.filename) (path_buf_bytes found.0)) }
+        ensures file { IfOk result (λ found. found.1 ≡ fresh None dialect) }
+    {
+        let directory = env::current_dir(rt)?;
+        let path = search::find(
+            rt.alloc(),
+            directory.as_path(),
+            self.filename,
+            |path| look_at(rt, path),
+        )?;
+        let file = open(rt, path.as_path())?;
+        Ok((path, Iter::with_dialect(rt.alloc(), file, dialect)?))
+    }
+}
+
+/// Opens a file for reading.
+pub(crate) fn open<A: Allocator, R: Files>(rt: &R, path: Path<'_>) -> Result<Plain<R::File>, A>
+    ensures memory { IfErr result TellsMemory }
+{
+    match File::open(rt, path) {
+        Ok(file) => Ok(Plain::new(file)),
+        Err(fault) => Err(Error::Io(fault).or_memory()),
+    }
+}
+
+// What the file system says of a path. Links are followed.
+fn look_at<R: Files>(rt: &R, path: Path<'_>) -> Look {
+    match fs::metadata(rt, path) {
+        Ok(found) if found.is_file() => Look::File,
+        Ok(_) => Look::Other,
+        Err(fault) => Look::Fault(fault),
+    }
+}

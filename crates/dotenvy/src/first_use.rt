@@ -1,0 +1,74 @@
+// The values of an environment, into which the first use loads `.env`.
+ghost use Rattle.std.specs.Prelude.{◌≡◌, ◌⊎◌, Err, IfErr, IfOk, None, OnErr, OnOk, false, true};
+ghost use Rattle.std.specs.FinMap as map;
+ghost use Rattle.dotenvy.specs.Environment.{KeepsNames};
+ghost use Rattle.dotenvy.specs.Errors.{IsMemory, IsMemoryErr};
+ghost use Rattle.dotenvy.specs.FirstUse.{AnswersVar};
+ghost use Rattle.dotenvy.specs.LoadsLeft.{ChangesKeys};
+
+use crate::environment::{Environment, Vars};
+use crate::errors::{Error, Result, VarError};
+use crate::files::dotenv;
+use std::alloc::{Alloc, Allocator};
+use std::env::Env;
+use std::fs::Files;
+
+/// The value of a name. The first use of `var` or [`vars`] loads `.env` before.
+pub fn var<A: Allocator + Clone, R: Files + Env + Alloc<A = A>>(
+    rt: &R,
+    env: &mut Environment<A>,
+    key: &str,
+) -> Result<String<A>, A>
+    ensures marked { env.old.loaded ≡ true → env.new ≡ env.old }
+    ensures keeps { KeepsNames env.old.names env.new.names }
+    ensures keys { ChangesKeys env.old.names env.new.names }
+    ensures mark { (env.new.loaded ≡ true) ⊎ IsMemoryErr result }
+
+    // Of the environment as it stands now. Where the mark is set, only a copy of a value takes memory.
+    ensures answer { IsMemoryErr result ⊎ AnswersVar (map.get env.new.names key.now) result }
+    ensures absent { env.new.loaded ≡ true → map.get env.new.names key.now ≡ None → result ≡ Err (Error.EnvVar VarError.NotPresent) }
+{
+    load_once(rt, env)?;
+    match env.get(key) {
+        Some(value) => Ok(String::from_str(rt.alloc(), value)?),
+        None => Err(Error::EnvVar(VarError::NotPresent)),
+    }
+}
+
+/// A snapshot of all names and their values. The first use of [`var`] or `vars` loads `.env` before.
+pub fn vars<A: Allocator + Clone, R: Files + Env + Alloc<A = A>>(
+    rt: &R,
+    env: &mut Environment<A>,
+) -> Result<Vars<A>, A>
+    ensures marked { env.old.loaded ≡ true → env.new ≡ env.old }
+    ensures keeps { KeepsNames env.old.names env.new.names }
+    ensures keys { ChangesKeys env.old.names env.new.names }
+    ensures mark { (env.new.loaded ≡ true) ⊎ IsMemoryErr result }
+    ensures pairs { IfOk result (λ pairs. pairs ≡ map.entries env.new.names) }
+    ensures memory { IfErr result IsMemory }
+{
+    load_once(rt, env).and_then(|()| env.snapshot())
+}
+
+// Loads `.env` where the mark isn't set, and sets it. A fault of the load is no fault of the use, but for refused
+// memory, which leaves the mark as it is.
+fn load_once<A: Allocator + Clone, R: Files + Env + Alloc<A = A>>(
+    rt: &R,
+    env: &mut Environment<A>,
+) -> Result<(), A>
+    ensures marked { env.old.loaded ≡ true → env.new ≡ env.old }
+    ensures keeps { KeepsNames env.old.names env.new.names }
+    ensures keys { ChangesKeys env.old.names env.new.names }
+    ensures ok { OnOk result (env.new.loaded ≡ true) }
+    ensures refused { OnErr result (env.new.loaded ≡ false) }
+    ensures memory { IfErr result IsMemory }
+{
+    if env.loaded() {
+        return Ok(());
+    }
+    if let Err(Error::Memory(refused)) = dotenv(rt, env) {
+        return Err(Error::Memory(refused));
+    }
+    env.mark_loaded();
+    Ok(())
+}
