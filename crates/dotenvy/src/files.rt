@@ -18,7 +18,13 @@ use std::env::Env;
 use std::fs::Files;
 use std::path::{Path, PathBuf};
 
-/// Loads the file at a path: a name that is there keeps its value.
+/// Loads the file at a path: a name that is there keeps its value (docs/GRAMMAR.md, "Loading").
+///
+/// `Io` tells why the file could not be opened or read. After any error what stands before it in the file is set.
+///
+/// ```
+/// from_path(&rt, Path::new("/etc/service.env"), &mut environment)?;
+/// ```
 pub fn from_path<A: Allocator + Clone, R: Files + Alloc<A = A>>(
     rt: &R,
     path: Path<'_>,
@@ -31,7 +37,11 @@ pub fn from_path<A: Allocator + Clone, R: Files + Alloc<A = A>>(
     from_read(rt.alloc(), open(rt, path)?, env)
 }
 
-/// Loads the file at a path: each name that it declares is set.
+/// As [`from_path`], but each name that the file declares is set.
+///
+/// ```
+/// from_path_override(&rt, Path::new("/etc/service.env"), &mut environment)?;
+/// ```
 pub fn from_path_override<A: Allocator + Clone, R: Files + Alloc<A = A>>(
     rt: &R,
     path: Path<'_>,
@@ -43,7 +53,12 @@ pub fn from_path_override<A: Allocator + Clone, R: Files + Alloc<A = A>>(
     from_read_override(rt.alloc(), open(rt, path)?, env)
 }
 
-/// A fresh iterator over the file at a path; nothing is set.
+/// A fresh iterator over the file at a path; nothing is read yet, and nothing is set. `Io` tells why the file could not
+/// be opened.
+///
+/// ```
+/// let mut file = from_path_iter(&rt, Path::new("/etc/service.env"))?;
+/// ```
 pub fn from_path_iter<A: Allocator + Clone, R: Files + Alloc<A = A>>(
     rt: &R,
     path: Path<'_>,
@@ -54,8 +69,16 @@ pub fn from_path_iter<A: Allocator + Clone, R: Files + Alloc<A = A>>(
     from_read_iter(rt.alloc(), open(rt, path)?)
 }
 
-/// Searches for the file of a name, from the current directory up, and loads it: a name that is there keeps its value.
-/// The path that was found is answered.
+/// Searches for the file of a name in the current directory and in those above it, and loads it: a name that is there
+/// keeps its value. The path that was found is the answer (docs/GRAMMAR.md, "Finding the file").
+///
+/// `Io` tells why there was no current directory, why a candidate could not be looked at, or why the file could not be
+/// opened or read; its kind is `NotFound` where there is no such file (see [`Error::not_found`](crate::Error)). After
+/// any error what stands before it in the file is set.
+///
+/// ```
+/// let path = from_filename(&rt, Path::new("service.env"), &mut environment)?;
+/// ```
 pub fn from_filename<A: Allocator + Clone, R: Files + Env + Alloc<A = A>>(
     rt: &R,
     filename: Path<'_>,
@@ -69,7 +92,11 @@ pub fn from_filename<A: Allocator + Clone, R: Files + Env + Alloc<A = A>>(
     from_filename_with(rt, filename, Dialect::V15, env)
 }
 
-/// As [`from_filename`], with the dialect of the file.
+/// As [`from_filename`], with the dialect of the file (docs/GRAMMAR.md, "The second dialect").
+///
+/// ```
+/// from_filename_with(&rt, Path::new("service.env"), Dialect::Next, &mut environment)?;
+/// ```
 pub fn from_filename_with<A: Allocator + Clone, R: Files + Env + Alloc<A = A>>(
     rt: &R,
     filename: Path<'_>,
@@ -87,6 +114,10 @@ pub fn from_filename_with<A: Allocator + Clone, R: Files + Env + Alloc<A = A>>(
 }
 
 /// As [`from_filename`], but each name that the file declares is set.
+///
+/// ```
+/// let path = from_filename_override(&rt, Path::new("service.env"), &mut environment)?;
+/// ```
 pub fn from_filename_override<A: Allocator + Clone, R: Files + Env + Alloc<A = A>>(
     rt: &R,
     filename: Path<'_>,
@@ -101,7 +132,12 @@ pub fn from_filename_override<A: Allocator + Clone, R: Files + Env + Alloc<A = A
     Ok(path)
 }
 
-/// Searches for the file of a name, from the current directory up. A fresh iterator over it; nothing is set.
+/// Searches as [`from_filename`] does. A fresh iterator over the file that was found; nothing is read yet, and nothing
+/// is set.
+///
+/// ```
+/// let mut file = from_filename_iter(&rt, Path::new("service.env"))?;
+/// ```
 pub fn from_filename_iter<A: Allocator + Clone, R: Files + Env + Alloc<A = A>>(
     rt: &R,
     filename: Path<'_>,
@@ -113,7 +149,12 @@ pub fn from_filename_iter<A: Allocator + Clone, R: Files + Env + Alloc<A = A>>(
     Ok(file)
 }
 
-/// [`from_filename`] of `.env`.
+/// [`from_filename`] of `.env`. It leaves the environment's mark alone: that is for the first use (see [`var`](crate::var)).
+///
+/// ```
+/// let mut environment = Environment::from_process(&rt)?;
+/// let path = dotenv(&rt, &mut environment)?;
+/// ```
 pub fn dotenv<A: Allocator + Clone, R: Files + Env + Alloc<A = A>>(
     rt: &R,
     env: &mut Environment<A>,
@@ -129,6 +170,10 @@ pub fn dotenv<A: Allocator + Clone, R: Files + Env + Alloc<A = A>>(
 }
 
 /// [`from_filename_override`] of `.env`.
+///
+/// ```
+/// let path = dotenv_override(&rt, &mut environment)?;
+/// ```
 pub fn dotenv_override<A: Allocator + Clone, R: Files + Env + Alloc<A = A>>(
     rt: &R,
     env: &mut Environment<A>,
@@ -143,6 +188,10 @@ pub fn dotenv_override<A: Allocator + Clone, R: Files + Env + Alloc<A = A>>(
 }
 
 /// [`from_filename_iter`] of `.env`.
+///
+/// ```
+/// let mut file = dotenv_iter(&rt)?;
+/// ```
 pub fn dotenv_iter<A: Allocator + Clone, R: Files + Env + Alloc<A = A>>(
     rt: &R,
 ) -> Result<Iter<Plain<R::File>, A>, A>

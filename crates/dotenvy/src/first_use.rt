@@ -13,7 +13,16 @@ use std::alloc::{Alloc, Allocator};
 use std::env::Env;
 use std::fs::Files;
 
-/// The value of a name. The first use of `var` or [`vars`] loads `.env` before.
+/// The value of a name, after the first use: the first call of `var` or [`vars`] with an environment loads `.env` into it
+/// by [`dotenv`], and sets its mark (docs/GRAMMAR.md, "Finding the file").
+///
+/// A fault of that load is passed by: what stands before it is set. The error is `EnvVar` where the name has no value,
+/// and else `Memory`. Memory that was refused within the load leaves the mark as it was, and the next use loads again.
+///
+/// ```
+/// let mut environment = Environment::from_process(&rt)?;
+/// let port = var(&rt, &mut environment, "PORT")?;
+/// ```
 pub fn var<A: Allocator + Clone, R: Files + Env + Alloc<A = A>>(
     rt: &R,
     env: &mut Environment<A>,
@@ -35,7 +44,13 @@ pub fn var<A: Allocator + Clone, R: Files + Env + Alloc<A = A>>(
     }
 }
 
-/// A snapshot of all names and their values. The first use of [`var`] or `vars` loads `.env` before.
+/// All names and their values, on their own, after the first use (see [`var`]). The error is `Memory`.
+///
+/// ```
+/// for (name, value) in vars(&rt, &mut environment)? {
+///     println!(rt; "{name}={value}")?;
+/// }
+/// ```
 pub fn vars<A: Allocator + Clone, R: Files + Env + Alloc<A = A>>(
     rt: &R,
     env: &mut Environment<A>,
