@@ -1,21 +1,21 @@
 //! Files that are read while memory is refused.
 
 use crate::refusals::{is_done, refuse_in_turn};
-use dotenvy::{Bytes, Environment, Error, Iter, Result};
+use dotenvy::{Bytes, Environment, Error, Iter, Result, Source};
 use rationed::Rationed;
 use std::alloc::{Allocator, Global};
 use std::process::Abort;
 use std::test::Fail;
 
 /// The items of a file, added to `items` as `A=1;B=1;C=x;`, up to a refusal. After them there are none.
-fn read_items<A: Allocator + Clone>(
+fn read_items<S: Source + Drop, A: Allocator + Clone>(
     rt: &impl Abort,
     alloc: A,
-    file: &[u8],
+    opened: Result<Iter<S, A>, A>,
     items: &mut String,
 ) -> Result<(), A> {
-    let mut environment = Environment::new(alloc.clone()?);
-    let mut entries = Iter::new(alloc, Bytes::new(file))?;
+    let mut environment = Environment::new(alloc);
+    let mut entries = opened?;
     let mut answer = Ok(());
     for item in entries.items(&environment) {
         match item {
@@ -32,15 +32,16 @@ fn read_items<A: Allocator + Clone>(
     answer
 }
 
-fn items_of_file(
+/// The items of a file that was opened, or not for want of memory, are these, or some of the first.
+pub fn items_of<'a, S: Source + Drop>(
     rt: &impl Abort,
     alloc: Global,
-    ration: &Rationed<Global>,
-    file: &[u8],
+    ration: &'a Rationed<Global>,
+    opened: Result<Iter<S, &'a Rationed<Global>>, &'a Rationed<Global>>,
     wanted: &str,
 ) -> std::result::Result<bool, Fail> {
     let mut items = String::new(alloc);
-    let answer = read_items(rt, ration, file, &mut items);
+    let answer = read_items(rt, ration, opened, &mut items);
     let is_done = is_done(rt, ration, &answer);
     if is_done {
         assert_eq!(rt; items.as_str(), wanted);
@@ -64,7 +65,8 @@ fn items(rt: HostRuntime) -> std::result::Result<(), Fail> {
     ];
     for (file, wanted) in files {
         refuse_in_turn(&rt, alloc, |ration| {
-            items_of_file(&rt, alloc, ration, file, wanted)
+            let opened = Iter::new(ration, Bytes::new(file));
+            items_of(&rt, alloc, ration, opened, wanted)
         })?;
     }
     Ok(())
@@ -77,6 +79,7 @@ fn a_line_longer_than_a_read(rt: HostRuntime) -> std::result::Result<(), Fail> {
     let file = format!(in alloc; "K=\"{letters}\"\nL=1\n")?;
     let wanted = format!(in alloc; "K={letters};L=1;")?;
     refuse_in_turn(&rt, alloc, |ration| {
-        items_of_file(&rt, alloc, ration, file.as_bytes(), wanted.as_str())
+        let opened = Iter::new(ration, Bytes::new(file.as_bytes()));
+        items_of(&rt, alloc, ration, opened, wanted.as_str())
     })
 }

@@ -9,11 +9,21 @@
 #[cfg(test)]
 mod environments;
 #[cfg(test)]
+mod file_forms;
+#[cfg(test)]
 mod files;
+#[cfg(test)]
+mod first_use;
+#[cfg(test)]
+mod folders;
 #[cfg(test)]
 mod loads;
 #[cfg(test)]
+mod processes;
+#[cfg(test)]
 mod refusals;
+#[cfg(test)]
+mod searches;
 #[cfg(test)]
 mod values;
 #[cfg(test)]
