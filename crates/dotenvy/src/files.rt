@@ -2,7 +2,7 @@
 ghost use Rattle.std.specs.Prelude.{◌≡◌, IfErr, IfOk, None, codes};
 ghost use Rattle.std.specs.Path.{path_bytes, path_buf_bytes};
 ghost use Rattle.dotenvy.specs.Environment.{KeepsNames};
-ghost use Rattle.dotenvy.specs.Errors.{TellsMemory};
+ghost use Rattle.dotenvy.specs.Errors.{IsFileFault};
 ghost use Rattle.dotenvy.specs.Find.{IsPathOf};
 ghost use Rattle.dotenvy.specs.Iter.{fresh};
 ghost use Rattle.dotenvy.specs.LoadsLeft.{ChangesKeys};
@@ -64,7 +64,7 @@ pub fn from_path_iter<A: Allocator + Clone, R: Files + Alloc<A = A>>(
     path: Path<'_>,
 ) -> Result<Iter<Plain<R::File>, A>, A>
     ensures ok { IfOk result (λ file. file ≡ fresh None Dialect.V15) }
-    ensures memory { IfErr result TellsMemory }
+    ensures fault { IfErr result IsFileFault }
 {
     from_read_iter(rt.alloc(), open(rt, path)?)
 }
@@ -143,7 +143,7 @@ pub fn from_filename_iter<A: Allocator + Clone, R: Files + Env + Alloc<A = A>>(
     filename: Path<'_>,
 ) -> Result<Iter<Plain<R::File>, A>, A>
     ensures ok { IfOk result (λ file. file ≡ fresh None Dialect.V15) }
-    ensures memory { IfErr result TellsMemory }
+    ensures fault { IfErr result IsFileFault }
 {
     let (_, file) = Finder::new().filename(filename).find(rt, Dialect::V15)?;
     Ok(file)
@@ -196,7 +196,7 @@ pub fn dotenv_iter<A: Allocator + Clone, R: Files + Env + Alloc<A = A>>(
     rt: &R,
 ) -> Result<Iter<Plain<R::File>, A>, A>
     ensures ok { IfOk result (λ file. file ≡ fresh None Dialect.V15) }
-    ensures memory { IfErr result TellsMemory }
+    ensures fault { IfErr result IsFileFault }
 {
     let (_, file) = Finder::new().find(rt, Dialect::V15)?;
     Ok(file)

@@ -1,7 +1,7 @@
 // A file found in the current directory or above it, opened.
 ghost use Rattle.std.specs.Prelude.{◌≡◌, IfErr, IfOk, None, codes};
 ghost use Rattle.std.specs.Path.{path_bytes, path_buf_bytes};
-ghost use Rattle.dotenvy.specs.Errors.{TellsMemory};
+ghost use Rattle.dotenvy.specs.Errors.{IsFileFault, IsSystemFault};
 ghost use Rattle.dotenvy.specs.Find.{IsPathOf};
 ghost use Rattle.dotenvy.specs.Iter.{fresh};
 
@@ -46,7 +46,7 @@ impl<'a> Finder<'a> {
     ) -> Result<(PathBuf<A>, Iter<Plain<R::File>, A>), A>
         ensures path { IfOk result (λ found. IsPathOf (path_bytes self.entry.filename) (path_buf_bytes found.0)) }
         ensures file { IfOk result (λ found. found.1 ≡ fresh None dialect) }
-        ensures memory { IfErr result TellsMemory }
+        ensures fault { IfErr result IsFileFault }
     {
         match self.found(rt, dialect) {
             Ok(found) => Ok(found),
@@ -62,6 +62,7 @@ impl<'a> Finder<'a> {
     ) -> Result<(PathBuf<A>, Iter<Plain<R::File>, A>), A>
         ensures path { IfOk result (λ found. IsPathOf (path_bytes self.entry.filename) (path_buf_bytes found.0)) }
         ensures file { IfOk result (λ found. found.1 ≡ fresh None dialect) }
+        ensures fault { IfErr result IsSystemFault }
     {
         let directory = env::current_dir(rt)?;
         let path = search::find(
@@ -77,7 +78,7 @@ impl<'a> Finder<'a> {
 
 /// Opens a file for reading.
 pub(crate) fn open<A: Allocator, R: Files>(rt: &R, path: Path<'_>) -> Result<Plain<R::File>, A>
-    ensures memory { IfErr result TellsMemory }
+    ensures fault { IfErr result IsFileFault }
 {
     match File::open(rt, path) {
         Ok(file) => Ok(Plain::new(file)),
