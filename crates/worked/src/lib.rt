@@ -2,23 +2,45 @@
 #![tactic(auto)]
 
 #[cfg(test)]
+mod calls;
+#[cfg(test)]
+mod current_directory;
+#[cfg(test)]
 mod dialects;
 #[cfg(test)]
 mod environments;
 #[cfg(test)]
 mod errors;
 #[cfg(test)]
+mod failing_files;
+#[cfg(test)]
 mod failing_readers;
 #[cfg(test)]
 mod failing_writers;
+#[cfg(test)]
+mod files;
+#[cfg(test)]
+mod first_use;
+#[cfg(test)]
+mod folder;
+#[cfg(test)]
+mod found_files;
 #[cfg(test)]
 mod lines;
 #[cfg(test)]
 mod loads;
 #[cfg(test)]
+mod looks;
+#[cfg(test)]
+mod processes;
+#[cfg(test)]
 mod reader;
 #[cfg(test)]
 mod recorded;
+#[cfg(test)]
+mod runtime;
+#[cfg(test)]
+mod searches;
 #[cfg(test)]
 mod shown;
 #[cfg(test)]
