@@ -2,12 +2,12 @@
 
 use crate::shown::{environment, fault, pairs_of, state};
 use dotenvy::{
-    Dialect, Environment, Result, dotenv, dotenv_iter, dotenv_override, from_filename,
+    Dialect, Environment, Plain, Result, dotenv, dotenv_iter, dotenv_override, from_filename,
     from_filename_iter, from_filename_override, from_filename_with, from_path, from_path_iter,
-    from_path_override, var, vars,
+    from_path_override, from_read, from_read_override, var, vars,
 };
 use std::env::Env;
-use std::fs::Files;
+use std::fs::{File, Files};
 use std::path::{Path, PathBuf};
 use std::test::Fail;
 
@@ -23,7 +23,7 @@ pub const KEPT: &str = "EXISTING=from_env, TESTKEY=test_val";
 /// What a call leaves that replaces them.
 pub const REPLACED: &str = "EXISTING=from_file, TESTKEY=test_val_overridden";
 
-/// A call that loads a file or opens it. What it opens is loaded by `load`.
+/// A call that loads a file or opens it. What it opens is loaded by `load`; what a reader needs is opened before.
 #[derive(Clone, Copy, Debug)]
 pub enum Call {
     FromPath,
@@ -34,6 +34,8 @@ pub enum Call {
     FromFilenameIter,
     FromFilenameInV15,
     FromFilenameInNext,
+    FromRead,
+    FromReadOverride,
     Dotenv,
     DotenvOverride,
     DotenvIter,
@@ -79,6 +81,12 @@ impl Call {
             }
             Call::FromFilenameInNext => {
                 return Ok(Some(from_filename_with(rt, file, Dialect::Next, environment)?));
+            }
+            Call::FromRead => {
+                from_read(rt.alloc(), Plain::new(File::open(rt, file)?), environment)?;
+            }
+            Call::FromReadOverride => {
+                from_read_override(rt.alloc(), Plain::new(File::open(rt, file)?), environment)?;
             }
             Call::Dotenv => return Ok(Some(dotenv(rt, environment)?)),
             Call::DotenvOverride => return Ok(Some(dotenv_override(rt, environment)?)),

@@ -22,6 +22,8 @@ fn calls_that_keep_and_calls_that_replace(rt: HostRuntime) -> Result<(), Fail> {
         (Call::FromFilenameIter, ".env", "ok", KEPT),
         (Call::FromFilenameInV15, ".env", path, KEPT),
         (Call::FromFilenameInNext, ".env", path, KEPT),
+        (Call::FromRead, path, "ok", KEPT),
+        (Call::FromReadOverride, path, "ok", REPLACED),
         (Call::Dotenv, "", path, KEPT),
         (Call::DotenvOverride, "", path, REPLACED),
         (Call::DotenvIter, "", "ok", KEPT),
