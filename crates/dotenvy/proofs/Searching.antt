@@ -80,46 +80,46 @@ searches_ended directory name look h = let a = ascent_exists directory in record
 module _ {F : Type 0} (step : F → Path → Look → F → Type 0) (start : F) (directory name : List ℕ) where
   -- so far the search was asked: what is asked from here on completes it
   pub record Asking (above : Option (List ℕ)) (look : F) : Type 0 where
-    pub completes : (asked later : List (List ℕ × Look)) (answer : Answer) → SearchesOn above name (asked ++ later) answer → AsksInTurn step look asked → (front : List (List ℕ × Look)) × Searches directory name (front ++ later) answer × AsksInTurn step start front
+    pub completes : (asked later : List (List ℕ × Look)) (answer : Answer) (end : F) → SearchesOn above name (asked ++ later) answer → AsksInTurn step look asked end → (front : List (List ℕ × Look)) × Searches directory name (front ++ later) answer × AsksInTurn step start front end
 
   -- at a directory the candidate was asked for and the search goes on
   pub asking_on : (place : List ℕ) (above : Option (List ℕ)) (before after : F) (path : Path) (look : Look) → Asking (Some place) before → path_bytes path ≡ path_in place name → step before path look after → parent_of place ≡ above → ends_search look ≡ false → Asking above after
   asking_on place above before after path look asking p call e h = record {
-    completes = λ asked later answer s a.
-        asking.completes ((path_in place name, look) ∷ asked) later answer (searches_past place name above look (asked ++ later) answer e h s)
-        (record { calls = (path, look) ∷ a.calls; last = a.last; are_asked = ap (λ q. (q, look) ∷ asked) (sym p) ∙ ap (λ cs. (path_bytes path, look) ∷ cs) a.are_asked; steps = (after, call, a.steps) });
+    completes = λ asked later answer end s a.
+        asking.completes ((path_in place name, look) ∷ asked) later answer end (searches_past place name above look (asked ++ later) answer e h s)
+        (record { calls = (path, look) ∷ a.calls; are_asked = ap (λ q. (q, look) ∷ asked) (sym p) ∙ ap (λ cs. (path_bytes path, look) ∷ cs) a.are_asked; steps = (after, call, a.steps) });
   }
 
 -- no call was made yet
-pub no_calls : {F : Type 0} (step : F → Path → Look → F → Type 0) (look : F) → AsksInTurn step look []
-no_calls step look = record { calls = []; last = look; are_asked = refl; steps = refl }
+pub no_calls : {F : Type 0} (step : F → Path → Look → F → Type 0) (look : F) → AsksInTurn step look [] look
+no_calls step look = record { calls = []; are_asked = refl; steps = refl }
 
 -- one call was made
-pub one_call : {F : Type 0} (step : F → Path → Look → F → Type 0) (before after : F) (path : Path) (look : Look) → step before path look after → AsksInTurn step before ((path_bytes path, look) ∷ [])
-one_call step before after path look call = record { calls = (path, look) ∷ []; last = after; are_asked = refl; steps = (after, call, refl) }
+pub one_call : {F : Type 0} (step : F → Path → Look → F → Type 0) (before after : F) (path : Path) (look : Look) → step before path look after → AsksInTurn step before ((path_bytes path, look) ∷ []) after
+one_call step before after path look call = record { calls = (path, look) ∷ []; are_asked = refl; steps = (after, call, refl) }
 
 -- nothing was asked yet
 pub asking_starts : {F : Type 0} (step : F → Path → Look → F → Type 0) (look : F) (directory name : List ℕ) → Asking step look directory name (Some directory) look
-asking_starts step look directory name = record { completes = λ asked later answer s a. (asked, s, a) }
+asking_starts step look directory name = record { completes = λ asked later answer end s a. (asked, s, a) }
 
 -- refused memory cuts the search short
-pub finds_cut : {F A : Type 0} (step : F → Path → Look → F → Type 0) (start look : F) (directory name place : List ℕ) (result : Result (PathBuf A) (Error A)) → Asking step start directory name (Some place) look → IsMemoryErr result → Finds step start directory name result
+pub finds_cut : {F A : Type 0} (step : F → Path → Look → F → Type 0) (start look : F) (directory name place : List ℕ) (result : Result (PathBuf A) (Error A)) → Asking step start directory name (Some place) look → IsMemoryErr result → Finds step start look directory name result
 finds_cut step start look directory name place result asking memory =
     let rest = search_exists place name (λ _. Other) in
-    let whole = asking.completes [] rest.0 (search_answer rest.0) rest.1 (no_calls step look) in
+    let whole = asking.completes [] rest.0 (search_answer rest.0) look rest.1 (no_calls step look) in
     record { asked = whole.0; later = rest.0; answer = search_answer rest.0; searches = whole.1; asks = whole.2; outcome = inl memory }
 
 -- what stands at a candidate ends the search
-pub finds_ended : {F A : Type 0} (step : F → Path → Look → F → Type 0) (start before after : F) (directory name place : List ℕ) (path : Path) (look : Look) (result : Result (PathBuf A) (Error A)) → Asking step start directory name (Some place) before → path_bytes path ≡ path_in place name → step before path look after → ends_search look ≡ true → AnswersSearch (search_answer ((path_in place name, look) ∷ [])) result → Finds step start directory name result
+pub finds_ended : {F A : Type 0} (step : F → Path → Look → F → Type 0) (start before after : F) (directory name place : List ℕ) (path : Path) (look : Look) (result : Result (PathBuf A) (Error A)) → Asking step start directory name (Some place) before → path_bytes path ≡ path_in place name → step before path look after → ends_search look ≡ true → AnswersSearch (search_answer ((path_in place name, look) ∷ [])) result → Finds step start after directory name result
 finds_ended step start before after directory name place path look result asking p call h answers =
-    let asked : AsksInTurn step before ((path_in place name, look) ∷ []) = subst (λ q. AsksInTurn step before ((q, look) ∷ [])) p (one_call step before after path look call) in
-    let whole = asking.completes ((path_in place name, look) ∷ []) [] (search_answer ((path_in place name, look) ∷ [])) (searches_ended place name look h) asked in
+    let asked : AsksInTurn step before ((path_in place name, look) ∷ []) after = subst (λ q. AsksInTurn step before ((q, look) ∷ []) after) p (one_call step before after path look call) in
+    let whole = asking.completes ((path_in place name, look) ∷ []) [] (search_answer ((path_in place name, look) ∷ [])) after (searches_ended place name look h) asked in
     record { asked = whole.0; later = []; answer = search_answer ((path_in place name, look) ∷ []); searches = whole.1; asks = whole.2; outcome = inr (refl, answers) }
 
 -- no directory is left
-pub finds_none : {F A : Type 0} (step : F → Path → Look → F → Type 0) (start look : F) (directory name : List ℕ) (result : Result (PathBuf A) (Error A)) → Asking step start directory name None look → AnswersSearch FoundNowhere result → Finds step start directory name result
+pub finds_none : {F A : Type 0} (step : F → Path → Look → F → Type 0) (start look : F) (directory name : List ℕ) (result : Result (PathBuf A) (Error A)) → Asking step start directory name None look → AnswersSearch FoundNowhere result → Finds step start look directory name result
 finds_none step start look directory name result asking answers =
-    let whole = asking.completes [] [] FoundNowhere (refl, refl) (no_calls step look) in
+    let whole = asking.completes [] [] FoundNowhere look (refl, refl) (no_calls step look) in
     record { asked = whole.0; later = []; answer = FoundNowhere; searches = whole.1; asks = whole.2; outcome = inr (refl, answers) }
 
 -- how much is left of the directories: more than of those above
@@ -154,8 +154,8 @@ not_cut path answer (inl memory) = absurd memory
 not_cut path answer (inr x) = x.1
 
 -- what `find` answers is the path of the name in some directory
-pub finds_a_path : {F A : Type 0} (step : F → Path → Look → F → Type 0) (look : F) (directory name : List ℕ) (path : PathBuf A) → Finds step look directory name (Ok path) → IsPathOf name (path_buf_bytes path)
-finds_a_path {A} step look directory name path finds = at finds.answer (not_cut path finds.answer finds.outcome) finds.searches
+pub finds_a_path : {F A : Type 0} (step : F → Path → Look → F → Type 0) (before after : F) (directory name : List ℕ) (path : PathBuf A) → Finds step before after directory name (Ok path) → IsPathOf name (path_buf_bytes path)
+finds_a_path {A} step before after directory name path finds = at finds.answer (not_cut path finds.answer finds.outcome) finds.searches
   where
     at : (answer : Answer) → AnswersSearch {A = A} answer (Ok path) → Searches directory name (finds.asked ++ finds.later) answer → IsPathOf name (path_buf_bytes path)
     at (FoundAt found) e s = let p = found_among name s.directories (finds.asked ++ finds.later) found s.are_asked (sym s.answers) in (p.0, e ∙ p.1)

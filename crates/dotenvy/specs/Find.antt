@@ -15,11 +15,10 @@ abbrev pub seen : Path × Look → List ℕ × Look
 seen call = (path_bytes call.0, call.1)
 
 -- these candidates were asked for: each by one call of the look, which began where the call before had left it
-pub record AsksInTurn {F : Type 0} (step : F → Path → Look → F → Type 0) (look : F) (asked : List (List ℕ × Look)) : Type 0 where
+pub record AsksInTurn {F : Type 0} (step : F → Path → Look → F → Type 0) (before : F) (asked : List (List ℕ × Look)) (after : F) : Type 0 where
   pub calls : List (Path × Look)
-  pub last : F
   pub are_asked : asked ≡ map seen calls
-  pub steps : FoldsTo (λ before call after. step before call.0 call.1 after) look calls last
+  pub steps : FoldsTo (λ look call next. step look call.0 call.1 next) before calls after
 
 -- the call answers the same: that path; that fault; or a fault of kind NotFound
 abbrev pub AnswersSearch : {A : Type 0} → Answer → Result (PathBuf A) (Error A) → Type 0
@@ -27,13 +26,13 @@ AnswersSearch (FoundAt path) result = IsOkAnd result (λ found. path_buf_bytes f
 AnswersSearch (EndedBy fault) result = result ≡ Err (Io fault)
 AnswersSearch FoundNowhere result = IsErrAnd result IsNotFound
 
--- the call asks for the candidates of a search in turn, and gives its answer; refused memory may cut it short
-pub record Finds {F A : Type 0} (step : F → Path → Look → F → Type 0) (look : F) (directory name : List ℕ) (result : Result (PathBuf A) (Error A)) : Type 0 where
+-- the call asks for the candidates of a search in turn, for no other, and gives its answer; refused memory may cut it short
+pub record Finds {F A : Type 0} (step : F → Path → Look → F → Type 0) (before after : F) (directory name : List ℕ) (result : Result (PathBuf A) (Error A)) : Type 0 where
   pub asked : List (List ℕ × Look)
   pub later : List (List ℕ × Look)
   pub answer : Answer
   pub searches : Searches directory name (asked ++ later) answer
-  pub asks : AsksInTurn step look asked
+  pub asks : AsksInTurn step before asked after
   pub outcome : IsMemoryErr result ⊎ ((later ≡ []) × AnswersSearch answer result)
 
 -- the path is that of the name in some directory

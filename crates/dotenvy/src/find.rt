@@ -69,7 +69,7 @@ impl<'a> Finder<'a> {
             rt.alloc(),
             directory.as_path(),
             self.filename,
-            |path| look_at(rt, path),
+            &mut |path| look_at(rt, path),
         )?;
         let file = open(rt, path.as_path())?;
         Ok((path, Iter::with_dialect(rt.alloc(), file, dialect)?))

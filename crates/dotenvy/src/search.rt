@@ -25,23 +25,23 @@ pub enum Look {
 
 /// The path of the first file of this name in the directory and in those above it, as `look` sees them.
 ///
-/// `look` is asked once for each directory, from this one up, and no further than needed (docs/GRAMMAR.md, "The search
-/// for a file"). Paths are taken as texts: no part of them is looked up or left out, and an absolute name is asked for
+/// `look` is asked once for each directory, from this one up, and no further than needed (docs/GRAMMAR.md, "Finding the
+/// file"). Paths are taken as texts: no part of them is looked up or left out, and an absolute name is asked for
 /// as it is, once for each directory. The error is `Io` of the fault that ended the search, `Io` of kind `NotFound`
 /// where no directory has the file, or `Memory`.
 ///
 /// ```
-/// let path = find(alloc, Path::new("/srv/app"), Path::new(".env"), |path| seen_at(path))?;
+/// let path = find(alloc, Path::new("/srv/app"), Path::new(".env"), &mut |path| seen_at(path))?;
 /// // asks for /srv/app/.env, /srv/.env and /.env, up to the first file
 /// ```
 pub fn find<A: Allocator + Clone, F: FnMut(Path<'_>) -> Look>(
     alloc: A,
     directory: Path<'_>,
     filename: Path<'_>,
-    mut look: F,
+    look: &mut F,
 ) -> Result<PathBuf<A>, A>
-    requires { F.IsAlwaysCallable look }
-    ensures { Finds F.step look (path_bytes directory.entry) (path_bytes filename.entry) result }
+    requires { F.IsAlwaysCallable look.old }
+    ensures { Finds F.step look.old look.new (path_bytes directory.entry) (path_bytes filename.entry) result }
 {
     let mut above = Some(directory);
     'directories: while let Some(place) = above {

@@ -23,15 +23,20 @@ fn searches(rt: &impl Abort, ration: &Rationed<Global>, search: &Search) -> Resu
     let mut asked = 0usize;
     let mut in_order = true;
     let directory = Path::new(search.directory);
-    let answer = find(ration, directory, Path::new(search.filename), |path| {
-        in_order = in_order && search.candidates.get(asked) == Some(&path.as_str());
-        asked = asked.saturating_add(1);
-        if search.is_found && asked == search.candidates.len() {
-            Look::File
-        } else {
-            Look::Other
-        }
-    });
+    let answer = find(
+        ration,
+        directory,
+        Path::new(search.filename),
+        &mut |path| {
+            in_order = in_order && search.candidates.get(asked) == Some(&path.as_str());
+            asked = asked.saturating_add(1);
+            if search.is_found && asked == search.candidates.len() {
+                Look::File
+            } else {
+                Look::Other
+            }
+        },
+    );
     assert!(rt; in_order, "at the path of number {asked}");
     if is_refused(rt, ration, &answer) {
         return Ok(false);

@@ -44,9 +44,12 @@ pub fn search(
         looks: looks.into_iter(),
         asked: Vec::new(alloc),
     };
-    let answer = search::find(alloc, Path::new(directory), Path::new(filename), |path| {
-        played.look(path)
-    });
+    let answer = search::find(
+        alloc,
+        Path::new(directory),
+        Path::new(filename),
+        &mut |path| { played.look(path) },
+    );
     Ok((played.asked.join(alloc, ", ")?, answer))
 }
 
