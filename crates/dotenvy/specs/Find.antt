@@ -14,8 +14,13 @@ use Rattle.dotenvy.specs.Search.{Answer, FoundAt, EndedBy, FoundNowhere, Searche
 abbrev pub seen : Path × Look → List ℕ × Look
 seen call = (path_bytes call.0, call.1)
 
+-- the calls that a look may be: from a state, of a path, with an answer, to a state
+abbrev pub Calls : Type 0 → Type 1
+Calls F = F → Path → Look → F → Type 0
+
 -- these candidates were asked for: each by one call of the look, which began where the call before had left it
-pub record AsksInTurn {F : Type 0} (step : F → Path → Look → F → Type 0) (before : F) (asked : List (List ℕ × Look)) (after : F) : Type 0 where
+pub record AsksInTurn {F : Type 0} (step : Calls F) (before : F) (asked : List (List ℕ × Look)) (after : F)
+    : Type 0 where
   pub calls : List (Path × Look)
   pub are_asked : asked ≡ map seen calls
   pub steps : FoldsTo (λ look call next. step look call.0 call.1 next) before calls after
@@ -26,8 +31,10 @@ AnswersSearch (FoundAt path) result = IsOkAnd result (λ found. path_buf_bytes f
 AnswersSearch (EndedBy fault) result = result ≡ Err (Io fault)
 AnswersSearch FoundNowhere result = IsErrAnd result IsNotFound
 
--- the call asks for the candidates of a search in turn, for no other, and gives its answer; refused memory may cut it short
-pub record Finds {F A : Type 0} (step : F → Path → Look → F → Type 0) (before after : F) (directory name : List ℕ) (result : Result (PathBuf A) (Error A)) : Type 0 where
+-- the call asks for the candidates of a search in turn and for no other, and gives its answer; refused memory may
+-- cut it short
+pub record Finds {F A : Type 0} (step : Calls F) (before after : F) (directory name : List ℕ)
+    (result : Result (PathBuf A) (Error A)) : Type 0 where
   pub asked : List (List ℕ × Look)
   pub later : List (List ℕ × Look)
   pub answer : Answer

@@ -16,13 +16,17 @@ asks path look = (codes path, look)
 abbrev pub HaveSearchesOf : IoError → IoError → Type 0
 HaveSearchesOf denied missing =
     -- the first file is the answer
-    Searches (codes "/a/b") (codes ".env") (asks "/a/b/.env" Other ∷ asks "/a/.env" File ∷ []) (FoundAt (codes "/a/.env"))
+    Searches (codes "/a/b") (codes ".env") (asks "/a/b/.env" Other ∷ asks "/a/.env" File ∷ [])
+    (FoundAt (codes "/a/.env"))
     × Searches (codes "a") (codes ".env") (asks "a/.env" Other ∷ asks ".env" File ∷ []) (FoundAt (codes ".env"))
     -- a fault ends the search, but for one that says that nothing is there
-    × Searches (codes "/a/b") (codes ".env") (asks "/a/b/.env" Other ∷ asks "/a/.env" (Fault denied) ∷ []) (EndedBy denied)
-    × Searches (codes "/a/b") (codes ".env") (asks "/a/b/.env" Other ∷ asks "/a/.env" Other ∷ asks "/.env" (Fault missing) ∷ []) FoundNowhere
+    × Searches (codes "/a/b") (codes ".env") (asks "/a/b/.env" Other ∷ asks "/a/.env" (Fault denied) ∷ [])
+    (EndedBy denied)
+    × Searches (codes "/a/b") (codes ".env") (asks "/a/b/.env" Other ∷ asks "/a/.env" Other ∷ asks "/.env"
+    (Fault missing) ∷ []) FoundNowhere
     -- an absolute name is asked once for each directory
-    × Searches (codes "/a/b") (codes "/x/.env") (asks "/x/.env" Other ∷ asks "/x/.env" Other ∷ asks "/x/.env" Other ∷ []) FoundNowhere
+    × Searches (codes "/a/b") (codes "/x/.env")
+    (asks "/x/.env" Other ∷ asks "/x/.env" Other ∷ asks "/x/.env" Other ∷ []) FoundNowhere
 
 -- the same, whatever else the faults say
 abbrev pub HaveSearches : Type 0

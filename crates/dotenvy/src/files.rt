@@ -84,7 +84,7 @@ pub fn from_filename<A: Allocator + Clone, R: Files + Env + Alloc<A = A>>(
     filename: Path<'_>,
     env: &mut Environment<A>,
 ) -> Result<PathBuf<A>, A>
-    ensures path { IfOk result (λ path. IsPathOf (path_bytes filename.entry) (path_buf_bytes path)) }
+    ensures path { IfOk result (λ p. IsPathOf (path_bytes filename.entry) (path_buf_bytes p)) }
     ensures keeps { KeepsNames env.old.names env.new.names }
     ensures keys { ChangesKeys env.old.names env.new.names }
     ensures mark { env.new.loaded ≡ env.old.loaded }
@@ -103,7 +103,7 @@ pub fn from_filename_with<A: Allocator + Clone, R: Files + Env + Alloc<A = A>>(
     dialect: Dialect,
     env: &mut Environment<A>,
 ) -> Result<PathBuf<A>, A>
-    ensures path { IfOk result (λ path. IsPathOf (path_bytes filename.entry) (path_buf_bytes path)) }
+    ensures path { IfOk result (λ p. IsPathOf (path_bytes filename.entry) (path_buf_bytes p)) }
     ensures keeps { KeepsNames env.old.names env.new.names }
     ensures keys { ChangesKeys env.old.names env.new.names }
     ensures mark { env.new.loaded ≡ env.old.loaded }
@@ -123,7 +123,7 @@ pub fn from_filename_override<A: Allocator + Clone, R: Files + Env + Alloc<A = A
     filename: Path<'_>,
     env: &mut Environment<A>,
 ) -> Result<PathBuf<A>, A>
-    ensures path { IfOk result (λ path. IsPathOf (path_bytes filename.entry) (path_buf_bytes path)) }
+    ensures path { IfOk result (λ p. IsPathOf (path_bytes filename.entry) (path_buf_bytes p)) }
     ensures keys { ChangesKeys env.old.names env.new.names }
     ensures mark { env.new.loaded ≡ env.old.loaded }
 {
@@ -159,7 +159,7 @@ pub fn dotenv<A: Allocator + Clone, R: Files + Env + Alloc<A = A>>(
     rt: &R,
     env: &mut Environment<A>,
 ) -> Result<PathBuf<A>, A>
-    ensures path { IfOk result (λ path. IsPathOf (codes ".env") (path_buf_bytes path)) }
+    ensures path { IfOk result (λ p. IsPathOf (codes ".env") (path_buf_bytes p)) }
     ensures keeps { KeepsNames env.old.names env.new.names }
     ensures keys { ChangesKeys env.old.names env.new.names }
     ensures mark { env.new.loaded ≡ env.old.loaded }
@@ -178,7 +178,7 @@ pub fn dotenv_override<A: Allocator + Clone, R: Files + Env + Alloc<A = A>>(
     rt: &R,
     env: &mut Environment<A>,
 ) -> Result<PathBuf<A>, A>
-    ensures path { IfOk result (λ path. IsPathOf (codes ".env") (path_buf_bytes path)) }
+    ensures path { IfOk result (λ p. IsPathOf (codes ".env") (path_buf_bytes p)) }
     ensures keys { ChangesKeys env.old.names env.new.names }
     ensures mark { env.new.loaded ≡ env.old.loaded }
 {

@@ -44,7 +44,8 @@ impl<'a> Finder<'a> {
         rt: &R,
         dialect: Dialect,
     ) -> Result<(PathBuf<A>, Iter<Plain<R::File>, A>), A>
-        ensures path { IfOk result (λ found. IsPathOf (path_bytes self.entry.filename) (path_buf_bytes found.0)) }
+        ensures path { IfOk result (λ found.
+            IsPathOf (path_bytes self.entry.filename) (path_buf_bytes found.0)) }
         ensures file { IfOk result (λ found. found.1 ≡ fresh None dialect) }
         ensures fault { IfErr result IsFileFault }
     {
@@ -60,7 +61,8 @@ impl<'a> Finder<'a> {
         rt: &R,
         dialect: Dialect,
     ) -> Result<(PathBuf<A>, Iter<Plain<R::File>, A>), A>
-        ensures path { IfOk result (λ found. IsPathOf (path_bytes self.entry.filename) (path_buf_bytes found.0)) }
+        ensures path { IfOk result (λ found.
+            IsPathOf (path_bytes self.entry.filename) (path_buf_bytes found.0)) }
         ensures file { IfOk result (λ found. found.1 ≡ fresh None dialect) }
         ensures fault { IfErr result IsSystemFault }
     {

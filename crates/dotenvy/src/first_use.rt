@@ -35,7 +35,8 @@ pub fn var<A: Allocator + Clone, R: Files + Env + Alloc<A = A>>(
 
     // Of the environment as it stands now. Where the mark is set, only a copy of a value takes memory.
     ensures answer { IsMemoryErr result ⊎ AnswersVar (map.get env.new.names key.now) result }
-    ensures absent { env.new.loaded ≡ true → map.get env.new.names key.now ≡ None → result ≡ Err (Error.EnvVar VarError.NotPresent) }
+    ensures absent { env.new.loaded ≡ true → map.get env.new.names key.now ≡ None →
+        result ≡ Err (Error.EnvVar VarError.NotPresent) }
 {
     load_once(rt, env)?;
     match env.get(key) {

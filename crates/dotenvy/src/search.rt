@@ -41,7 +41,8 @@ pub fn find<A: Allocator + Clone, F: FnMut(Path<'_>) -> Look>(
     look: &mut F,
 ) -> Result<PathBuf<A>, A>
     requires { F.IsAlwaysCallable look.old }
-    ensures { Finds F.step look.old look.new (path_bytes directory.entry) (path_bytes filename.entry) result }
+    ensures { Finds F.step look.old look.new
+        (path_bytes directory.entry) (path_bytes filename.entry) result }
 {
     let mut above = Some(directory);
     'directories: while let Some(place) = above {
@@ -66,7 +67,8 @@ fn path_in<A: Allocator>(
     directory: Path<'_>,
     filename: Path<'_>,
 ) -> std::result::Result<PathBuf<A>, AllocError>
-    ensures { IfOk result (λ p. path_buf_bytes p ≡ path_in (path_bytes directory.entry) (path_bytes filename.entry)) }
+    ensures { IfOk result (λ p.
+        path_buf_bytes p ≡ path_in (path_bytes directory.entry) (path_bytes filename.entry)) }
 {
     let mut path = PathBuf::from_str(alloc, directory.as_str())?;
     path.push(filename)?;

@@ -7,7 +7,8 @@ use Rattle.dotenvy.proofs.search.find.Given as goal
 abbrev pub invariant-directories : goal.invariant-directories
 invariant-directories g l = record {
   callable : goal.F-IsAlwaysCallable g l.look;
-  asking : Asking (goal.F-step g) l.fn.look (path_bytes l.fn.directory) (path_bytes l.fn.filename) (option_map path_bytes l.above) l.look;
+  asking : Asking (goal.F-step g) l.fn.look (path_bytes l.fn.directory) (path_bytes l.fn.filename)
+      (option_map path_bytes l.above) l.look;
 }
 
 abbrev pub decreases-directories : goal.decreases-directories
