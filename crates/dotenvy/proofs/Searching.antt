@@ -173,11 +173,6 @@ module _ {F : Type 0} (step : Calls F) (start : F) (directory name : List ℕ) w
         outcome = inr (refl, answers);
       }
 
--- nothing was asked yet
-pub asking_starts : {F : Type 0} (step : Calls F) (look : F) (directory name : List ℕ) →
-    Asking step look directory name (Some directory) look
-asking_starts step look directory name = record { completes = λ asked later answer end s a. (asked, s, a) }
-
 -- how much is left of the directories: more than of those above
 abbrev pub size_of : Option Path → ℕ
 size_of None = 0

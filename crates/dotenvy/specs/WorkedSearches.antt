@@ -22,8 +22,8 @@ HaveSearchesOf denied missing =
     -- a fault ends the search, but for one that says that nothing is there
     × Searches (codes "/a/b") (codes ".env") (asks "/a/b/.env" Other ∷ asks "/a/.env" (Fault denied) ∷ [])
     (EndedBy denied)
-    × Searches (codes "/a/b") (codes ".env") (asks "/a/b/.env" Other ∷ asks "/a/.env" Other ∷ asks "/.env"
-    (Fault missing) ∷ []) FoundNowhere
+    × Searches (codes "/a/b") (codes ".env")
+    (asks "/a/b/.env" Other ∷ asks "/a/.env" Other ∷ asks "/.env" (Fault missing) ∷ []) FoundNowhere
     -- an absolute name is asked once for each directory
     × Searches (codes "/a/b") (codes "/x/.env")
     (asks "/x/.env" Other ∷ asks "/x/.env" Other ∷ asks "/x/.env" Other ∷ []) FoundNowhere
