@@ -1,0 +1,50 @@
+-- What a call of `add` adds: a load that was accepted, one that was refused, or nothing for want of memory.
+use Rattle.std.proofs.Common.{◌≡◌, [], ◌∷◌, Option, Some, None, Result, Err, refl, sym, subst, inl, inr}
+use Rattle.dotenvy.specs.declared.dialect.Dialect.TheVariants.{V15}
+use Rattle.dotenvy.specs.declared.errors.Error.{Error}
+use Rattle.dotenvy.specs.Entries.{Fails, Memory}
+use Rattle.dotenvy.specs.Environment.{Texts}
+use Rattle.dotenvy.specs.Errors.{IsMemory}
+use Rattle.dotenvy.specs.Items.{LookUp}
+use Rattle.dotenvy.specs.Iter.{fresh}
+use Rattle.dotenvy.specs.LoadsLeft.{Rule, Leaves, LoadsLeft}
+use Rattle.dotenvy.specs.Names.{values_of, recalled_of}
+use Rattle.dotenvy.specs.Source.{Ahead}
+use Rattle.std.specs.Option.{option_or}
+use Rattle.env_layers.specs.declared.layers.Mode.{Mode}
+use Rattle.env_layers.specs.declared.layers.Mode.TheVariants.{Keep, Override}
+use Rattle.env_layers.specs.Layers.{AddsLayer, after_load, rule_of}
+
+-- a load by the rule of the mode, whose answer decides what stands
+pub adds_by : {A : Type 0} (mode : Mode) (rule : Rule) (ahead : Option Ahead) (old loaded : Texts)
+    (answer : Result (Unit {0}) (Error A)) → rule_of mode ≡ rule → LoadsLeft rule (fresh ahead V15) old answer loaded →
+    AddsLayer mode ahead old answer (after_load old loaded answer)
+adds_by mode rule ahead old loaded answer is loads = record {
+  loaded = loaded;
+  loads = subst (λ r. LoadsLeft r (fresh ahead V15) old answer loaded) (sym is) loads;
+  stands = refl;
+}
+
+-- a value, or else none
+or_none : {T : Type 0} (value : Option T) → option_or value None ≡ value
+or_none None = refl
+or_none (Some x) = refl
+
+-- a load that is refused memory before the first entry leaves the environment as it was
+left_by_none : {A : Type 0} (mode : Mode) (old : Texts) (remembered : LookUp) (error : Error A) → IsMemory error →
+    Leaves (rule_of mode (values_of old) remembered (Fails Memory ∷ [])) old (Err error)
+left_by_none Keep old remembered error is = record { values = λ name. sym (or_none (values_of old name)); is_answer = is }
+left_by_none Override old remembered error is = record { values = λ name. refl; is_answer = is }
+
+-- a call that is refused memory adds nothing
+pub adds_none : {A : Type 0} (mode : Mode) (ahead : Option Ahead) (old : Texts) (error : Error A) → IsMemory error →
+    AddsLayer mode ahead old (Err error) old
+adds_none mode ahead old error is = record {
+  loaded = old;
+  loads = λ a told entries left. (
+    Fails Memory ∷ [],
+    inr (inl (record { front = []; back = entries; cut = refl; ends = refl })),
+    left_by_none mode old (recalled_of (fresh ahead V15).remembered) error is,
+  );
+  stands = refl;
+}

@@ -1,0 +1,168 @@
+// Layers over an environment.
+ghost use Rattle.std.specs.Prelude.{◌≡◌, IfOk, OnErr, map};
+ghost use Rattle.std.specs.FinMap.{contains_key};
+ghost use Rattle.std.specs.List.{list_all};
+ghost use Rattle.std.specs.Path.{path_bytes, path_buf_bytes};
+ghost use Rattle.dotenvy.specs.Environment.{KeepsNames};
+ghost use Rattle.dotenvy.specs.Find.{IsPathOf};
+ghost use Rattle.dotenvy.specs.LoadsLeft.{ChangesKeys};
+ghost use Rattle.env_layers.specs.Layers.{AddsLayer};
+ghost use Rattle.env_layers.specs.Missing.{absent_names, AnswersRequire, HoldsTexts};
+
+use crate::missing::Missing;
+use dotenvy::{
+    Dialect, Environment, Result, Source, from_filename_with, from_read, from_read_override,
+};
+use std::alloc::{Alloc, AllocError, Allocator, Global};
+use std::env::Env;
+use std::fs::Files;
+use std::marker::Model;
+use std::path::{Path, PathBuf};
+
+/// What a layer does with a name that is there already.
+#[derive(Clone, Copy, Drop)]
+pub enum Mode {
+    /// The name keeps its value, as under `dotenvy::from_read`.
+    Keep,
+    /// The name takes the value of the layer, as under `dotenvy::from_read_override`.
+    Override,
+}
+
+/// An environment, and the layers that were accepted over it.
+///
+/// A layer is a reader or a file. It is accepted where the load of it answers `Ok`; else it changes nothing, and the
+/// layers before it stay.
+///
+/// ```
+/// let mut layers = Layers::new(Environment::from_process(&rt)?);
+/// layers.add_file(&rt, Path::new("service.env"), Dialect::V15)?;
+/// layers.add(alloc, Bytes::new(b"PORT=8080\n"), Mode::Keep)?;
+/// layers.require(alloc, &["HOST", "PORT"])?;
+/// let settings = layers.into_environment();
+/// ```
+#[derive(Drop)]
+pub struct Layers<A: Allocator = Global> {
+    environment: Environment<A>,
+}
+
+impl<A: Allocator> Model for Layers<A> {
+    ghost use Rattle.dotenvy.specs.Environment.{Env, env_code};
+
+    ghost Value = { Env };
+
+    ghost coded = { env_code };
+
+    ghost view = { λ s. s.environment };
+}
+
+impl<A: Allocator> Layers<A> {
+    /// No layer yet over this environment, whose mark and names stay as they are.
+    ///
+    /// ```
+    /// let layers = Layers::new(Environment::new(alloc));
+    /// ```
+    pub fn new(env: Environment<A>) -> Layers<A>
+        ensures { result ≡ env }
+    {
+        Layers { environment: env }
+    }
+
+    /// The environment with the layers that were accepted.
+    ///
+    /// ```
+    /// let settings = layers.into_environment();
+    /// ```
+    pub fn into_environment(self) -> Environment<A>
+        ensures { result ≡ self }
+    {
+        self.environment
+    }
+}
+
+impl<A: Allocator + Clone> Layers<A> {
+    /// Adds a reader as a layer, in the first dialect: an opening byte order mark is dropped, and a name in a value
+    /// means what the layers so far say of it (docs/GRAMMAR.md, "Loading").
+    ///
+    /// The errors are those of the load: `LineParse`, `Io`, `Nul`, `Memory`. After each of them the layers are as they
+    /// were, unlike after a load, which keeps what stands before its fault.
+    ///
+    /// ```
+    /// layers.add(alloc, Bytes::new(b"HOST=db.local\n"), Mode::Override)?;
+    /// ```
+    pub fn add<R: Source + Drop>(&mut self, alloc: A, reader: R, mode: Mode) -> Result<(), A>
+        ensures told { AddsLayer mode (R.ahead reader) self.old.names result self.new.names }
+        ensures refused { OnErr result (self.new ≡ self.old) }
+        ensures keeps { mode ≡ Mode.Keep → KeepsNames self.old.names self.new.names }
+        ensures keys { ChangesKeys self.old.names self.new.names }
+        ensures mark { self.new.loaded ≡ self.old.loaded }
+    {
+        let mut copy = self.environment.try_clone()?;
+        match mode {
+            Mode::Keep => from_read(alloc, reader, &mut copy)?,
+            Mode::Override => from_read_override(alloc, reader, &mut copy)?,
+        }
+        self.environment = copy;
+        Ok(())
+    }
+
+    /// Searches for the file of a name in the current directory and in those above it, and adds it as a layer: a name
+    /// that is there keeps its value. The path that was found is the answer (docs/GRAMMAR.md, "Finding the file").
+    ///
+    /// The errors are those of `dotenvy::from_filename_with`. After each of them the layers are as they were.
+    ///
+    /// ```
+    /// let path = layers.add_file(&rt, Path::new("service.env"), Dialect::V15)?;
+    /// ```
+    pub fn add_file<R: Files + Env + Alloc<A = A>>(
+        &mut self,
+        rt: &R,
+        filename: Path<'_>,
+        dialect: Dialect,
+    ) -> Result<PathBuf<A>, A>
+        ensures path { IfOk result (λ p. IsPathOf (path_bytes filename.entry) (path_buf_bytes p)) }
+        ensures refused { OnErr result (self.new ≡ self.old) }
+        ensures keeps { KeepsNames self.old.names self.new.names }
+        ensures keys { ChangesKeys self.old.names self.new.names }
+        ensures mark { self.new.loaded ≡ self.old.loaded }
+    {
+        let mut copy = self.environment.try_clone()?;
+        let path = from_filename_with(rt, filename, dialect, &mut copy)?;
+        self.environment = copy;
+        Ok(path)
+    }
+
+    /// Whether each of these names has a value, be it the empty one. It takes no memory where each has.
+    ///
+    /// `Missing::Names` holds those that have none.
+    ///
+    /// ```
+    /// layers.require(alloc, &["HOST", "PORT"])?;
+    /// ```
+    pub fn require(&self, alloc: A, names: &[&str]) -> std::result::Result<(), Missing<A>>
+        ensures { AnswersRequire (absent_names self.now.names (map (λ name. name.now) names.now)) result }
+    {
+        if self.contains_all(names) {
+            return Ok(());
+        }
+        Err(Missing::Names(self.absent(alloc, names)?))
+    }
+
+    fn contains_all(&self, names: &[&str]) -> bool
+        ensures { result ≡ list_all (λ name. contains_key self.now.names name) (map (λ name. name.now) names.now) }
+    {
+        names.iter().all(|name| self.environment.contains(name))
+    }
+
+    // The names that have no value, in the order given.
+    fn absent(&self, alloc: A, names: &[&str]) -> std::result::Result<Vec<String<A>, A>, AllocError>
+        ensures { IfOk result (λ found. HoldsTexts found.items (absent_names self.now.names (map (λ name. name.now) names.now))) }
+    {
+        let mut absent = Vec::new(alloc.clone()?);
+        'names: for name in names {
+            if !self.environment.contains(name) {
+                absent.push(String::from_str(alloc.clone()?, name)?)?;
+            }
+        }
+        Ok(absent)
+    }
+}
