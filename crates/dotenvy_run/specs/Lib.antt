@@ -2,5 +2,7 @@ pub mod Words
 pub mod Laws
 pub mod WorkedWords
 pub mod Failures
-pub mod Asks
+pub mod Answers
+pub mod FirstGroup
+pub mod Started
 pub mod Ends

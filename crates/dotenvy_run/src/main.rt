@@ -1,9 +1,11 @@
-//! Runs a command in the environment that a file gives it, or lists that environment.
+//! Runs a command in the environment that files give it, or lists that environment.
 #![tactic(auto)]
 
+mod command_line;
 mod failure;
 mod laws;
 mod run;
+mod start;
 
 use dotenvy::Plain;
 use run::run;
@@ -20,15 +22,30 @@ fn words<R: AllocGlobal + Env>(rt: &R) -> io::Result<Vec<String>> {
     Ok(words)
 }
 
-fn main(rt: HostRuntime) -> io::Result<ExitCode> {
-    let words = words(&rt)?;
+/// Why there are no words.
+fn words_fault(fault: &io::Error) -> &'static str {
+    match fault.kind() {
+        io::ErrorKind::InvalidData => "a word of the command line is not UTF-8",
+        _ => "out of memory",
+    }
+}
+
+fn main(rt: HostRuntime) -> ExitCode {
+    let words = match words(&rt) {
+        Ok(words) => words,
+        Err(fault) => {
+            let text = words_fault(&fault);
+            let _ = eprintln!(rt; "error: {text}");
+            return ExitCode::FAILURE;
+        }
+    };
     let mut reader = Plain::new(rt.reader());
     let mut writer = Plain::new(io::writer(&rt));
-    match run(rt.alloc(), words.as_slice(), &mut reader, &mut writer) {
-        Ok(status) => Ok(ExitCode::from(status)),
+    match run(&rt, words.as_slice(), &mut reader, &mut writer) {
+        Ok(status) => ExitCode::from(status),
         Err(failure) => {
-            eprintln!(rt; "{failure}")?;
-            Ok(ExitCode::from(1))
+            let _ = eprintln!(rt; "{failure}");
+            ExitCode::FAILURE
         }
     }
 }

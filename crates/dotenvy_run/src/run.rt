@@ -1,116 +1,104 @@
-//! What the program does once it has its words, over any reader and writer.
+//! What the program does once it has its words, over any reader, writer and runtime.
 
-ghost use Rattle.std.specs.Prelude.{◌≡◌, ◌↔◌, IfOk, IsErrOf, true, false};
-ghost use Rattle.dotenvy.specs.declared.dialect.Dialect.TheVariants.{V15};
+ghost use Rattle.std.specs.Prelude.{◌≡◌, ◌≢◌, ◌⊎◌, [], Err, IfErr, IsErrAnd, Ok, false, true};
 ghost use Rattle.dotenvy.specs.Listed.{Lists, ListsSome};
-ghost use Rattle.dotenvy_run.specs.Asks.{asks_list};
-ghost use Rattle.dotenvy_run.specs.Ends.{EndsAs};
+ghost use Rattle.dotenvy_run.specs.Answers.{texts};
+ghost use Rattle.dotenvy_run.specs.Ends.{EndsAs, EndsByUsage, IsEarly, IsRunFault, IsUsage};
+ghost use Rattle.dotenvy_run.specs.Words.{CommandLine as Line, Usage as Refusal, HasUsage};
 
+use crate::command_line::{CommandLine, command_line};
 use crate::failure::{Failure, Usage};
-use dotenvy::{Sink, Source};
-use std::alloc::Global;
+use crate::start::start;
+use dotenvy::{Dialect, Environment, Sink, Source, list_with};
+use env_layers::Layers;
+use std::alloc::{Alloc, Allocator};
+use std::env::Env;
+use std::fs::Files;
+use std::path::Path;
+use std::process::Processes;
 
-/// Lists the file that the reader gives, where the words are the one word `--list`, and refuses all
-/// other words for now. Answers the status to end with.
+/// Does what the words ask for, and answers the status to end with (docs/COMMAND.md).
 ///
-/// Over the three lines `B=2`, `A=1`, `A=3` it writes `A="1"` and `B="2"`, a line each.
-pub fn run<R: Source, W: Sink>(
-    alloc: Global,
-    words: &[String],
-    reader: &mut R,
+/// With `--list` it lists the reader, and reads no file. Else it loads each file that the words name, in order, or
+/// `.env`, over the names of the process, starts the command in that environment, and waits for its end.
+///
+/// Over the three lines `B=2`, `A=1`, `A=3` and the word `--list` it writes `A="1"` and `B="2"`, a line each.
+pub fn run<A: Allocator + Clone, R: Files + Env + Processes + Alloc<A = A>, S: Source, W: Sink>(
+    rt: &R,
+    words: &[String<A>],
+    reader: &mut S,
     writer: &mut W,
-) -> Result<u8, Failure>
-    ensures status { IfOk result (λ status. status ≡ 0) }
+) -> Result<u8, Failure<A>>
+    // Words that are refused are answered so, before anything is read or written.
+    ensures usage { (usage : Refusal) → HasUsage (texts words.now) (Err usage)
+        → IsErrAnd result (EndsByUsage usage) }
+    ensures early { IfErr result
+        (λ failure. IsUsage failure → (reader.new ≡ reader.old) × (writer.new ≡ writer.old)) }
 
-    // Words are refused before anything is read or written.
-    ensures usage { IsErrOf result (Failure.Usage Usage.MissingCommand) ↔ (asks_list words.now ≡ false) }
-    ensures untouched { asks_list words.now ≡ false → (reader.new ≡ reader.old) × (writer.new ≡ writer.old) }
+    // A list is that of the reader, in the dialect of the words.
+    ensures lists { (line : Line) → HasUsage (texts words.now) (Ok line) → line.list ≡ true
+        → IsEarly result ⊎ EndsAs (Lists line.dialect (S.ahead reader.old) W.held W.last_fault
+        writer.old writer.new) result }
+    ensures some { (line : Line) → HasUsage (texts words.now) (Ok line) → line.list ≡ true
+        → IsEarly result ⊎ EndsAs (ListsSome W.held W.last_fault writer.old writer.new) result }
 
-    // The one word `--list` lists the file.
-    ensures lists { asks_list words.now ≡ true → EndsAs (Lists V15 (R.ahead reader.old) W.held W.last_fault writer.old writer.new) result }
-    ensures some { asks_list words.now ≡ true → EndsAs (ListsSome W.held W.last_fault writer.old writer.new) result }
+    // A command leaves the reader and the writer as they were.
+    ensures command { (line : Line) → HasUsage (texts words.now) (Ok line) → line.list ≡ false
+        → (IsEarly result ⊎ IfErr result IsRunFault)
+        × (reader.new ≡ reader.old) × (writer.new ≡ writer.old) }
 {
-    match words {
-        [word] if word.as_str() == "--list" => match dotenvy::list(alloc, reader, writer) {
-            Ok(()) => Ok(0),
-            Err(error) => Err(Failure::Load(error)),
-        },
-        _ => Err(Failure::Usage(Usage::MissingCommand)),
+    let line = command_line(rt.alloc(), words)?;
+    if line.list {
+        list(rt.alloc(), reader, writer, line.dialect)
+    } else {
+        run_command(rt, &line)
     }
 }
 
-#[cfg(test)]
-mod tests {
-    use super::*;
-    use dotenvy::{Bytes, Plain};
-    use std::test::Fail;
+// Lists the reader.
+fn list<A: Allocator + Clone, S: Source, W: Sink>(
+    alloc: A,
+    reader: &mut S,
+    writer: &mut W,
+    dialect: Dialect,
+) -> Result<u8, Failure<A>>
+    ensures lists { EndsAs (Lists dialect (S.ahead reader.old) W.held W.last_fault
+        writer.old writer.new) result }
+    ensures some { EndsAs (ListsSome W.held W.last_fault writer.old writer.new) result }
+{
+    list_with(alloc, reader, writer, dialect)?;
+    Ok(0)
+}
 
-    /// The text that a run ends with, and what it wrote.
-    fn outcome(alloc: Global, words: &str, input: &[u8]) -> Result<(String, Vec<u8>), Fail> {
-        let words: Vec<String> = words
-            .split_whitespace()
-            .map(|word| String::from_str(alloc, word))
-            .try_collect(alloc)?;
-        let mut output = Plain::new(Vec::new(alloc));
-        let text = match run(alloc, words.as_slice(), &mut Bytes::new(input), &mut output) {
-            Ok(status) => format!(in alloc; "status {status}")?,
-            Err(failure) => failure.to_string(alloc)?,
-        };
-        Ok((text, output.into_inner()))
+// Starts the command of the line in the environment of its files. The line has a command.
+fn run_command<A: Allocator + Clone, R: Files + Env + Processes + Alloc<A = A>>(
+    rt: &R,
+    line: &CommandLine<A>,
+) -> Result<u8, Failure<A>>
+    ensures { line.now.command.items ≢ [] → IfErr result IsRunFault }
+{
+    let Some((program, arguments)) = line.command.split_first() else {
+        return Err(Failure::Usage(Usage::MissingCommand));
+    };
+    let environment = loaded(rt, line.files.as_slice(), line.dialect)?;
+    match start(rt, program.as_str(), arguments, &environment) {
+        Ok(status) => Ok(status),
+        Err(fault) => Err(Failure::Start(fault)),
     }
+}
 
-    #[test]
-    fn words_that_are_refused(rt: HostRuntime) -> Result<(), Fail> {
-        for words in [
-            "",
-            "-h",
-            "--list x",
-            "--list --list",
-            "x --list",
-            "-f x",
-            "sh",
-            "--LIST",
-        ] {
-            let (text, output) = outcome(rt.alloc(), words, b"A=1\n")?;
-            assert_eq!(rt;
-                text.as_str(),
-                "error: missing required argument <COMMAND>",
-                "at {words:?}"
-            );
-            assert!(rt; output.is_empty(), "at {words:?}");
-        }
-        Ok(())
+// The names of the process, and over them those of each file, or of `.env`. A name that is there keeps its value.
+fn loaded<A: Allocator + Clone, R: Files + Env + Alloc<A = A>>(
+    rt: &R,
+    files: &[String<A>],
+    dialect: Dialect,
+) -> dotenvy::Result<Environment<A>, A> {
+    let mut layers = Layers::new(Environment::from_process(rt)?);
+    if files.is_empty() {
+        layers.add_file(rt, Path::new(".env"), dialect)?;
     }
-
-    #[test]
-    fn inputs_that_are_listed(rt: HostRuntime) -> Result<(), Fail> {
-        for (input, want) in [
-            ("", ""),
-            ("B=2\nA=1\nA=3\n", "A=\"1\"\nB=\"2\"\n"),
-            ("\u{feff}A=1\n", "A=\"1\"\n"),
-            ("A='$x'", "A=\"\\$x\"\n"),
-        ] {
-            let (text, output) = outcome(rt.alloc(), "--list", input.as_bytes())?;
-            assert_eq!(rt; text.as_str(), "status 0", "at {input:?}");
-            assert_eq!(rt; output.as_slice(), want.as_bytes(), "at {input:?}");
-        }
-        Ok(())
+    'files: for file in files {
+        layers.add_file(rt, Path::new(file.as_str()), dialect)?;
     }
-
-    #[test]
-    fn inputs_with_a_fault(rt: HostRuntime) -> Result<(), Fail> {
-        for (input, want) in [
-            (
-                "A=1\n.B=2\nC=3\n",
-                "Error parsing line: '.B=2', error at line index: 0",
-            ),
-            ("A=\"x\0y\"\n", "value of 'A' contains a NUL"),
-        ] {
-            let (text, output) = outcome(rt.alloc(), "--list", input.as_bytes())?;
-            let want = format!(in rt.alloc(); "error: failed to load environment: {want}")?;
-            assert_eq!(rt; text.as_str(), want.as_str(), "at {input:?}");
-            assert!(rt; output.is_empty(), "at {input:?}");
-        }
-        Ok(())
-    }
+    Ok(layers.into_environment())
 }

@@ -96,12 +96,12 @@ impl<A: Allocator + Clone> Layers<A> {
         ensures keys { ChangesKeys self.old.names self.new.names }
         ensures mark { self.new.loaded ≡ self.old.loaded }
     {
-        let mut copy = self.environment.try_clone()?;
+        let mut layered = self.environment.try_clone()?;
         match mode {
-            Mode::Keep => from_read(alloc, reader, &mut copy)?,
-            Mode::Override => from_read_override(alloc, reader, &mut copy)?,
+            Mode::Keep => from_read(alloc, reader, &mut layered)?,
+            Mode::Override => from_read_override(alloc, reader, &mut layered)?,
         }
-        self.environment = copy;
+        self.environment = layered;
         Ok(())
     }
 
