@@ -18,28 +18,35 @@ abbrev bytes_cmp : List ℕ → List ℕ → Ordering
 bytes_cmp = slice_cmp nat_cmp
 
 -- what the command says of a name once those that are left are set is what the environment has
-pub record SetsWithLeft {A : Type 0} (names : Texts) (left : List (List ℕ × List ℕ)) (command : Command A) : Type 0 where
+pub record SetsWithLeft {A : Type 0} (names : Texts) (left : List (List ℕ × List ℕ))
+    (command : Command A) : Type 0 where
   pub sorted : T (is_sorted bytes_cmp left)
-  pub says : (name : List ℕ) → option_or (option_map Some (find bytes_cmp name left)) (command_var command name) ≡ option_map Some (fin.get names name)
+  pub says : (name : List ℕ) →
+      option_or (option_map Some (find bytes_cmp name left)) (command_var command name) ≡ option_map Some
+      (fin.get names name)
 
 -- a name below all of these is none of them
-none_later : (name : List ℕ) (es : List (List ℕ × List ℕ)) → T (below_all bytes_cmp name es) → find bytes_cmp name es ≡ None
+none_later : (name : List ℕ) (es : List (List ℕ × List ℕ)) → T (below_all bytes_cmp name es) →
+    find bytes_cmp name es ≡ None
 none_later name [] below = refl
 none_later name (e ∷ es) below = at (bytes_cmp name e.0) (none_later name es) below
   where
-    at : (o : Ordering) → (T (below_all bytes_cmp name es) → find bytes_cmp name es ≡ None) → T (is_lt o && below_all bytes_cmp name es) →
+    at : (o : Ordering) → (T (below_all bytes_cmp name es) → find bytes_cmp name es ≡ None) →
+        T (is_lt o && below_all bytes_cmp name es) →
         cond (is_eq o) (Some e.1) (find bytes_cmp name es) ≡ None
     at Less others below = others below
     at Equal others below = absurd below
     at Greater others below = absurd below
 
 -- before the first name is set
-pub none_set : {A : Type 0} (names : Texts) (command : Command A) → ((name : List ℕ) → command_var command name ≡ None) →
+pub none_set : {A : Type 0} (names : Texts) (command : Command A) →
+    ((name : List ℕ) → command_var command name ≡ None) →
     SetsWithLeft names (fin.entries names) command
 none_set names command none = record {
   sorted = fin.entries_sorted names;
   says = λ name. ap (λ said. option_or (option_map Some (find bytes_cmp name (fin.entries names))) said) (none name)
-      ∙ or_none (option_map Some (find bytes_cmp name (fin.entries names))) ∙ ap (option_map Some) (sym (fin.get-entries names name));
+      ∙ or_none (option_map Some (find bytes_cmp name (fin.entries names)))
+      ∙ ap (option_map Some) (sym (fin.get-entries names name));
 }
   where
     or_none : {X : Type 0} (value : Option X) → option_or value None ≡ value
@@ -51,7 +58,8 @@ ties : (name other : List ℕ) → is_eq (bytes_cmp name other) ≡ true → nam
 ties name other is = (bytes_decides name other).0 (sym (is_eq-slice_cmp name other) ∙ is)
 
 differs : (name other : List ℕ) → is_eq (bytes_cmp name other) ≡ false → name ≢ other
-differs name other is same = let both : true ≡ false = sym ((bytes_decides name other).1 same) ∙ sym (is_eq-slice_cmp name other) ∙ is in cc
+differs name other is same = let both : true ≡ false = sym ((bytes_decides name other).1 same)
+    ∙ sym (is_eq-slice_cmp name other) ∙ is in cc
 
 -- the first and the second of two things that hold
 second : (a b : Bool) → T (a && b) → T b
@@ -64,23 +72,29 @@ first false b both = absurd both
 
 -- one name more is set
 pub one_set : {A : Type 0} (names : Texts) (name value : List ℕ) (left : List (List ℕ × List ℕ)) (old new : Command A) →
-    SetsWithLeft names ((name, value) ∷ left) old → command_var new name ≡ Some (Some value) → SameOtherVars old new name → SetsWithLeft names left new
+    SetsWithLeft names ((name, value) ∷ left) old → command_var new name ≡ Some (Some value) →
+    SameOtherVars old new name → SetsWithLeft names left new
 one_set names name value left old new before set others = record {
   sorted = second (below_all bytes_cmp name left) (is_sorted bytes_cmp left) before.sorted;
   says = λ other. at other (is_eq (bytes_cmp other name)) refl (before.says other);
 }
   where
     at : (other : List ℕ) (tie : Bool) → is_eq (bytes_cmp other name) ≡ tie →
-        option_or (option_map Some (cond tie (Some value) (find bytes_cmp other left))) (command_var old other) ≡ option_map Some (fin.get names other) →
-        option_or (option_map Some (find bytes_cmp other left)) (command_var new other) ≡ option_map Some (fin.get names other)
+        option_or (option_map Some (cond tie (Some value) (find bytes_cmp other left)))
+        (command_var old other) ≡ option_map Some (fin.get names other) →
+        option_or (option_map Some (find bytes_cmp other left)) (command_var new other) ≡ option_map Some
+        (fin.get names other)
     at other true is says =
         let same = ties other name is in
-        let later = none_later name left (first (below_all bytes_cmp name left) (is_sorted bytes_cmp left) before.sorted) in
+        let later = none_later name left
+        (first (below_all bytes_cmp name left) (is_sorted bytes_cmp left) before.sorted) in
         ap (λ n. option_or (option_map Some (find bytes_cmp n left)) (command_var new n)) same
         ∙ ap (λ found. option_or (option_map Some found) (command_var new name)) later ∙ set ∙ says
     at other false is says =
-        ap (λ said. option_or (option_map Some (find bytes_cmp other left)) said) (others other (differs other name is)) ∙ says
+        ap (λ said. option_or (option_map Some (find bytes_cmp other left)) said)
+        (others other (differs other name is)) ∙ says
 
 -- the last name is set
-pub all_set : {A : Type 0} (names : Texts) (command : Command A) → SetsWithLeft names [] command → SetsNames names command
+pub all_set : {A : Type 0} (names : Texts) (command : Command A) → SetsWithLeft names [] command →
+    SetsNames names command
 all_set names command set = λ name. set.says name

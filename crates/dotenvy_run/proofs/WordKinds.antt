@@ -19,13 +19,16 @@ pub not_stripped : (front text : List ℕ) → FindsTextPrefix front text None �
 not_stripped front text none = sym (starts_text false front text none)
 
 -- a file behind `--file=`
-pub assigned : (text : List ℕ) (name : Bor (List ℕ)) → text ≡ codes "--file=" ++ name.now → IsAlone text (found.File name)
+pub assigned : (text : List ℕ) (name : Bor (List ℕ)) → text ≡ codes "--file=" ++ name.now →
+    IsAlone text (found.File name)
 assigned text name is = (assigned_file name.now, tt, ap (λ t. t ∷ []) (sym is), (refl, refl, refl))
 
 -- a file behind `-f`
-pub joined : (text tail : List ℕ) (name : Bor (List ℕ)) → text ≡ codes "-f" ++ tail → without_equals tail ≡ name.now → text ≢ codes "-f" →
+pub joined : (text tail : List ℕ) (name : Bor (List ℕ)) → text ≡ codes "-f" ++ tail →
+    without_equals tail ≡ name.now → text ≢ codes "-f" →
     IsAlone text (found.File name)
-joined text tail name is file more = (joined_file tail, some tail is, ap (λ t. t ∷ []) (sym is), (ap (λ t. t ∷ []) file, refl, refl))
+joined text tail name is file more =
+    (joined_file tail, some tail is, ap (λ t. t ∷ []) (sym is), (ap (λ t. t ∷ []) file, refl, refl))
   where
     some : (tail : List ℕ) → text ≡ codes "-f" ++ tail → IsGroup (joined_file tail)
     some tail is none = more (is ∙ ap (λ t. codes "-f" ++ t) none)
@@ -36,7 +39,8 @@ pub behind_equals : (text : Bor (List ℕ)) (rest : Option (Bor (List ℕ))) →
     (unwrap_or rest text).now ≡ without_equals text.now
 behind_equals text None none = kept text.now none
   where
-    at : (b : Bool) (c : ℕ) (cs : List ℕ) → (c == equals_sign) ≡ b → c ∷ cs ≢ equals_sign ∷ cs → c ∷ cs ≡ (if b then cs else c ∷ cs)
+    at : (b : Bool) (c : ℕ) (cs : List ℕ) → (c == equals_sign) ≡ b → c ∷ cs ≢ equals_sign ∷ cs →
+        c ∷ cs ≡ (if b then cs else c ∷ cs)
     at true c cs is none = absurd (none (ap (λ d. d ∷ cs) (grind (arith, is))))
     at false c cs is none = refl
 

@@ -14,7 +14,8 @@ EndsByUsage usage (Load error) = ⊥
 EndsByUsage usage (Start fault) = ⊥
 
 -- with status 0 or a fault of a load, where P holds of the answer of that load
-abbrev pub EndsAs : {A : Type 0} → (Result (Unit {0}) (Error A) → Type 0) → Result ℕ (Failure A) → Type 0
+abbrev pub EndsAs : {A : Type 0} → (Result (Unit {0}) (Error A) → Type 0) → Result ℕ (Failure A) →
+    Type 0
 EndsAs P (Ok status) = (status ≡ 0) × P (Ok tt)
 EndsAs P (Err (Load error)) = P (Err error)
 EndsAs P (Err (Usage usage)) = ⊥

@@ -24,5 +24,6 @@ usage_text (Memory error) = codes "out of memory"
 -- what is printed of a failure; where nothing is claimed of an error's text, nothing is claimed
 abbrev pub failure_text : {A : Type 0} → Failure A → Option (List ℕ)
 failure_text (failure.Usage usage) = Some (codes "error: " ++ usage_text usage)
-failure_text (failure.Load error) = option_map (λ text. codes "error: failed to load environment: " ++ text) (error_text error)
+failure_text (failure.Load error) =
+    option_map (λ text. codes "error: failed to load environment: " ++ text) (error_text error)
 failure_text (failure.Start fault) = None

@@ -14,7 +14,8 @@ use Rattle.dotenvy_run.specs.Words.{Form, Group, list, next, file_word, group_wo
 
 -- the group that was found means what this one does
 abbrev pub IsGroupOf : Group → Found → Type 0
-IsGroupOf group (found.File name) = (group_files group ≡ name.now ∷ []) × (is_list group ≡ false) × (is_next group ≡ false)
+IsGroupOf group (found.File name) = (group_files group ≡ name.now ∷ []) × (is_list group ≡ false)
+    × (is_next group ≡ false)
 IsGroupOf group found.List = group ≡ list
 IsGroupOf group found.Next = group ≡ next
 
@@ -36,7 +37,8 @@ IsWord text word.Command = IsTrue (not (is_option text))
 -- the word names a file behind its option, unless it is `-f` alone; or its front is no such option
 abbrev pub AttachesFile : List ℕ → Option (Bor (List ℕ)) → Type 0
 AttachesFile text (Some name) = text ≢ codes "-f" → IsAlone text (found.File name)
-AttachesFile text None = (starts_with nat_eq text (codes "--file=") ≡ false) × (starts_with nat_eq text (codes "-f") ≡ false)
+AttachesFile text None = (starts_with nat_eq text (codes "--file=") ≡ false)
+    × (starts_with nat_eq text (codes "-f") ≡ false)
 
 -- there are no words, or the first one is no option
 abbrev pub AreCommand : List (List ℕ) → Type 0
@@ -44,11 +46,13 @@ AreCommand [] = Unit {0}
 AreCommand (text ∷ words) = IsTrue (not (is_option text))
 
 -- the words begin with this group, and these are the words after it; or no group comes first; or they are refused
-abbrev pub BeginsWith : {A : Type 0} → List (List ℕ) → Result (Option (Found × Bor (List (String A)))) (Usage A) → Type 0
+abbrev pub BeginsWith : {A : Type 0} → List (List ℕ) → Result (Option (Found × Bor (List (String A)))) (Usage A) →
+    Type 0
 BeginsWith words (Ok (Some (group, after))) =
     (spelled : Group) × IsGroup spelled × (words ≡ group_words spelled ++ texts after.now) × IsGroupOf spelled group
 BeginsWith words (Ok None) = AreCommand words
 BeginsWith words (Err MissingCommand) = ⊥
 BeginsWith words (Err MissingFile) = (form : Form) × (words ≡ file_word form ∷ [])
-BeginsWith words (Err (UnknownOption text)) = (others : List (List ℕ)) × (words ≡ string_bytes text ∷ others) × IsUnknown (string_bytes text)
+BeginsWith words (Err (UnknownOption text)) = (others : List (List ℕ)) × (words ≡ string_bytes text ∷ others)
+    × IsUnknown (string_bytes text)
 BeginsWith words (Err (Memory error)) = Unit {0}

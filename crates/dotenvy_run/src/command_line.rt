@@ -83,7 +83,8 @@ impl<A: Allocator + Clone> CommandLine<A> {
 
     // One group more.
     fn add(&mut self, group: Group<'_>) -> Result<(), AllocError>
-        ensures { OnOk result ((spelled : WordGroup) → IsGroupOf spelled group.entry → line_of self.new ≡ with_group (line_of self.old) spelled) }
+        ensures { OnOk result ((spelled : WordGroup) → IsGroupOf spelled group.entry
+            → line_of self.new ≡ with_group (line_of self.old) spelled) }
     {
         match group {
             Group::File(name) => {

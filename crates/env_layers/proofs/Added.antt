@@ -33,7 +33,8 @@ or_none (Some x) = refl
 -- a load that is refused memory before the first entry leaves the environment as it was
 left_by_none : {A : Type 0} (mode : Mode) (old : Texts) (remembered : LookUp) (error : Error A) → IsMemory error →
     Leaves (rule_of mode (values_of old) remembered (Fails Memory ∷ [])) old (Err error)
-left_by_none Keep old remembered error is = record { values = λ name. sym (or_none (values_of old name)); is_answer = is }
+left_by_none Keep old remembered error is =
+    record { values = λ name. sym (or_none (values_of old name)); is_answer = is }
 left_by_none Override old remembered error is = record { values = λ name. refl; is_answer = is }
 
 -- a call that is refused memory adds nothing

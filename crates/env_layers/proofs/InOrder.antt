@@ -32,27 +32,34 @@ takes_all Override (keeping, overriding) = overriding
 
 -- a fresh iterator remembers nothing
 nothing_recalled : recalled_of fin.empty ≡ no_values
-nothing_recalled = fun_ext (λ name. ap (λ o. option_map chars (option_flatten o)) (fin.get-empty (slice_cmp nat_cmp) (encode_utf8_all name)))
+nothing_recalled = fun_ext
+    (λ name. ap (λ o. option_map chars (option_flatten o)) (fin.get-empty (slice_cmp nat_cmp) (encode_utf8_all name)))
 
 -- a fresh iterator over fewer than 2^32 bytes, which tells no fault, can read them all
 can_read : {A : Type 0} (old : Texts) (layer : Layer) (new : Texts) → Adds A old layer new →
-    CanRead (fresh (Some (record { bytes = layer.bytes; fault = None })) V15) (record { bytes = layer.bytes; fault = None })
+    CanRead (fresh (Some (record { bytes = layer.bytes; fault = None })) V15)
+    (record { bytes = layer.bytes; fault = None })
 can_read old layer new added = let few = added.few in
     record { is_open = refl; is_told = (refl, λ told. cc); few = omega (arith, few) }
 
 -- the call's load leaves and answers what the closed rule of the layer says
-leaves_rule : {A : Type 0} (old : Texts) (layer : Layer) (new : Texts) (entries : List Entry) → LoadsTakeAll A → (added : Adds A old layer new) →
+leaves_rule : {A : Type 0} (old : Texts) (layer : Layer) (new : Texts) (entries : List Entry) → LoadsTakeAll A →
+    (added : Adds A old layer new) →
     HasLayerEntries layer entries → Leaves (layer_result layer (values_of old) entries) added.adds.loaded added.answer
 leaves_rule old layer new entries all added has =
     let adds = added.adds in
     let whole =
-    takes_all layer.mode all (fresh (Some (record { bytes = layer.bytes; fault = None })) V15) (record { bytes = layer.bytes; fault = None }) old adds.loaded added.answer entries
+    takes_all layer.mode all (fresh (Some (record { bytes = layer.bytes; fault = None })) V15)
+    (record { bytes = layer.bytes; fault = None }) old adds.loaded added.answer entries
     (can_read old layer new added) has adds.loads added.not_refused in
     subst (λ es. Leaves (layer_result layer (values_of old) es) adds.loaded added.answer) (append-nil entries)
-    (subst (λ remembered. Leaves (rule_of layer.mode (values_of old) remembered (entries ++ [])) adds.loaded added.answer) nothing_recalled whole)
+    (subst (λ remembered. Leaves
+    (rule_of layer.mode (values_of old) remembered
+    (entries ++ [])) adds.loaded added.answer) nothing_recalled whole)
 
 -- two answers that say the same are both Ok, or neither is
-both_ok : {A : Type 0} (said : Result (Unit {0}) Failure) (answer : Result (Unit {0}) (Error A)) → IsAnswer said answer → is_ok answer ≡ is_ok said
+both_ok : {A : Type 0} (said : Result (Unit {0}) Failure) (answer : Result (Unit {0}) (Error A)) →
+    IsAnswer said answer → is_ok answer ≡ is_ok said
 both_ok (Ok done) (Ok r) is = refl
 both_ok (Ok done) (Err e) is = absurd is
 both_ok (Err failure) (Ok r) is = absurd is
@@ -65,23 +72,27 @@ accepted_exactly all old new layer entries added has =
     added.accepted ∙ both_ok (layer_result layer (values_of old) entries).answer added.answer leaves.is_answer
 
 -- an answer that is Ok says so
-said_ok : {A : Type 0} (said : Result (Unit {0}) Failure) (answer : Result (Unit {0}) (Error A)) → IsAnswer said answer → is_ok answer ≡ true → said ≡ Ok tt
+said_ok : {A : Type 0} (said : Result (Unit {0}) Failure) (answer : Result (Unit {0}) (Error A)) →
+    IsAnswer said answer → is_ok answer ≡ true → said ≡ Ok tt
 said_ok (Ok done) answer is ok = refl
 said_ok (Err failure) (Ok r) is ok = absurd is
 said_ok (Err failure) (Err e) is ok = cc
 
 -- what was loaded stands where the answer is Ok
-loaded_stands : {E : Type 0} (before loaded : Texts) (answer : Result (Unit {0}) E) → is_ok answer ≡ true → after_load before loaded answer ≡ loaded
+loaded_stands : {E : Type 0} (before loaded : Texts) (answer : Result (Unit {0}) E) → is_ok answer ≡ true →
+    after_load before loaded answer ≡ loaded
 loaded_stands before loaded (Ok done) ok = refl
 loaded_stands before loaded (Err e) ok = cc
 
 -- what was there before stands where the answer is a fault
-before_stands : {E : Type 0} (before loaded : Texts) (answer : Result (Unit {0}) E) → is_ok answer ≡ false → after_load before loaded answer ≡ before
+before_stands : {E : Type 0} (before loaded : Texts) (answer : Result (Unit {0}) E) → is_ok answer ≡ false →
+    after_load before loaded answer ≡ before
 before_stands before loaded (Ok done) fault = cc
 before_stands before loaded (Err e) fault = refl
 
 -- an accepted call applies the rule of its layer
-accepted_applies : {A : Type 0} (old : Texts) (layer : Layer) (new : Texts) → HasOneReading → LoadsTakeAll A → Adds A old layer new → layer.accepted ≡ true →
+accepted_applies : {A : Type 0} (old : Texts) (layer : Layer) (new : Texts) → HasOneReading → LoadsTakeAll A →
+    Adds A old layer new → layer.accepted ≡ true →
     Applies (values_of old) layer (values_of new)
 accepted_applies old layer new one all added accepted =
     let reading = one V15 (without_mark layer.bytes) in
@@ -96,21 +107,27 @@ accepted_applies old layer new one all added accepted =
     }
 
 -- a call that was not accepted changes nothing
-refused_stays : {A : Type 0} (old : Texts) (layer : Layer) (new : Texts) → Adds A old layer new → layer.accepted ≡ false → new ≡ old
-refused_stays old layer new added refused = added.adds.stands ∙ before_stands old added.adds.loaded added.answer (sym added.accepted ∙ refused)
+refused_stays : {A : Type 0} (old : Texts) (layer : Layer) (new : Texts) → Adds A old layer new →
+    layer.accepted ≡ false → new ≡ old
+refused_stays old layer new added refused = added.adds.stands
+    ∙ before_stands old added.adds.loaded added.answer (sym added.accepted ∙ refused)
 
 -- the layers that were accepted
 abbrev accepted : List Layer → List Layer
 accepted layers = filter (λ layer. layer.accepted) layers
 
 -- one call more, before calls whose accepted layers were applied in order
-first_applied : {A : Type 0} (old : Texts) (layer : Layer) (next : Texts) (layers : List Layer) (new : Texts) → HasOneReading → LoadsTakeAll A →
-    Adds A old layer next → FoldsTo Applies (values_of next) (accepted layers) (values_of new) → FoldsTo Applies (values_of old) (accepted (layer ∷ layers)) (values_of new)
+first_applied : {A : Type 0} (old : Texts) (layer : Layer) (next : Texts) (layers : List Layer) (new : Texts) →
+    HasOneReading → LoadsTakeAll A →
+    Adds A old layer next → FoldsTo Applies (values_of next) (accepted layers) (values_of new) →
+    FoldsTo Applies (values_of old) (accepted (layer ∷ layers)) (values_of new)
 first_applied old layer next layers new one all added later = at layer.accepted refl
   where
-    at : (b : Bool) → layer.accepted ≡ b → FoldsTo Applies (values_of old) (cond b (layer ∷ accepted layers) (accepted layers)) (values_of new)
+    at : (b : Bool) → layer.accepted ≡ b →
+        FoldsTo Applies (values_of old) (cond b (layer ∷ accepted layers) (accepted layers)) (values_of new)
     at true is = (values_of next, accepted_applies old layer next one all added is, later)
-    at false is = subst (λ names. FoldsTo Applies (values_of names) (accepted layers) (values_of new)) (refused_stays old layer next added is) later
+    at false is = subst (λ names. FoldsTo Applies (values_of names) (accepted layers) (values_of new))
+        (refused_stays old layer next added is) later
 
 -- after any calls the rules of the accepted layers were applied, in order
 pub layers_in_order : {A : Type 0} → HasOneReading → LoadsTakeAll A → LayersInOrder A

@@ -1,11 +1,16 @@
 -- Which of the names that are required are absent.
 use Rattle.std.specs.Prelude.{ℕ, ◌≡◌, ◌++◌, not, List, [], ◌∷◌, filter, map, Result, Ok, IsErrAnd, codes, string_bytes}
+use denote.Ref.{Bor}
 use Rattle.std.specs.FinMap as fin
 use Rattle.std.specs.List.{join_by}
 use Rattle.std.specs.declared.string.String.{String}
 use Rattle.dotenvy.specs.Environment.{Texts}
 use Rattle.env_layers.specs.declared.missing.Missing.{Missing}
 use Rattle.env_layers.specs.declared.missing.Missing.TheVariants.{Names, Memory}
+
+-- the texts that are lent, by their bytes
+abbrev pub texts : List (Bor (List ℕ)) → List (List ℕ)
+texts lent = map (λ text. text.now) lent
 
 -- the names that an environment lacks, in the order asked, and as often as asked
 abbrev pub absent_names : Texts → List (List ℕ) → List (List ℕ)

@@ -1,5 +1,5 @@
 // Layers over an environment.
-ghost use Rattle.std.specs.Prelude.{◌≡◌, IfOk, OnErr, map};
+ghost use Rattle.std.specs.Prelude.{◌≡◌, IfOk, OnErr};
 ghost use Rattle.std.specs.FinMap.{contains_key};
 ghost use Rattle.std.specs.List.{list_all};
 ghost use Rattle.std.specs.Path.{path_bytes, path_buf_bytes};
@@ -7,7 +7,7 @@ ghost use Rattle.dotenvy.specs.Environment.{KeepsNames};
 ghost use Rattle.dotenvy.specs.Find.{IsPathOf};
 ghost use Rattle.dotenvy.specs.LoadsLeft.{ChangesKeys};
 ghost use Rattle.env_layers.specs.Layers.{AddsLayer};
-ghost use Rattle.env_layers.specs.Missing.{absent_names, AnswersRequire, HoldsTexts};
+ghost use Rattle.env_layers.specs.Missing.{absent_names, texts, AnswersRequire, HoldsTexts};
 
 use crate::missing::Missing;
 use dotenvy::{
@@ -139,7 +139,7 @@ impl<A: Allocator + Clone> Layers<A> {
     /// layers.require(alloc, &["HOST", "PORT"])?;
     /// ```
     pub fn require(&self, alloc: A, names: &[&str]) -> std::result::Result<(), Missing<A>>
-        ensures { AnswersRequire (absent_names self.now.names (map (λ name. name.now) names.now)) result }
+        ensures { AnswersRequire (absent_names self.now.names (texts names.now)) result }
     {
         if self.contains_all(names) {
             return Ok(());
@@ -148,14 +148,15 @@ impl<A: Allocator + Clone> Layers<A> {
     }
 
     fn contains_all(&self, names: &[&str]) -> bool
-        ensures { result ≡ list_all (λ name. contains_key self.now.names name) (map (λ name. name.now) names.now) }
+        ensures { result ≡ list_all (λ name. contains_key self.now.names name) (texts names.now) }
     {
         names.iter().all(|name| self.environment.contains(name))
     }
 
     // The names that have no value, in the order given.
     fn absent(&self, alloc: A, names: &[&str]) -> std::result::Result<Vec<String<A>, A>, AllocError>
-        ensures { IfOk result (λ found. HoldsTexts found.items (absent_names self.now.names (map (λ name. name.now) names.now))) }
+        ensures { IfOk result
+            (λ found. HoldsTexts found.items (absent_names self.now.names (texts names.now))) }
     {
         let mut absent = Vec::new(alloc.clone()?);
         'names: for name in names {

@@ -28,7 +28,8 @@ fn write_others<A: Allocator, W: fmt::Write>(
     others: &[String<A>],
     f: &mut fmt::Formatter<W>,
 ) -> fmt::Result
-    ensures { WritesOnOk W.write_str_gives f.old result (flat_map (λ name. codes ", " ++ string_bytes name) others.now) f.new }
+    ensures { WritesOnOk W.write_str_gives f.old result
+        (flat_map (λ name. codes ", " ++ string_bytes name) others.now) f.new }
 {
     'others: for name in others {
         write!(f, ", {name}")?;
@@ -41,7 +42,8 @@ fn write_names<A: Allocator, W: fmt::Write>(
     names: &[String<A>],
     f: &mut fmt::Formatter<W>,
 ) -> fmt::Result
-    ensures { WritesOnOk W.write_str_gives f.old result (join_by string_bytes (codes ", ") names.now) f.new }
+    ensures { WritesOnOk W.write_str_gives f.old result
+        (join_by string_bytes (codes ", ") names.now) f.new }
 {
     let Some((first, others)) = names.split_first() else {
         return Ok(());

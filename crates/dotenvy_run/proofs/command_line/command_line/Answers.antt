@@ -21,7 +21,8 @@ pub returns-in_err-group : goal.returns-in_err-group
 returns-in_err-group g c =
     let p = err_from_is_err_and c.from_residual-in_err-group.result c.from_residual-in_err-group.ensures.1 in
     rw (p.1, p.2)
-    (answers_refused (texts c.args.words.now) (texts c.groups.rest.now) (line_of c.groups.line) c.in_err-group.field-0.0 c.groups.invariant c.in_err-group.ensures)
+    (answers_refused (texts c.args.words.now) (texts c.groups.rest.now)
+    (line_of c.groups.line) c.in_err-group.field-0.0 c.groups.invariant c.in_err-group.ensures)
 
 pub returns-in_err-add : goal.returns-in_err-add
 returns-in_err-add g c =
@@ -32,12 +33,14 @@ pub groups-preserved : goal.groups-preserved
 groups-preserved g c =
     let begins = subst (λ o. BeginsWith (texts c.groups.rest.now) (Ok o)) c.in-Some.is c.in_ok-group.ensures in
     rw (c.in_ok-add.ensures begins.0 begins.3)
-    (one_more (texts c.args.words.now) (texts c.groups.rest.now) (texts c.in-Some.after.now) (line_of c.groups.line) begins.0 c.groups.invariant begins.1 begins.2)
+    (one_more (texts c.args.words.now) (texts c.groups.rest.now) (texts c.in-Some.after.now)
+    (line_of c.groups.line) begins.0 c.groups.invariant begins.1 begins.2)
 
 pub returns-then-not-line : goal.returns-then-not-line
 returns-then-not-line g c = (
   Err MissingCommand,
-  ends_without_command (texts c.args.words.now) (texts c.groups.rest.now) (line_of c.groups.line) c.groups.invariant (no_texts c.groups.rest.now (search rules)) c.if-not-line.true,
+  ends_without_command (texts c.args.words.now) (texts c.groups.rest.now) (line_of c.groups.line) c.groups.invariant
+      (no_texts c.groups.rest.now (search rules)) c.if-not-line.true,
   refl,
 )
 
@@ -59,5 +62,6 @@ returns g c =
     ] in (
       Ok (record line { command = texts c.groups.rest.now }),
       ends (texts c.args.words.now) (texts c.groups.rest.now) line c.groups.invariant command listed,
-      ap (λ words. Ok (record line { command = words })) (sym (copied c.groups.rest.now c.in_ok-line-2.field-0.items c.in_ok-line-2.ensures.items)),
+      ap (λ words. Ok (record line { command = words }))
+          (sym (copied c.groups.rest.now c.in_ok-line-2.field-0.items c.in_ok-line-2.ensures.items)),
     )

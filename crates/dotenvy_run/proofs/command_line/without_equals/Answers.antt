@@ -6,4 +6,5 @@ use Rattle.dotenvy_run.proofs.command_line.without_equals.Goals as goal
 pub returns : goal.returns
 returns c =
     ap (λ t. t.now) c.unwrap_or.ensures
-    ∙ behind_equals c.args.text c.strip_prefix.result (strip_prefix_char 61 c.args.text.now c.strip_prefix.result c.strip_prefix.ensures.cases (omega arith))
+    ∙ behind_equals c.args.text c.strip_prefix.result
+    (strip_prefix_char 61 c.args.text.now c.strip_prefix.result c.strip_prefix.ensures.cases (omega arith))

@@ -12,11 +12,14 @@ names-init g c =
     let none = command_args c.in_ok-command.command in
     let added : command_args c.in_ok-args.field-0.now ≡ none ++ map string_bytes c.args.arguments.now =
     fact_from_extend {E = ℕ} (λ y. y.now) (Ok tt) c.in_ok-args.ensures.args (λ it b. YieldsList-from_slice _ b.0)
-    (λ xs e h. h (λ _. refl) ∙ ap (λ l. none ++ l) (sym (map-map string_bytes (λ y. y.now) xs) ∙ ap (map string_bytes) e)) in
+    (λ xs e h. h (λ _. refl)
+    ∙ ap (λ l. none ++ l) (sym (map-map string_bytes (λ y. y.now) xs) ∙ ap (map string_bytes) e)) in
     record {
       names =
           rw (ap text_entries c.into_iter-name-iterator.ensures.into_iter_gives ∙ c.iter-name-items.ensures.pairs)
-          (none_set c.args.environment.now.names _ (λ name. let none = c.in_ok-args.ensures.env.1 name ∙ c.in_ok-command.ensures.vars name in search rules));
+          (none_set c.args.environment.now.names _
+          (λ name. let none = c.in_ok-args.ensures.env.1 name ∙ c.in_ok-command.ensures.vars name in
+          search rules));
       program = search rules;
       arguments = search rules;
       inherits = search rules;
@@ -26,8 +29,11 @@ names-init g c =
 pub names-preserved : goal.names-preserved
 names-preserved g c = record {
   names =
-      let left = subst (λ es. SetsWithLeft c.args.environment.now.names es c.names.command) (search rules) c.names.invariant.names in
-      one_set c.args.environment.now.names (string_bytes c.in-Some.name.now) (string_bytes c.in-Some.value.now) (text_entries c.next.new.self) c.names.command _ left (search rules) (λ name differs. let same = c.in_ok-env.ensures.others name differs in search rules);
+      let left = subst (λ es. SetsWithLeft c.args.environment.now.names es c.names.command)
+      (search rules) c.names.invariant.names in
+      one_set c.args.environment.now.names (string_bytes c.in-Some.name.now) (string_bytes c.in-Some.value.now)
+      (text_entries c.next.new.self) c.names.command _ left (search rules)
+      (λ name differs. let same = c.in_ok-env.ensures.others name differs in search rules);
   program = search rules;
   arguments = search rules;
   inherits = search rules;

@@ -15,7 +15,8 @@ returns-in_err-absent g c =
     let p = err_from_is_err_and c.from_residual.result c.from_residual.ensures.1 in
     let asked = map (λ name. name.now) c.args.names.now in
     rw p.1
-    (answers_absent c.args.self.now.names asked p.0 (sym c.contains_all.ensures ∙ c.if-contains_all.false) (tells_memory (absent_names c.args.self.now.names asked) p.0 p.2))
+    (answers_absent c.args.self.now.names asked p.0 (sym c.contains_all.ensures ∙ c.if-contains_all.false)
+    (tells_memory (absent_names c.args.self.now.names asked) p.0 p.2))
 
 pub returns : goal.returns
 returns g c =
