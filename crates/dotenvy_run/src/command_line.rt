@@ -154,3 +154,6 @@ fn without_equals(text: &str) -> &str
 {
     text.strip_prefix('=').unwrap_or(text)
 }
+
+#[cfg(test)]
+pub(crate) mod tests;

@@ -102,3 +102,6 @@ fn loaded<A: Allocator + Clone, R: Files + Env + Alloc<A = A>>(
     }
     Ok(layers.into_environment())
 }
+
+#[cfg(test)]
+mod tests;

@@ -17,11 +17,15 @@ mod first_use;
 #[cfg(test)]
 mod folders;
 #[cfg(test)]
+mod layers;
+#[cfg(test)]
 mod loads;
 #[cfg(test)]
 mod processes;
 #[cfg(test)]
 mod refusals;
+#[cfg(test)]
+mod required;
 #[cfg(test)]
 mod searches;
 #[cfg(test)]

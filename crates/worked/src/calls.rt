@@ -6,8 +6,10 @@ use dotenvy::{
     from_filename_iter, from_filename_override, from_filename_with, from_path, from_path_iter,
     from_path_override, from_read, from_read_override, var, vars,
 };
+use env_layers::Layers;
 use std::env::Env;
 use std::fs::{File, Files};
+use std::mem;
 use std::path::{Path, PathBuf};
 use std::test::Fail;
 
@@ -34,6 +36,8 @@ pub enum Call {
     FromFilenameIter,
     FromFilenameInV15,
     FromFilenameInNext,
+    AddFileInV15,
+    AddFileInNext,
     FromRead,
     FromReadOverride,
     Dotenv,
@@ -82,6 +86,10 @@ impl Call {
             Call::FromFilenameInNext => {
                 return Ok(Some(from_filename_with(rt, file, Dialect::Next, environment)?));
             }
+            Call::AddFileInV15 => return Ok(Some(add_file(rt, file, Dialect::V15, environment)?)),
+            Call::AddFileInNext => {
+                return Ok(Some(add_file(rt, file, Dialect::Next, environment)?));
+            }
             Call::FromRead => {
                 from_read(rt.alloc(), Plain::new(File::open(rt, file)?), environment)?;
             }
@@ -94,6 +102,20 @@ impl Call {
         }
         Ok(None)
     }
+}
+
+/// Adds the file as a layer over the environment, which the layers then give back.
+fn add_file<R: Files + Env + AllocGlobal>(
+    rt: &R,
+    file: Path<'_>,
+    dialect: Dialect,
+    environment: &mut Environment,
+) -> Result<PathBuf> {
+    let empty = Environment::new(rt.alloc());
+    let mut layers = Layers::new(mem::replace(environment, empty));
+    let answer = layers.add_file(rt, file, dialect);
+    *environment = layers.into_environment();
+    answer
 }
 
 /// What `var` answers and leaves, as `1: X=1, and the mark`.

@@ -9,12 +9,14 @@ use std::test::Fail;
 
 const BY_PATH: [Call; 3] = [Call::FromPath, Call::FromPathOverride, Call::FromPathIter];
 
-const BY_NAME: [Call; 8] = [
+const BY_NAME: [Call; 10] = [
     Call::FromFilename,
     Call::FromFilenameOverride,
     Call::FromFilenameIter,
     Call::FromFilenameInV15,
     Call::FromFilenameInNext,
+    Call::AddFileInV15,
+    Call::AddFileInNext,
     Call::Dotenv,
     Call::DotenvOverride,
     Call::DotenvIter,

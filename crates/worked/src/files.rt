@@ -22,6 +22,8 @@ fn calls_that_keep_and_calls_that_replace(rt: HostRuntime) -> Result<(), Fail> {
         (Call::FromFilenameIter, ".env", "ok", KEPT),
         (Call::FromFilenameInV15, ".env", path, KEPT),
         (Call::FromFilenameInNext, ".env", path, KEPT),
+        (Call::AddFileInV15, ".env", path, KEPT),
+        (Call::AddFileInNext, ".env", path, KEPT),
         (Call::FromRead, path, "ok", KEPT),
         (Call::FromReadOverride, path, "ok", REPLACED),
         (Call::Dotenv, "", path, KEPT),
@@ -96,6 +98,8 @@ fn files_that_are_not_there(rt: HostRuntime) -> Result<(), Fail> {
         (Call::FromFilenameIter, nowhere, "io NotFound: A=1"),
         (Call::FromFilenameInV15, nowhere, "io NotFound: A=1"),
         (Call::FromFilenameInNext, nowhere, "io NotFound: A=1"),
+        (Call::AddFileInV15, nowhere, "io NotFound: A=1"),
+        (Call::AddFileInNext, folder.as_str(), "io NotFound: A=1"),
     ] {
         let shown = call.shown(&rt, file, &[("A", "1")])?;
         assert_eq!(rt; shown.as_str(), want, "{call:?} of {file:?}");
@@ -116,6 +120,8 @@ fn a_file_in_both_dialects(rt: HostRuntime) -> Result<(), Fail> {
         (Call::FromFilenameIter, "fault at 3: \"$A\": A=1"),
         (Call::FromFilenameInV15, "fault at 3: \"$A\": A=1"),
         (Call::FromFilenameInNext, next.as_str()),
+        (Call::AddFileInV15, "fault at 3: \"$A\": A=1"),
+        (Call::AddFileInNext, next.as_str()),
         (Call::FromPath, "fault at 3: \"$A\": A=1"),
     ] {
         let shown = call.shown(&rt, path.as_str(), &[("A", "1")])?;

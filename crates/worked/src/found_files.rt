@@ -83,6 +83,8 @@ fn each_call_searches_upward(rt: HostRuntime) -> Result<(), Fail> {
         (Call::FromFilenameIter, "ok"),
         (Call::FromFilenameInV15, path.as_str()),
         (Call::FromFilenameInNext, path.as_str()),
+        (Call::AddFileInV15, path.as_str()),
+        (Call::AddFileInNext, path.as_str()),
         (Call::Dotenv, path.as_str()),
         (Call::DotenvOverride, path.as_str()),
         (Call::DotenvIter, "ok"),

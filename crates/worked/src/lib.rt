@@ -26,6 +26,12 @@ mod folder;
 #[cfg(test)]
 mod found_files;
 #[cfg(test)]
+mod layer_calls;
+#[cfg(test)]
+mod layer_files;
+#[cfg(test)]
+mod layers;
+#[cfg(test)]
 mod lines;
 #[cfg(test)]
 mod loads;

@@ -4,6 +4,7 @@
 //! for a line feed.
 
 mod failing;
+mod layered;
 mod searched;
 mod used;
 mod written;
