@@ -5,7 +5,6 @@ mod failures;
 mod folder;
 mod listed;
 mod process;
-mod refused;
 mod runtime;
 mod started;
 mod system;

@@ -19,7 +19,7 @@ fn lists(rt: HostRuntime) -> Result<(), Fail> {
         assert_eq!(rt; outcome.answer.as_str(), answer, "{words} of {input:?}");
         assert_eq!(rt; outcome.written.as_str(), written, "{words} of {input:?}");
     }
-    assert_eq!(rt; runtime.notes()?.as_str(), "");
+    assert_eq!(rt; runtime.into_notes().as_str(), "");
     folder.remove()?;
     Ok(())
 }
@@ -43,7 +43,7 @@ fn words_that_are_refused(rt: HostRuntime) -> Result<(), Fail> {
         assert_eq!(rt; outcome.written.as_str(), "", "at {words}");
         assert_eq!(rt; outcome.unread, 4, "at {words}");
     }
-    assert_eq!(rt; runtime.notes()?.as_str(), "");
+    assert_eq!(rt; runtime.into_notes().as_str(), "");
     folder.remove()?;
     Ok(())
 }

@@ -37,12 +37,9 @@ impl<'a> PlayedRuntime<'a> {
         }
     }
 
-    /// What was opened and started so far, as `open .env;start [sh][-c][exit] A=[1] P=[0];`.
-    pub fn notes(&self) -> io::Result<String> {
-        let Ok(notes) = self.notes.try_borrow() else {
-            return Err(io::Error::from(ErrorKind::Other));
-        };
-        Ok(notes.clone()?)
+    /// What was opened and started, as `open .env;start [sh][-c][exit] A=[1] P=[0];`.
+    pub fn into_notes(self) -> String {
+        self.notes.into_inner()
     }
 
     /// The path from the current directory on, if it is of something in it.

@@ -19,7 +19,7 @@ fn started(rt: HostRuntime, name: &str, files: Files<'_>, words: &str) -> Result
     let folder = Folder::new(rt, name, files)?;
     let runtime = PlayedRuntime::new(rt, folder.as_str(), Start::Ends(7 * 256));
     let outcome = outcome_of(&runtime, words, "A=1\n")?;
-    let notes = runtime.notes()?;
+    let notes = runtime.into_notes();
     folder.remove()?;
     if outcome.unread != 4 || !outcome.written.is_empty() {
         return Err(Fail::from("the input was read, or something written"));

@@ -48,6 +48,7 @@ fn commands_that_the_system_runs(rt: HostRuntime) -> Result<(), Fail> {
         let fault = outcome.answer.strip_prefix("fatal: ");
         assert!(rt; fault.is_some_and(|text| !text.is_empty()), "at {words}");
     }
+    drop(runtime);
     folder.remove()?;
     Ok(())
 }

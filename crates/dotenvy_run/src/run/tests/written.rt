@@ -11,12 +11,12 @@ use std::io::{ErrorKind, Write};
 /// What the list of `B=2`, `A=1`, `A=3` is.
 const LISTED: &str = "A=\"1\"\nB=\"2\"\n";
 
-/// Takes so many bytes, one a write, and then answers its end. Every other write is interrupted.
+/// Takes so many bytes, one a write, and then answers a fault, or 0. Every other write is interrupted.
 #[derive(Drop)]
 struct FailingWriter {
     taken: Vec<u8>,
     left: usize,
-    end: Result<usize, ErrorKind>,
+    fault: Option<ErrorKind>,
     is_interrupted: bool,
 }
 
@@ -26,9 +26,10 @@ impl Write for FailingWriter {
         if self.is_interrupted {
             return Err(io::Error::from(ErrorKind::Interrupted));
         }
-        match buf.first() {
-            Some(byte) if self.left > 0 => self.taken.push(*byte)?,
-            _ => return self.end.map_err(io::Error::from),
+        match (buf.first(), self.fault) {
+            (Some(byte), _) if self.left > 0 => self.taken.push(*byte)?,
+            (_, Some(kind)) => return Err(io::Error::from(kind)),
+            (_, None) => return Ok(0),
         }
         self.left -= 1;
         Ok(1)
@@ -43,14 +44,14 @@ impl Write for FailingWriter {
 fn listed(
     runtime: &PlayedRuntime<'_>,
     left: usize,
-    end: Result<usize, ErrorKind>,
+    fault: Option<ErrorKind>,
 ) -> Result<String, Fail> {
     let alloc = runtime.alloc();
     let words = words_of(alloc, "[--list]")?;
     let mut writer = Plain::new(FailingWriter {
         taken: Vec::new(alloc),
         left,
-        end,
+        fault,
         is_interrupted: false,
     });
     let mut reader = Bytes::new(b"B=2\nA=1\nA=3\n");
@@ -66,23 +67,21 @@ fn listed(
 fn writers_that_fail(rt: HostRuntime) -> Result<(), Fail> {
     let alloc = rt.alloc();
     let runtime = PlayedRuntime::new(rt, "/", Start::Ends(0));
-    for (end, kind) in [
-        (Err(ErrorKind::BrokenPipe), ErrorKind::BrokenPipe),
-        (Ok(0), ErrorKind::WriteZero),
+    for (fault, kind) in [
+        (Some(ErrorKind::BrokenPipe), ErrorKind::BrokenPipe),
+        (None, ErrorKind::WriteZero),
     ] {
-        let fault = io::Error::from(kind).to_string(alloc)?;
+        let text = io::Error::from(kind).to_string(alloc)?;
         for count in 0..LISTED.len() {
-            let listed = listed(&runtime, count, end)?;
+            let listed = listed(&runtime, count, fault)?;
             let written = &LISTED[..count];
-            let wanted = format!(in alloc;
-                "error: failed to load environment: {fault}: {written}"
-            )?;
+            let wanted = format!(in alloc; "error: failed to load environment: {text}: {written}")?;
             assert_eq!(rt; listed.as_str(), wanted.as_str(), "after {count} bytes");
         }
-        let listed = listed(&runtime, LISTED.len(), end)?;
+        let listed = listed(&runtime, LISTED.len(), fault)?;
         let wanted = format!(in alloc; "status 0: {LISTED}")?;
         assert_eq!(rt; listed.as_str(), wanted.as_str());
     }
-    assert_eq!(rt; runtime.notes()?.as_str(), "");
+    assert_eq!(rt; runtime.into_notes().as_str(), "");
     Ok(())
 }
