@@ -49,3 +49,4 @@ pub mod KeyLookUps
 pub mod LoadRuns
 pub mod DroppedMarks
 pub mod LoadSteps
+pub mod LongestFronts
