@@ -1,14 +1,17 @@
 -- Keys: their bytes are their characters, and each key is a name.
 use Rattle.std.proofs.Common.{◌≡◌, ◌<◌, ℕ, true, false, [], ◌∷◌, List, refl, sym, ap, ◌∙◌, arith}
-use Rattle.std.specs.Prelude.{◌++◌, ◌||◌, not, ◌==◌, encode_utf8_all}
+use Rattle.std.specs.Prelude.{◌++◌, ◌||◌, not, ◌==◌, encode_utf8_all, Option, Some, None, Result, Ok, Err, IfSome, IfOk, IsTrue, string_bytes}
 use Rattle.std.specs.List.{list_all, list_any}
 use Rattle.std.specs.Str.{chars, IsUtf8}
 use Rattle.std.proofs.lemmas.Bool.{and_parts, and_from}
 use Rattle.std.proofs.lemmas.Bool.Decides.{nat_tests}
-use Rattle.std.proofs.lemmas.Str.{encodes-chars, encode_ascii}
+use Rattle.std.proofs.lemmas.Str.{IsUtf8-string_bytes, encodes-chars, encode_ascii}
 use Rattle.dotenvy.specs.Characters.{begins_key, continues_key, equals_sign}
 use Rattle.dotenvy.specs.Statement.{is_key}
+use Rattle.std.specs.declared.string.String.{String}
+use Rattle.dotenvy.specs.declared.errors.Error.{Error}
 use Rattle.dotenvy.specs.Environment.{name_ok}
+use Rattle.dotenvy.specs.NextItem.{GivesName}
 
 begins-continues : (c : ℕ) → begins_key c ≡ true → continues_key c ≡ true
 begins-continues c h = grind (arith, nat_tests, h)
@@ -59,3 +62,10 @@ name_from_key (c ∷ cs) h =
 -- a key is a name
 pub name_ok-key : (bs : List ℕ) → IsUtf8 bs → is_key (chars bs) ≡ true → name_ok bs ≡ true
 name_ok-key bs utf8 h = name_from_key bs (sym (ap is_key (chars-key bs utf8 h)) ∙ h)
+
+-- a pair with a key has a name
+pub names_of_keys : {A : Type 0} (item : Option (Result (String A × String A) (Error A))) →
+    IfSome item (λ given. IfOk given (λ pair. IsTrue (is_key (chars (string_bytes pair.0))))) → GivesName item
+names_of_keys None keys = tt
+names_of_keys (Some (Ok pair)) keys = name_ok-key (string_bytes pair.0) (IsUtf8-string_bytes pair.0) keys
+names_of_keys (Some (Err error)) keys = tt

@@ -1,5 +1,5 @@
 -- What the next item is, and what it leaves.
-use Rattle.std.specs.Prelude.{ℕ, ◌≡◌, ◌⊎◌, List, [], ◌∷◌, ◌++◌, Option, Some, None, Result, Ok, Err, unwrap_or, string_bytes}
+use Rattle.std.specs.Prelude.{ℕ, ◌≡◌, ◌⊎◌, List, [], ◌∷◌, ◌++◌, Option, Some, None, Result, Ok, Err, IfSome, IfOk, IsTrue, unwrap_or, string_bytes}
 use Rattle.std.specs.Str.{chars}
 use Rattle.std.specs.IoError.{error_kind}
 use Rattle.std.specs.declared.string.String.{String}
@@ -10,7 +10,7 @@ use Rattle.dotenvy.specs.Entries.{Failure, LineParse, Io, Nul, Memory, Entry, De
 use Rattle.dotenvy.specs.declared.dialect.Dialect.{Dialect}
 use Rattle.dotenvy.specs.Decided.{HasDecided}
 use Rattle.dotenvy.specs.Items.{LookUp, meaning, with_value}
-use Rattle.dotenvy.specs.Environment.{Texts}
+use Rattle.dotenvy.specs.Environment.{Texts, name_ok}
 use Rattle.dotenvy.specs.Names.{recalled_of, names_of}
 use Rattle.dotenvy.specs.Source.{Ahead}
 use Rattle.dotenvy.specs.Input.{IsTold, ReadsFit}
@@ -72,3 +72,7 @@ abbrev pub NextItem : {A : Type 0} → Texts → IterState → Option (Result (S
 NextItem names s item t =
     (s.lines.stage ≡ Open → (a : Ahead) → IsTold s.lines.input.left a → (entries : List Entry) → HasLeft s.dialect a.fault a.bytes entries → ItemIs names a s entries item t)
     × ((s.lines.stage ≡ Open → ⊥) → (item ≡ None) × (t ≡ s))
+
+-- a pair that is given has a name that an environment can hold
+abbrev pub GivesName : {A : Type 0} → Option (Result (String A × String A) (Error A)) → Type 0
+GivesName item = IfSome item (λ given. IfOk given (λ pair. IsTrue (name_ok (string_bytes pair.0))))

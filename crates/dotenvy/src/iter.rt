@@ -13,7 +13,7 @@ ghost use Rattle.dotenvy.specs.Line.{Outcome, Says};
 ghost use Rattle.dotenvy.specs.Names.{names_of};
 ghost use Rattle.dotenvy.specs.ParsedLine.{IsLineAnswer, Remembers, HasKey};
 ghost use Rattle.dotenvy.specs.LineItem.{AddsLine};
-ghost use Rattle.dotenvy.specs.NextItem.{NextItem};
+ghost use Rattle.dotenvy.specs.NextItem.{GivesName, NextItem};
 ghost use Rattle.dotenvy.specs.LoadsLeft.{ChangesKeys, LoadsLeft};
 
 use crate::dialect::Dialect;
@@ -97,6 +97,7 @@ impl<R: Source, A: Allocator + Clone> Iter<R, A> {
         ensures falls { IsSome result → item_fuel self.new < item_fuel self.old }
         ensures memory { IfSome result (λ item. IsMemoryErr item → self.new.lines.stage ≡ Failed) }
         ensures key { IfSome result (λ item. IfOk item (λ pair. IsTrue (is_key (chars (string_bytes pair.0))))) }
+        ensures name { GivesName result }
     {
         'lines: while let Some(line) = self.lines.next_line() {
             let item = self.item_of(line, env);
@@ -217,7 +218,8 @@ pub struct Items<'a, R: Source, A: Allocator = Global> {
 impl<'a, R: Source, A: Allocator + Clone> Iterator for Items<'a, R, A> {
     type Item = Result<(String<A>, String<A>), A>;
 
-    ghost next_gives = { λ s item t. NextItem s.env.now.names s.file.now item t.file.now × (t.file.ghost_name ≡ s.file.ghost_name) × (t.env.now ≡ s.env.now) };
+    ghost next_gives = { λ s item t. NextItem s.env.now.names s.file.now item t.file.now
+        × (t.file.ghost_name ≡ s.file.ghost_name) × (t.env.now ≡ s.env.now) × GivesName item };
 
     ghost remaining = { λ s. at_most (item_fuel s.file.now) };
 

@@ -5,6 +5,7 @@ use super::folder::Folder;
 use super::outcome_of;
 use super::process::Start;
 use super::runtime::PlayedRuntime;
+use std::alloc::{AllocError, Global};
 use std::io;
 use std::io::ErrorKind;
 use std::test::Fail;
@@ -37,17 +38,19 @@ fn commands_that_start(rt: HostRuntime) -> Result<(), Fail> {
     Ok(())
 }
 
+/// What is noted, and then answered of this fault. `None` is that of a file that is not found, whose
+/// text is std's.
+fn faulty(alloc: Global, notes: &str, fault: Option<&str>) -> Result<String, AllocError> {
+    let not_found = io::Error::from(ErrorKind::NotFound).to_string(alloc)?;
+    let fault = fault.unwrap_or(not_found.as_str());
+    format!(in alloc; "{notes}error: failed to load environment: {fault}")
+}
+
 #[test]
 fn commands_that_do_not_start(rt: HostRuntime) -> Result<(), Fail> {
-    let not_found = io::Error::from(ErrorKind::NotFound).to_string(rt.alloc())?;
     for (files, words, notes, fault) in NOT_STARTED {
         let started = started(rt, "run_not_started", files, words)?;
-        let fault = if fault == NOT_FOUND {
-            not_found.as_str()
-        } else {
-            fault
-        };
-        let wanted = format!(in rt.alloc(); "{notes}error: failed to load environment: {fault}")?;
+        let wanted = faulty(rt.alloc(), notes, fault)?;
         assert_eq!(rt; started.as_str(), wanted.as_str(), "at {words}");
     }
     Ok(())
@@ -140,54 +143,51 @@ const STARTED: [(Files<'static>, &str, &str); 16] = [
     ),
 ];
 
-/// Stands for the text that a fault of that kind has in std.
-const NOT_FOUND: &str = "not found";
-
 /// Files, words, what is opened, and the fault.
-const NOT_STARTED: [(Files<'static>, &str, &str, &str); 10] = [
+const NOT_STARTED: [(Files<'static>, &str, &str, Option<&str>); 10] = [
     (
         &[(".env", ".Key=V\n")],
         "[sh]",
         "open .env;",
-        "Error parsing line: '.Key=V', error at line index: 0",
+        Some("Error parsing line: '.Key=V', error at line index: 0"),
     ),
     (
         &[(".env", "P=1\nA=\"x\0y\"\n")],
         "[sh]",
         "open .env;",
-        "value of 'A' contains a NUL",
+        Some("value of 'A' contains a NUL"),
     ),
     (
         &[(".env", "K=\"$P\"\n")],
         "[sh][--next]",
         "open .env;",
-        "Error parsing line: '\"$P\"', error at line index: 3",
+        Some("Error parsing line: '\"$P\"', error at line index: 3"),
     ),
     (
         &[("a", "X=1\nY=$X\n"), ("b", "X=2\n.Z=2\n")],
         "[-f][a][-f][b][sh]",
         "open a;open b;",
-        "Error parsing line: '.Z=2', error at line index: 0",
+        Some("Error parsing line: '.Z=2', error at line index: 0"),
     ),
     (
         &[("a", "X=1\nY=$X\n"), ("b", "X=2\n.Z=2\n")],
         "[-f][b][-f][a][sh]",
         "open b;",
-        "Error parsing line: '.Z=2', error at line index: 0",
+        Some("Error parsing line: '.Z=2', error at line index: 0"),
     ),
     (
         &[("a", "X=1\n"), ("b", "K=\"$P\"\n")],
         "[-fa][-fb][sh]",
         "open a;open b;",
-        "Error parsing line: '\"$P\"', error at line index: 3",
+        Some("Error parsing line: '\"$P\"', error at line index: 3"),
     ),
-    (&[("a", "A=1\n")], "[sh]", "", NOT_FOUND),
-    (&[(".env", "A=1\n")], "[-fa][sh]", "", NOT_FOUND),
-    (&[(".env", "A=1\n")], "[--file=][sh]", "", NOT_FOUND),
+    (&[("a", "A=1\n")], "[sh]", "", None),
+    (&[(".env", "A=1\n")], "[-fa][sh]", "", None),
+    (&[(".env", "A=1\n")], "[--file=][sh]", "", None),
     (
         &[(".env", "A=1\n"), ("a", "A=1\n")],
         "[-fa][-fb][-fa][sh]",
         "open a;",
-        NOT_FOUND,
+        None,
     ),
 ];

@@ -26,11 +26,16 @@ impl Write for FailingWriter {
         if self.is_interrupted {
             return Err(io::Error::from(ErrorKind::Interrupted));
         }
-        match (buf.first(), self.fault) {
-            (Some(byte), _) if self.left > 0 => self.taken.push(*byte)?,
-            (_, Some(kind)) => return Err(io::Error::from(kind)),
-            (_, None) => return Ok(0),
+        if self.left == 0 {
+            return match self.fault {
+                Some(kind) => Err(io::Error::from(kind)),
+                None => Ok(0),
+            };
         }
+        let Some(byte) = buf.first() else {
+            return Ok(0);
+        };
+        self.taken.push(*byte)?;
         self.left -= 1;
         Ok(1)
     }

@@ -5,6 +5,7 @@ use Rattle.dotenvy.specs.Lines.{LinesState}
 use Rattle.dotenvy.specs.Remembered.{remembered_of}
 use Rattle.dotenvy.specs.Iter.{IterState}
 use Rattle.dotenvy.proofs.NextItems.{Passed, passed_all, next_leads, leads_item, leads_on}
+use Rattle.dotenvy.proofs.Keys.{names_of_keys}
 use Rattle.dotenvy.proofs.iter.Iter.next_item.Goals as goal
 
 pub returns-then-is_some-clause-next : goal.returns-then-is_some-clause-next
@@ -43,3 +44,6 @@ returns-clause-next g c = (
       let with_lines = λ (l : LinesState). (let u : IterState = record { lines = l; remembered = remembered_of c.self.inside.remembered.entries; dialect = c.self.inside.dialect } in u) in
       (refl, ap with_lines lines ∙ view),
 )
+
+pub returns-then-is_some-clause-name : goal.returns-then-is_some-clause-name
+returns-then-is_some-clause-name g c = names_of_keys c.item_of-item.result c.item_of-item.ensures.key
