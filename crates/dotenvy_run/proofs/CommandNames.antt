@@ -12,7 +12,6 @@ use Rattle.std.specs.declared.cmp.Ordering.TheVariants.{Less, Equal, Greater}
 use Rattle.std.specs.declared.process.command.Command.{Command}
 use Rattle.std.proofs.lemmas.Map.Text.{is_eq-slice_cmp}
 use Rattle.dotenvy.specs.Environment.{Texts}
-use Rattle.dotenvy_run.specs.Started.{SetsNames}
 
 abbrev bytes_cmp : List ℕ → List ℕ → Ordering
 bytes_cmp = slice_cmp nat_cmp
@@ -53,19 +52,21 @@ none_set names command none = record {
     or_none None = refl
     or_none (Some x) = refl
 
--- names that tie are one name, and others are not
+-- names that tie are one name
 ties : (name other : List ℕ) → is_eq (bytes_cmp name other) ≡ true → name ≡ other
 ties name other is = (bytes_decides name other).0 (sym (is_eq-slice_cmp name other) ∙ is)
 
+-- names that don't tie are two
 differs : (name other : List ℕ) → is_eq (bytes_cmp name other) ≡ false → name ≢ other
 differs name other is same = let both : true ≡ false = sym ((bytes_decides name other).1 same)
     ∙ sym (is_eq-slice_cmp name other) ∙ is in cc
 
--- the first and the second of two things that hold
+-- of two things that hold, the second
 second : (a b : Bool) → T (a && b) → T b
 second true b both = both
 second false b both = absurd both
 
+-- of two things that hold, the first
 first : (a b : Bool) → T (a && b) → T a
 first true b both = tt
 first false b both = absurd both
@@ -93,8 +94,3 @@ one_set names name value left old new before set others = record {
     at other false is says =
         ap (λ said. option_or (option_map Some (find bytes_cmp other left)) said)
         (others other (differs other name is)) ∙ says
-
--- the last name is set
-pub all_set : {A : Type 0} (names : Texts) (command : Command A) → SetsWithLeft names [] command →
-    SetsNames names command
-all_set names command set = λ name. set.says name

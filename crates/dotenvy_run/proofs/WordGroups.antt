@@ -1,8 +1,8 @@
 -- Words that are groups and what follows them: one group more, and the ways to end.
-use Rattle.std.proofs.Common.{◌≡◌, ℕ, ◌<◌, Bool, true, false, ◌||◌, List, [], ◌∷◌, ◌++◌, append_assoc, append-nil, length, length-append, Result, Ok, Err, refl, sym, ◌∙◌, ap, subst, arith}
+use Rattle.std.proofs.Common.{◌≡◌, ℕ, Bool, true, false, ◌||◌, List, [], ◌∷◌, ◌++◌, append_assoc, append-nil, length, Result, Ok, Err, refl, sym, ◌∙◌, ap, subst}
 use Rattle.std.specs.Prelude.{string_bytes, if◌then◌else◌}
 use Rattle.std.specs.List.{AllZip, flat_map, list_any}
-use Rattle.std.proofs.lemmas.List.{length-map, nil_from_length}
+use Rattle.std.proofs.lemmas.List.{nil_from_length}
 use Rattle.std.proofs.lemmas.Grind.{flat_map-append}
 use Rattle.std.proofs.lemmas.List.Folds.{list_any-append}
 use Rattle.std.specs.declared.string.String.{String}
@@ -22,10 +22,6 @@ abbrev pub SoFar : List (List ℕ) → List (List ℕ) → CommandLine → Type 
 SoFar words rest line =
     (groups : List Group) × AreGroups groups × (words ≡ flat_map group_words groups ++ rest)
     × (line ≡ command_line groups [])
-
--- no groups so far
-pub no_groups : (words : List (List ℕ)) (line : CommandLine) → line ≡ command_line [] [] → SoFar words words line
-no_groups words line is = ([], tt, refl, is)
 
 -- groups and one more are groups
 more_groups : (groups : List Group) (group : Group) → AreGroups groups → IsGroup group →

@@ -1,9 +1,7 @@
 -- What a word is by itself, from the tests of its front.
 use Rattle.std.proofs.Common.{◌≡◌, ◌≢◌, ℕ, Bool, true, false, List, [], ◌∷◌, ◌++◌, Option, Some, None, refl, sym, ◌∙◌, ap, arith}
-use Rattle.std.specs.Prelude.{◌==◌, nat_eq, codes, MatchOption, unwrap_or, if◌then◌else◌}
-use Rattle.std.specs.List.{starts_with}
+use Rattle.std.specs.Prelude.{◌==◌, codes, MatchOption, unwrap_or, if◌then◌else◌}
 use Rattle.std.specs.Str.Pattern.{FindsTextPrefix, StripsPrefix}
-use Rattle.std.proofs.lemmas.Str.Pattern.{starts_text}
 use denote.Ref.{Bor}
 use Rattle.dotenvy.specs.Characters.{equals_sign}
 use Rattle.dotenvy_run.specs.declared.command_line.Group.TheVariants as found
@@ -13,10 +11,6 @@ use Rattle.dotenvy_run.specs.FirstGroup.{IsAlone}
 -- a text whose front was stripped is that front, and then what is left
 pub stripped : (front text rest : List ℕ) → StripsPrefix (FindsTextPrefix front) text rest → text ≡ front ++ rest
 stripped front text rest (n, (is_length, joins, boundary), is_rest, fits) = joins ∙ ap (λ t. front ++ t) (sym is_rest)
-
--- a text whose front cannot be stripped does not start with it
-pub not_stripped : (front text : List ℕ) → FindsTextPrefix front text None → starts_with nat_eq text front ≡ false
-not_stripped front text none = sym (starts_text false front text none)
 
 -- a file behind `--file=`
 pub assigned : (text : List ℕ) (name : Bor (List ℕ)) → text ≡ codes "--file=" ++ name.now →

@@ -23,7 +23,7 @@ use Rattle.dotenvy.specs.Names.{values_of, recalled_of}
 use Rattle.env_layers.specs.declared.layers.Mode.{Mode}
 use Rattle.env_layers.specs.declared.layers.Mode.TheVariants.{Keep, Override}
 use Rattle.env_layers.specs.Layers.{after_load, rule_of}
-use Rattle.env_layers.specs.Laws.{Layer, Adds, HasLayerEntries, layer_result, Applies, LayersInOrder, AcceptedExactly}
+use Rattle.env_layers.specs.Laws.{Layer, telling, Adds, HasLayerEntries, layer_result, Applies, LayersInOrder, AcceptedExactly}
 
 -- a load in either mode that was not refused memory takes all that is left
 takes_all : {A : Type 0} (mode : Mode) → LoadsTakeAll A → LoadsAllLeft (rule_of mode) A
@@ -37,7 +37,7 @@ nothing_recalled = fun_ext
 
 -- a fresh iterator over fewer than 2^32 bytes, which tells no fault, can read them all
 can_read : {A : Type 0} (old : Texts) (layer : Layer) (new : Texts) → Adds A old layer new →
-    CanRead (fresh (Some (record { bytes = layer.bytes; fault = None })) V15)
+    CanRead (fresh (telling layer.bytes) V15)
     (record { bytes = layer.bytes; fault = None })
 can_read old layer new added = let few = added.few in
     record { is_open = refl; is_told = (refl, λ told. cc); few = omega (arith, few) }
@@ -49,7 +49,7 @@ leaves_rule : {A : Type 0} (old : Texts) (layer : Layer) (new : Texts) (entries 
 leaves_rule old layer new entries all added has =
     let adds = added.adds in
     let whole =
-    takes_all layer.mode all (fresh (Some (record { bytes = layer.bytes; fault = None })) V15)
+    takes_all layer.mode all (fresh (telling layer.bytes) V15)
     (record { bytes = layer.bytes; fault = None }) old adds.loaded added.answer entries
     (can_read old layer new added) has adds.loads added.not_refused in
     subst (λ es. Leaves (layer_result layer (values_of old) es) adds.loaded added.answer) (append-nil entries)
