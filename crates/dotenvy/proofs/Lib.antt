@@ -44,6 +44,7 @@ pub mod ItemRuns
 pub mod WholeLoads
 pub mod LineCounts
 pub mod LineItems
+pub mod FirstLines
 pub mod NextItems
 pub mod KeyLookUps
 pub mod LoadRuns

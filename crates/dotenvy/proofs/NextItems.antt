@@ -1,5 +1,5 @@
 -- The next item: the lines that add nothing are passed, and the first that adds one gives it.
-use Rattle.std.proofs.Common.{◌≡◌, ◌≢◌, ℕ, ◌+◌, ◌≤◌, true, false, List, [], ◌∷◌, ◌++◌, length, length-append, append_assoc, Option, Some, None, Result, Ok, Err, ◌⊎◌, inl, inr, refl, sym, ◌∙◌, ap, subst, arith, string_bytes}
+use Rattle.std.proofs.Common.{◌≡◌, ◌≢◌, ℕ, ◌+◌, ◌≤◌, true, false, List, [], ◌∷◌, ◌++◌, length, drop, length-append, append_assoc, Option, Some, None, Result, Ok, Err, ◌⊎◌, inl, inr, refl, sym, ◌∙◌, ap, subst, arith, string_bytes}
 use Rattle.std.specs.Str.{chars}
 use Rattle.std.specs.declared.string.String.{String}
 use Rattle.std.specs.declared.io.ErrorKind.{ErrorKind}
@@ -11,10 +11,10 @@ use Rattle.dotenvy.specs.declared.dialect.Dialect.{Dialect}
 use Rattle.dotenvy.specs.declared.errors.Error.{Error}
 use Rattle.dotenvy.specs.declared.errors.Error.TheVariants.{LineParse, Io, EnvVar, Nul, Memory}
 use Rattle.dotenvy.specs.declared.lines.Stage.TheVariants.{Open, Ended, Failed}
-use Rattle.dotenvy.specs.LogicalLine.{Logical, Skip, Text, Open as OpenEnd, Broken}
+use Rattle.dotenvy.specs.LogicalLine.{Logical, Skip, Text, Open as OpenEnd, Broken, IsNext}
 use Rattle.dotenvy.specs.Line.{Outcome, Nothing, Says}
-use Rattle.dotenvy.specs.Entries.{Entry, Fails, LineParse as FailsLine, Io as FailsIo, outcome_entries, Gives}
-use Rattle.dotenvy.specs.PhysicalLines.{line_texts}
+use Rattle.dotenvy.specs.Entries.{Entry, Fails, LineParse as FailsLine, Io as FailsIo, outcome_entries, Gives, GiveAll}
+use Rattle.dotenvy.specs.PhysicalLines.{physical_lines, line_texts}
 use Rattle.dotenvy.specs.Decided.{HasDecided}
 use Rattle.dotenvy.specs.Environment.{Texts}
 use Rattle.dotenvy.specs.Source.{Ahead}
@@ -23,17 +23,23 @@ use Rattle.dotenvy.specs.Lines.{LinesState, whole_lines, lines_so_far, IsOpen, I
 use Rattle.dotenvy.specs.Reading.{HasLeft}
 use Rattle.dotenvy.specs.Names.{recalled_of}
 use Rattle.dotenvy.specs.Iter.{IterState}
-use Rattle.dotenvy.specs.NextItem.{text_of, DecideFirst, ItemIs}
+use Rattle.dotenvy.specs.NextItem.{text_of, DecideFirst, UsesLines, ItemIs}
 use Rattle.dotenvy.specs.LineItem.{lines_after, AddsEntries, IsRefused, AddsLine}
 use Rattle.dotenvy.proofs.Inputs.{ahead_of, fits_more, final_before}
 use Rattle.dotenvy.proofs.LineEntries.{left_once, left_exists, left-none, left-next, decided-next, decided-none}
 use Rattle.dotenvy.proofs.Outcomes.{one_outcome}
+use Rattle.dotenvy.proofs.FirstLines.{first_lines_more, give_more}
+use Rattle.std.proofs.lemmas.List.{drop-drop}
 
 -- from s, where these entries are left, lines that add nothing were passed
 pub record Passed (a : Ahead) (s : IterState) (entries : List Entry) (t : IterState) : Type 0 where
   pub used : List ℕ
   pub left : List ℕ
   pub joins : a.bytes ≡ used ++ left
+  pub silent : List Logical
+  pub give_none : GiveAll s.dialect silent []
+  pub uses : UsesLines a silent left
+  pub later : whole_lines (record { bytes = left; fault = a.fault }) ≡ drop uses.count (whole_lines a)
   pub stays : IsAtEnd a.fault left t.lines.input ⊎ DecideFirst s.dialect used []
   pub is_left : t.lines.input.left ≡ Some (record { bytes = left; fault = a.fault })
   pub has_left : HasLeft s.dialect a.fault left entries
@@ -41,6 +47,27 @@ pub record Passed (a : Ahead) (s : IterState) (entries : List Entry) (t : IterSt
   pub reads : ReadsFit a s.lines.input (record { bytes = left; fault = a.fault }) t.lines.input
   pub remembered : t.remembered ≡ s.remembered
   pub dialect : t.dialect ≡ s.dialect
+
+-- no line was passed yet
+pub passed_none : (a : Ahead) (s : IterState) (entries : List Entry) →
+    s.lines.stage ≡ Open → IsTold s.lines.input.left a →
+    HasLeft s.dialect a.fault a.bytes entries → Passed a s entries s
+passed_none a s entries is_open told has = record {
+  used = [];
+  left = a.bytes;
+  joins = refl;
+  silent = [];
+  give_none = refl;
+  uses = record { count = 0; are_first = refl; rest = refl };
+  later = refl;
+  stays = inr (λ more decided is. is);
+  is_left = told.0;
+  has_left = has;
+  goes_on = inl is_open;
+  reads = omega arith;
+  remembered = refl;
+  dialect = refl;
+}
 
 some_left : (a b : Ahead) (o : Option Ahead) → o ≡ Some a → o ≡ Some b → a ≡ b
 some_left a b o h k = cc
@@ -91,6 +118,24 @@ taken_stays a s t entries front next m p k gives = elim k.stays [ inl ended ↦ 
 taken_joins : (a : Ahead) (s t : IterState) (entries : List Entry) (next : Logical) (m : InputState) → (p : Passed a s entries t) → (k : TakesNext (record { bytes = p.left; fault = a.fault }) t.lines.input next m) → a.bytes ≡ (p.used ++ k.used) ++ k.left
 taken_joins a s t entries next m p k = p.joins ∙ ap (λ bytes. p.used ++ bytes) k.joins ∙ sym (append_assoc p.used k.used k.left)
 
+-- one more logical line was used
+abbrev used_more : (a : Ahead) (s t : IterState) (entries : List Entry) (next : Logical) (m : InputState) →
+    (p : Passed a s entries t) → (k : TakesNext (record { bytes = p.left; fault = a.fault }) t.lines.input next m) →
+    UsesLines a (p.silent ++ next ∷ []) k.left
+used_more a s t entries next m p k = record {
+  count = p.uses.count + k.count;
+  are_first = first_lines_more (whole_lines a) p.uses.count p.silent k.count next p.uses.are_first
+      (subst (λ lines. IsNext lines k.count next) p.later k.is_next);
+  rest = k.rest ∙ ap (drop k.count) p.uses.rest ∙ drop-drop k.count p.uses.count (physical_lines a.bytes);
+}
+
+-- and the whole lines behind it are left
+later_more : (a : Ahead) (s t : IterState) (entries : List Entry) (next : Logical) (m : InputState) →
+    (p : Passed a s entries t) → (k : TakesNext (record { bytes = p.left; fault = a.fault }) t.lines.input next m) →
+    whole_lines (record { bytes = k.left; fault = a.fault }) ≡ drop (p.uses.count + k.count) (whole_lines a)
+later_more a s t entries next m p k =
+    k.later ∙ ap (drop k.count) p.later ∙ drop-drop k.count p.uses.count (whole_lines a)
+
 -- a line whose own entries are these was taken
 added : {A : Type 0} (names : Texts) (a : Ahead) (s t v : IterState) (m : LinesState) (entries front : List Entry) (next : Logical) (item : Option (Result (String A × String A) (Error A))) → (p : Passed a s entries t) → TakesNext (record { bytes = p.left; fault = a.fault }) t.lines.input next m.input → GoesOn m → Gives s.dialect next front → AddsEntries names s.remembered front item v.remembered → v.lines ≡ m → v.dialect ≡ s.dialect → LeadsTo names a s entries item v
 added names a s t v m entries [] next None p k goes_on gives adds lines dialect =
@@ -98,6 +143,10 @@ added names a s t v m entries [] next None p k goes_on gives adds lines dialect 
       used = p.used ++ k.used;
       left = k.left;
       joins = taken_joins a s t entries next m.input p k;
+      silent = p.silent ++ next ∷ [];
+      give_none = give_more s.dialect p.silent next [] [] p.give_none gives;
+      uses = used_more a s t entries next m.input p k;
+      later = later_more a s t entries next m.input p k;
       stays = subst (λ n. IsAtEnd a.fault k.left n.input ⊎ DecideFirst s.dialect (p.used ++ k.used) []) (sym lines) (taken_stays a s t entries [] next m.input p k gives);
       is_left = ap (λ n. n.input.left) lines ∙ k.is_left;
       has_left = subst (HasLeft s.dialect a.fault k.left) (sym l.2) l.1;
@@ -119,6 +168,13 @@ added names a s t v m entries (entry ∷ later) next (Some item) p k goes_on giv
         used = p.used ++ k.used;
         left = k.left;
         joins = taken_joins a s t entries next m.input p k;
+        reaches = record {
+          silent = p.silent;
+          last = next;
+          give_none = p.give_none;
+          gives = subst (λ es. Gives s.dialect next (entry ∷ es)) one gives;
+          uses = used_more a s t entries next m.input p k;
+        };
         stays = subst (λ n. IsAtEnd a.fault k.left n.input ⊎ DecideFirst s.dialect (p.used ++ k.used) (entry ∷ [])) (sym lines) (subst (λ es. IsAtEnd a.fault k.left m.input ⊎ DecideFirst s.dialect (p.used ++ k.used) (entry ∷ es)) one (taken_stays a s t entries (entry ∷ later) next m.input p k gives));
         is_left = ap (λ n. n.input.left) lines ∙ k.is_left;
         has_left = l.1;

@@ -1,12 +1,14 @@
 -- What the next item is, and what it leaves.
-use Rattle.std.specs.Prelude.{ℕ, ◌≡◌, ◌⊎◌, List, [], ◌∷◌, ◌++◌, Option, Some, None, Result, Ok, Err, IfSome, IfOk, IsTrue, unwrap_or, string_bytes}
+use Rattle.std.specs.Prelude.{ℕ, ◌≡◌, ◌⊎◌, List, [], ◌∷◌, ◌++◌, Option, Some, None, Result, Ok, Err, IfSome, IfOk, IsTrue, drop, unwrap_or, string_bytes}
 use Rattle.std.specs.Str.{chars}
 use Rattle.std.specs.IoError.{error_kind}
 use Rattle.std.specs.declared.string.String.{String}
 use Rattle.dotenvy.specs.declared.errors.Error.{Error}
 use Rattle.dotenvy.specs.declared.lines.Stage.TheVariants.{Open, Ended}
 use Rattle.dotenvy.specs.Errors.{IsMemory, IsNulOf, IsIoOf, IsLineParseOf}
-use Rattle.dotenvy.specs.Entries.{Failure, LineParse, Io, Nul, Memory, Entry, Declares, Fails}
+use Rattle.dotenvy.specs.PhysicalLines.{physical_lines}
+use Rattle.dotenvy.specs.LogicalLine.{Logical}
+use Rattle.dotenvy.specs.Entries.{Failure, LineParse, Io, Nul, Memory, Entry, Declares, Fails, AreFirstLines, Gives, GiveAll}
 use Rattle.dotenvy.specs.declared.dialect.Dialect.{Dialect}
 use Rattle.dotenvy.specs.Decided.{HasDecided}
 use Rattle.dotenvy.specs.Items.{LookUp, meaning, with_value}
@@ -14,7 +16,7 @@ use Rattle.dotenvy.specs.Environment.{Texts, name_ok}
 use Rattle.dotenvy.specs.Names.{recalled_of, names_of}
 use Rattle.dotenvy.specs.Source.{Ahead}
 use Rattle.dotenvy.specs.Input.{IsTold, ReadsFit}
-use Rattle.dotenvy.specs.Lines.{IsAtEnd, GoesOn, FailsFor}
+use Rattle.dotenvy.specs.Lines.{whole_lines, IsAtEnd, GoesOn, FailsFor}
 use Rattle.dotenvy.specs.Reading.{HasLeft}
 use Rattle.dotenvy.specs.Iter.{IterState}
 
@@ -45,6 +47,20 @@ RemembersEntry look_up old new (Fails failure) = (name : List ℕ) → text_of n
 abbrev pub DecideFirst : Dialect → List ℕ → List Entry → Type 0
 DecideFirst dialect bytes entries = (more : List ℕ) (decided : List Entry) → HasDecided dialect more decided → HasDecided dialect (bytes ++ more) (entries ++ decided)
 
+-- of what is told these logical lines were used, and no more; this is left
+pub record UsesLines (a : Ahead) (lines : List Logical) (left : List ℕ) : Type 0 where
+  pub count : ℕ
+  pub are_first : AreFirstLines (whole_lines a) count lines
+  pub rest : physical_lines left ≡ drop count (physical_lines a.bytes)
+
+-- lines that give no entry were used, then the one that gives this entry, and nothing behind it
+pub record UsesUpTo (dialect : Dialect) (a : Ahead) (entry : Entry) (left : List ℕ) : Type 0 where
+  pub silent : List Logical
+  pub last : Logical
+  pub give_none : GiveAll dialect silent []
+  pub gives : Gives dialect last (entry ∷ [])
+  pub uses : UsesLines a (silent ++ last ∷ []) left
+
 -- of these entries, which are those of what s has left, the first was taken, and t has the later ones left; unless the end was read, the bytes that were used decide it whatever follows
 pub record TakesEntry (names : Texts) (a : Ahead) (s : IterState) (entries : List Entry) (entry : Entry) (t : IterState) : Type 0 where
   pub later : List Entry
@@ -52,6 +68,7 @@ pub record TakesEntry (names : Texts) (a : Ahead) (s : IterState) (entries : Lis
   pub used : List ℕ
   pub left : List ℕ
   pub joins : a.bytes ≡ used ++ left
+  pub reaches : UsesUpTo s.dialect a entry left
   pub stays : IsAtEnd a.fault left t.lines.input ⊎ DecideFirst s.dialect used (entry ∷ [])
   pub is_left : t.lines.input.left ≡ Some (record { bytes = left; fault = a.fault })
   pub has_left : HasLeft s.dialect a.fault left later

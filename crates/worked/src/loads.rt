@@ -1,7 +1,7 @@
 //! What loads set, where they stop, and what they leave.
 
 use crate::reader::PlayedReader;
-use crate::shown::{environment, item, items_of, loads, pairs};
+use crate::shown::{answer, environment, item, items_of, loads, pairs};
 use dotenvy::{Bytes, Dialect, Environment, Iter, Plain};
 use std::fs;
 use std::fs::File;
@@ -129,13 +129,21 @@ fn a_nul_in_a_value(rt: HostRuntime) -> Result<(), Fail> {
 #[test]
 fn loads_of_what_is_left(rt: HostRuntime) -> Result<(), Fail> {
     let alloc = rt.alloc();
-    for (input, want) in [("A=1\nC=$A\n", "C=1"), ("A=1\n\u{feff}B=2\n", "B=2")] {
+    let rows = [
+        ("A=1\nC=$A\n", "ok: C=1"),
+        ("A=1\n\u{feff}B=2\n", "ok: B=2"),
+        // What stands before the mark was not used with the item.
+        ("A=1\n# c\n\u{feff}B=2\n", "fault at 0: \u{feff}B=2: "),
+        ("A=1\n\n\u{feff}B=2\n", "fault at 0: \u{feff}B=2: "),
+    ];
+    for (input, want) in rows {
         let mut entries = Iter::new(alloc, PlayedReader::interrupted(alloc, input.as_bytes())?)?;
         let mut environment = Environment::new(alloc);
         let (key, value) = entries.next_item(&environment).ok_or("no item")??;
         assert!(rt; (key.as_str(), value.as_str()) == ("A", "1"));
-        entries.load(&mut environment)?;
-        assert_eq!(rt; pairs(alloc, &environment)?.as_str(), want, "at {input:?}");
+        let answer = answer(alloc, entries.load(&mut environment))?;
+        let left = format!(in alloc; "{answer}: {}", pairs(alloc, &environment)?)?;
+        assert_eq!(rt; left.as_str(), want, "at {input:?}");
     }
     Ok(())
 }

@@ -4,9 +4,16 @@ use Rattle.dotenvy.specs.Source.{Ahead}
 use Rattle.dotenvy.specs.Lines.{LinesState}
 use Rattle.dotenvy.specs.Remembered.{remembered_of}
 use Rattle.dotenvy.specs.Iter.{IterState}
-use Rattle.dotenvy.proofs.NextItems.{Passed, passed_all, next_leads, leads_item, leads_on}
+use Rattle.dotenvy.proofs.NextItems.{Passed, passed_none, passed_all, next_leads, leads_item, leads_on}
 use Rattle.dotenvy.proofs.Keys.{names_of_keys}
 use Rattle.dotenvy.proofs.iter.Iter.next_item.Goals as goal
+
+pub lines-init : goal.lines-init
+lines-init g c = record {
+  falls = search rules;
+  shut = λ shut. refl;
+  passed = λ is_open a told entries has. passed_none a c.args.self.now entries is_open told has;
+}
 
 pub returns-then-is_some-clause-next : goal.returns-then-is_some-clause-next
 returns-then-is_some-clause-next g c = (
