@@ -28,6 +28,9 @@ pub mod Paths
 pub mod Searching
 pub mod WorkedSearches
 pub mod TextMaps
+pub mod EnvironmentTexts
+pub mod GoodPairs
+pub mod SameEnvironments
 pub mod Keys
 pub mod RememberedMaps
 pub mod Slices

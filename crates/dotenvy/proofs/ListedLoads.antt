@@ -1,18 +1,15 @@
 -- What a listing answers, from what its load left.
-use Rattle.std.proofs.Common.{◌≡◌, ℕ, Bool, true, false, cond, List, [], ◌∷◌, refl, sym, ◌∙◌, ap, subst, inl, inr}
-use Rattle.std.specs.Prelude.{Option, Some, None, option_map, Result, Ok, Err, IfErr, string_bytes}
+use Rattle.std.proofs.Common.{◌≡◌, ℕ, Bool, true, false, List, [], ◌∷◌, refl, sym, ◌∙◌, ap, subst, inl, inr}
+use Rattle.std.specs.Prelude.{Option, Some, None, option_map, Result, Ok, Err, IfErr}
 use Rattle.std.specs.Result.{IsErrAnd}
 use Rattle.std.specs.Str.{chars, encode_utf8_all, IsUtf8}
 use Rattle.std.specs.FinMap as fin
-use Rattle.std.specs.FinMap.Entries.{find}
-use Rattle.std.specs.Ordering.{is_eq, nat_cmp}
+use Rattle.std.specs.Ordering.{nat_cmp}
 use Rattle.std.specs.Cmp.Lexicographic.{slice_cmp}
-use Rattle.std.specs.declared.string.String.{String}
 use Rattle.std.proofs.lemmas.List.{append-nil}
-use Rattle.std.proofs.lemmas.Option.{none-some}
 use Rattle.std.specs.Option.{option_flatten}
 use Rattle.std.proofs.lemmas.Bool.{true≢false}
-use Rattle.std.proofs.lemmas.Str.{encodes-chars, encodes_same, IsUtf8-string_bytes}
+use Rattle.std.proofs.lemmas.Str.{encodes-chars, encodes_same}
 use Rattle.std.specs.declared.io.ErrorKind.{ErrorKind}
 use Rattle.dotenvy.specs.declared.dialect.Dialect.{Dialect}
 use Rattle.dotenvy.specs.declared.errors.Error.{Error}
@@ -20,7 +17,7 @@ use Rattle.dotenvy.specs.Statement.{is_key}
 use Rattle.dotenvy.specs.Errors.{IsMemory}
 use Rattle.dotenvy.specs.Entries.{Failure, Memory, Entry, Fails}
 use Rattle.dotenvy.specs.Items.{LookUp, no_values}
-use Rattle.dotenvy.specs.Environment.{Texts, text_entries}
+use Rattle.dotenvy.specs.Environment.{Texts}
 use Rattle.dotenvy.specs.Names.{values_of, recalled_of}
 use Rattle.dotenvy.specs.Source.{Ahead}
 use Rattle.dotenvy.specs.declared.lines.Stage.TheVariants.{Open}
@@ -28,10 +25,10 @@ use Rattle.dotenvy.specs.Iter.{IterState, fresh}
 use Rattle.dotenvy.specs.Loads.{load_result}
 use Rattle.dotenvy.specs.LoadsLeft.{IsAnswer, Leaves, Rule, LoadsLeft, ChangesKeys}
 use Rattle.dotenvy.specs.Written.{written_bytes}
-use Rattle.dotenvy.proofs.Basics.{some_same}
 use Rattle.dotenvy.proofs.Keys.{encodes-key}
 use Rattle.dotenvy.specs.Sent.{Appended, Sends, IsFaultOfWriting, Writes}
-use Rattle.dotenvy.specs.Listed.{AreTexts, HoldsLoaded, pairs_of, ListsLoaded, Lists, ListsSome}
+use Rattle.dotenvy.specs.Environment.{AreTexts}
+use Rattle.dotenvy.specs.Listed.{HoldsLoaded, pairs_of, ListsLoaded, Lists, ListsSome}
 
 -- nothing of some bytes was appended
 pub none_appended : (held : Option (List ℕ)) (bytes : List ℕ) → Appended held held bytes bytes
@@ -121,15 +118,3 @@ loaded_lists {A = A} dialect ahead held last_fault old new names answer loads ke
 -- a load by an iterator that is fresh, into an environment that is empty
 pub fresh_load : {A : Type 0} (rule : Rule) (ahead : Option Ahead) (dialect : Dialect) (s : IterState) (old new : Texts) (answer : Result (Unit {0}) (Error A)) → s ≡ fresh ahead dialect → old ≡ fin.empty → (s.lines.stage ≡ Open → LoadsLeft rule s old answer new) → LoadsLeft rule (fresh ahead dialect) fin.empty answer new
 fresh_load rule ahead dialect s old new answer same empty loads = subst (λ names. LoadsLeft rule (fresh ahead dialect) names answer new) empty (subst (λ t. t.lines.stage ≡ Open → LoadsLeft rule t old answer new) same loads refl)
-
-found_text : {A : Type 0} (q text : List ℕ) (es : List (String A × String A)) → find (slice_cmp nat_cmp) q (text_entries es) ≡ Some text → IsUtf8 text
-found_text q text [] h = absurd (none-some text h)
-found_text q text (e ∷ es) h = at (is_eq (slice_cmp nat_cmp q (string_bytes e.0))) h (found_text q text es)
-  where
-    at : (b : Bool) → cond b (Some (string_bytes e.1)) (find (slice_cmp nat_cmp) q (text_entries es)) ≡ Some text → (find (slice_cmp nat_cmp) q (text_entries es) ≡ Some text → IsUtf8 text) → IsUtf8 text
-    at true k others = subst IsUtf8 (some_same (string_bytes e.1) text k) (IsUtf8-string_bytes e.1)
-    at false k others = others k
-
--- the values of a map of strings are texts
-pub listed_texts : {A : Type 0} (es : List (String A × String A)) (names : Texts) → text_entries es ≡ fin.entries names → AreTexts names
-listed_texts es names h name text found = found_text name text es (ap (find (slice_cmp nat_cmp) name) h ∙ sym (fin.get-entries names name) ∙ found)

@@ -1,6 +1,6 @@
 -- What a listing of a file writes and answers.
-use Rattle.std.specs.Prelude.{ℕ, ◌≡◌, ◌⊎◌, List, map, Option, Some, option_map, Result, Ok, Err, IfErr}
-use Rattle.std.specs.Str.{chars, encode_utf8_all, IsUtf8}
+use Rattle.std.specs.Prelude.{ℕ, ◌≡◌, ◌⊎◌, List, map, Option, option_map, Result, Ok, Err, IfErr}
+use Rattle.std.specs.Str.{chars, encode_utf8_all}
 use Rattle.std.specs.FinMap as fin
 use Rattle.std.specs.declared.io.ErrorKind.{ErrorKind}
 use Rattle.dotenvy.specs.declared.dialect.Dialect.{Dialect}
@@ -21,10 +21,6 @@ use Rattle.dotenvy.specs.LoadsLeft.{IsAnswer}
 -- the map holds the values of this look-up, by their bytes, and no others; its names are keys, whose bytes are their characters
 abbrev pub HoldsLoaded : Texts → LookUp → Type 0
 HoldsLoaded names look = (name : List ℕ) → fin.get names name ≡ option_map encode_utf8_all (look name)
-
--- each value is a text
-abbrev pub AreTexts : Texts → Type 0
-AreTexts names = (name text : List ℕ) → fin.get names name ≡ Some text → IsUtf8 text
 
 -- the pairs of a map by their characters, in byte order of the names
 abbrev pub pairs_of : Texts → List (List ℕ × List ℕ)

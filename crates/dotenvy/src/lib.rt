@@ -23,7 +23,7 @@ mod value;
 mod written;
 
 pub use dialect::Dialect;
-pub use environment::{Environment, is_key, is_name};
+pub use environment::{Environment, Pairs, Vars, is_key, is_name};
 pub use errors::{Error, Result, VarError};
 pub use files::{
     dotenv, dotenv_iter, dotenv_override, from_filename, from_filename_iter,

@@ -6,7 +6,8 @@ ghost use Rattle.dotenvy.specs.Characters.{begins_with, hash};
 ghost use Rattle.dotenvy.specs.Tokens.{stands_for_itself};
 ghost use Rattle.dotenvy.specs.LogicalLine.{without_carriage_return};
 ghost use Rattle.dotenvy.specs.LineModes.{leads_outside, leads, kept};
-ghost use Rattle.dotenvy.specs.Errors.{IsMemory, IsMemoryErr};
+ghost use Rattle.std.specs.IoError.{error_kind};
+ghost use Rattle.dotenvy.specs.Errors.{IsIoOf, IsMemory, IsMemoryErr};
 ghost use Rattle.dotenvy.specs.Input.{IsTold, DropsMark};
 ghost use Rattle.dotenvy.specs.Lines.{fuel_of, NextIs};
 ghost use Rattle.dotenvy.specs.JoinedLines.{WalksLine, joined_at_end, JoinsNext, UsesSome, stage_after, Answers};
@@ -262,6 +263,12 @@ fn stage_after<A: Allocator>(joined: &Joined<A>, is_used_up: bool) -> Stage
     }
 }
 
+fn broken_line<A: Allocator>() -> Error<A>
+    ensures { IsIoOf (λ e. error_kind e ≡ ErrorKind.InvalidData) result }
+{
+    Error::Io(io::Error::new(ErrorKind::InvalidData, "the line is not UTF-8"))
+}
+
 fn answer<A: Allocator>(joined: Joined<A>) -> Option<Result<String<A>, A>>
     ensures { Answers joined result }
 {
@@ -272,7 +279,7 @@ fn answer<A: Allocator>(joined: Joined<A>) -> Option<Result<String<A>, A>>
             let len = text.len();
             Some(Err(Error::LineParse(text, len)))
         }
-        Joined::BrokenLine => Some(Err(Error::Io(io::Error::from(ErrorKind::InvalidData)))),
+        Joined::BrokenLine => Some(Err(broken_line())),
     }
 }
 

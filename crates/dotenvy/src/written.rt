@@ -8,7 +8,8 @@ ghost use Rattle.dotenvy.specs.Names.{saturated};
 ghost use Rattle.dotenvy.specs.Errors.{IsIoOf};
 ghost use Rattle.dotenvy.specs.Written.{needs_backslash, written_character, written_text, written_bytes};
 ghost use Rattle.dotenvy.specs.Sent.{Sends, IsWriteFault, Writes};
-ghost use Rattle.dotenvy.specs.Listed.{AreTexts, pairs_of, Lists, ListsSome};
+ghost use Rattle.dotenvy.specs.Environment.{AreTexts};
+ghost use Rattle.dotenvy.specs.Listed.{pairs_of, Lists, ListsSome};
 
 use crate::dialect::Dialect;
 use crate::environment::Environment;

@@ -1,7 +1,8 @@
 //! Environments and their names.
 
+use crate::runtime::PlayedRuntime;
 use crate::shown::{answer, environment, pairs};
-use dotenvy::{Environment, is_key, is_name};
+use dotenvy::{Dialect, Environment, is_key, is_name, vars};
 use std::test::Fail;
 
 #[test]
@@ -38,6 +39,42 @@ fn names_are_set_and_replaced(rt: HostRuntime) -> Result<(), Fail> {
         assert_eq!(rt; pairs(alloc, &environment)?.as_str(), names, "at {value:?}");
     }
     assert!(rt; environment.len() == 1 && environment.contains("A"));
+    Ok(())
+}
+
+#[test]
+fn equal_environments(rt: HostRuntime) -> Result<(), Fail> {
+    let alloc = rt.alloc();
+    let one = environment(alloc, &[("A", "1"), ("B", "")])?;
+    assert!(rt; one == one.try_clone()? && one == environment(alloc, &[("B", ""), ("A", "1")])?);
+    let others: [&[(&str, &str)]; 4] = [
+        &[],
+        &[("A", "1")],
+        &[("A", "1"), ("B", "1")],
+        &[("A", "1"), ("C", "")],
+    ];
+    for other in others {
+        assert!(rt; one != environment(alloc, other)?, "at {other:?}");
+    }
+    let mut marked = one.try_clone()?;
+    let _ = vars(&PlayedRuntime::new(rt, "/nowhere"), &mut marked)?;
+    assert!(rt; marked.loaded() && marked != one);
+    assert!(rt; Environment::new(alloc).is_empty() && !one.is_empty());
+    Ok(())
+}
+
+#[test]
+fn values_are_not_shown(rt: HostRuntime) -> Result<(), Fail> {
+    let alloc = rt.alloc();
+    let environment = environment(alloc, &[("TOKEN", "secret"), ("A", "")])?;
+    let shown = format!(in alloc; "{environment:?}")?;
+    assert_eq!(rt;
+        shown.as_str(),
+        "Environment { names: {\"A\", \"TOKEN\"}, loaded: false }"
+    );
+    let shown = format!(in alloc; "{:?} {:?}", Dialect::V15, Dialect::Next)?;
+    assert_eq!(rt; shown.as_str(), "V15 Next");
+    assert!(rt; Dialect::V15 != Dialect::Next);
     Ok(())
 }
 

@@ -1,6 +1,7 @@
 //! Tests of worked examples, as tables: what each file, line or call gives. Tests alone.
 #![tactic(auto)]
 
+mod callers;
 #[cfg(test)]
 mod calls;
 #[cfg(test)]

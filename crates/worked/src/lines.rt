@@ -1,7 +1,7 @@
 //! Which bytes make a logical line.
 
 use crate::shown::{items, items_under};
-use dotenvy::Dialect;
+use dotenvy::{Bytes, Dialect, Environment, from_read_iter};
 use std::test::Fail;
 
 #[test]
@@ -113,6 +113,13 @@ fn lines_that_are_no_text(rt: HostRuntime) -> Result<(), Fail> {
     }
     let cut = b"K=\xf0\x9f\x98";
     assert_eq!(rt; items(alloc, cut)?.as_str(), "io InvalidData");
+    let environment = Environment::new(alloc);
+    match from_read_iter(alloc, Bytes::new(cut))?.next_item(&environment) {
+        Some(Err(error)) => {
+            assert_eq!(rt; error.to_string(alloc)?.as_str(), "the line is not UTF-8");
+        }
+        _ => panic!(rt; "a broken line gives a pair"),
+    }
     Ok(())
 }
 

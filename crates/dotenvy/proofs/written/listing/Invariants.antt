@@ -3,7 +3,6 @@ use Rattle.std.specs.Prelude.{string_bytes}
 use Rattle.std.specs.String.{string_capacity}
 use Rattle.dotenvy.specs.Characters.{byte_len}
 use Rattle.dotenvy.specs.Written.{written_text, written_bytes}
-use Rattle.dotenvy.specs.Environment.{text_entries}
 use Rattle.dotenvy.specs.Listed.{pairs_of}
 use Rattle.dotenvy.proofs.WrittenBytes.{texts}
 use Rattle.dotenvy.proofs.written.listing.Given as goal
@@ -11,6 +10,6 @@ use Rattle.dotenvy.proofs.written.listing.Given as goal
 -- with the pairs that are left the listing is whole, and there is room for it
 abbrev pub invariant-pairs : goal.invariant-pairs
 invariant-pairs g l = record {
-  whole : string_bytes l.out ++ written_bytes (texts (text_entries l.key-iterator)) ≡ written_bytes (pairs_of l.env.names);
+  whole : string_bytes l.out ++ written_bytes (texts l.key-iterator) ≡ written_bytes (pairs_of l.env.names);
   capacity : byte_len (written_text (pairs_of l.env.names)) ≤ string_capacity l.out;
 }

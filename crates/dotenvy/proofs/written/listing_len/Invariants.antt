@@ -3,7 +3,6 @@ use Rattle.std.specs.Prelude.{◌^◌}
 use Rattle.dotenvy.specs.Characters.{byte_len}
 use Rattle.dotenvy.specs.Written.{written_text}
 use Rattle.dotenvy.specs.Names.{saturated}
-use Rattle.dotenvy.specs.Environment.{text_entries}
 use Rattle.dotenvy.specs.Listed.{pairs_of}
 use Rattle.dotenvy.proofs.WrittenBytes.{texts}
 use Rattle.dotenvy.proofs.written.listing_len.Given as goal
@@ -11,6 +10,7 @@ use Rattle.dotenvy.proofs.written.listing_len.Given as goal
 -- what was counted and what is left are the whole
 abbrev pub invariant-pairs : goal.invariant-pairs
 invariant-pairs g l = record {
-  whole : saturated (l.len + byte_len (written_text (texts (text_entries l.key-iterator)))) ≡ saturated (byte_len (written_text (pairs_of l.env.names)));
+  whole : saturated (l.len + byte_len (written_text (texts l.key-iterator))) ≡ saturated (byte_len (written_text
+      (pairs_of l.env.names)));
   fits : l.len ≤ 2 ^ 64 - 1;
 }

@@ -3,7 +3,6 @@ use Rattle.std.proofs.lemmas.Simd.{map-map}
 use Rattle.std.proofs.lemmas.Iterator.{YieldsList-from_slice}
 use Rattle.std.proofs.lemmas.Iterator.Adapters.{fact_from_extend}
 use Rattle.std.specs.Process.{command_args}
-use Rattle.dotenvy.specs.Environment.{text_entries}
 use Rattle.dotenvy_run.proofs.CommandNames.{SetsWithLeft, none_set, one_set}
 use Rattle.dotenvy_run.proofs.start.command_in.Goals as goal
 
@@ -16,7 +15,7 @@ names-init g c =
     ∙ ap (λ l. none ++ l) (sym (map-map string_bytes (λ y. y.now) xs) ∙ ap (map string_bytes) e)) in
     record {
       names =
-          rw (ap text_entries c.into_iter-name-iterator.ensures.into_iter_gives ∙ c.iter-name-items.ensures.pairs)
+          rw (c.into_iter-name-iterator.ensures.into_iter_gives ∙ c.iter-name-items.ensures.pairs)
           (none_set c.args.environment.now.names _
           (λ name. let none = c.in_ok-args.ensures.env.1 name ∙ c.in_ok-command.ensures.vars name in
           search rules));
@@ -32,7 +31,7 @@ names-preserved g c = record {
       let left = subst (λ es. SetsWithLeft c.args.environment.now.names es c.names.command)
       (search rules) c.names.invariant.names in
       one_set c.args.environment.now.names (string_bytes c.in-Some.name.now) (string_bytes c.in-Some.value.now)
-      (text_entries c.next.new.self) c.names.command _ left (search rules)
+      c.next.new.self c.names.command _ left (search rules)
       (λ name differs. let same = c.in_ok-env.ensures.others name differs in search rules);
   program = search rules;
   arguments = search rules;

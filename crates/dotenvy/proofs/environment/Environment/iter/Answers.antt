@@ -1,6 +1,23 @@
-use Rattle.std.proofs.Common.{rules}
+use Rattle.std.proofs.Common.{rules, sym}
+use Rattle.dotenvy.specs.Environment.{env_of}
 use Rattle.dotenvy.proofs.TextMaps.{entries-strings}
+use Rattle.dotenvy.proofs.EnvironmentTexts.{listed_texts}
+use Rattle.dotenvy.proofs.GoodPairs.{good_entries}
 use Rattle.dotenvy.proofs.environment.Environment.iter.Goals as goal
 
-pub returns : goal.returns
-returns g c = rw (← c.self.view_is, entries-strings _ c.iter.ensures.ordered, c.iter.ensures.rest) (search rules)
+pub invariant_of-result : goal.invariant_of-result
+invariant_of-result g c =
+    rw (c.iter-pairs.ensures.rest, ← entries-strings _ c.iter-pairs.ensures.ordered)
+    (good_entries (env_of c.self.inside.entries.entries c.self.inside.loaded) c.self.invariant)
+
+pub returns-clause-texts : goal.returns-clause-texts
+returns-clause-texts g c =
+    listed_texts c.self.inside.entries.entries c.args.self.now.names
+    (rw (← c.self.view_is) (sym (entries-strings _ c.iter-pairs.ensures.ordered)))
+
+pub returns-clause-pairs : goal.returns-clause-pairs
+returns-clause-pairs g c = rw (
+  ← c.self.view_is,
+  entries-strings _ c.iter-pairs.ensures.ordered,
+  c.iter-pairs.ensures.rest,
+) (search rules)

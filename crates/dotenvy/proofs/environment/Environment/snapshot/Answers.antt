@@ -1,8 +1,17 @@
-use Rattle.std.proofs.Common.{ap, ◌∙◌}
+use Rattle.std.proofs.Common.{ap, subst, sym, ◌∙◌}
 use Rattle.std.specs.FinMap.{entries}
-use Rattle.dotenvy.specs.Environment.{text_entries}
+use Rattle.dotenvy.specs.Environment.{text_entries, env_of, AreGood}
 use Rattle.dotenvy.proofs.TextMaps.{entries-clones}
+use Rattle.dotenvy.proofs.GoodPairs.{good_entries}
 use Rattle.dotenvy.proofs.environment.Environment.snapshot.Goals as goal
+
+pub invariant_of-result : goal.invariant_of-result
+invariant_of-result g c =
+    let cloned = ap text_entries c.into_iter.ensures.into_iter_gives.0
+    ∙ entries-clones c.self.inside.entries.entries c.in_ok-clone.field-0.entries c.into_iter.ensures.into_iter_gives.5
+    c.in_ok-clone.ensures.cases in
+    subst AreGood (sym cloned) (good_entries
+    (env_of c.self.inside.entries.entries c.self.inside.loaded) c.self.invariant)
 
 pub returns-clause-pairs : goal.returns-clause-pairs
 returns-clause-pairs g c =
