@@ -1,5 +1,5 @@
 -- The items that calls give one after another are those of the definition.
-use Rattle.std.proofs.Common.{◌≡◌, ℕ, ◌+◌, ◌<◌, List, [], ◌∷◌, ◌++◌, length, length-append, Some, None, Ok, Err, refl, sym, ◌∙◌, ap, subst, inl, inr, ⊎_elim, arith}
+use Rattle.std.proofs.Common.{◌≡◌, ℕ, ◌+◌, ◌<◌, List, [], ◌∷◌, ◌++◌, length, length-append, Option, Some, None, Ok, Err, refl, sym, ◌∙◌, ap, subst, inl, inr, ⊎_elim, arith}
 use Rattle.std.specs.Prelude.{unwrap_or, bytes_eq}
 use Rattle.std.specs.Option.{option_flatten}
 use Rattle.std.proofs.lemmas.Option.{none-some}
@@ -20,6 +20,7 @@ use Rattle.std.specs.IoError.{error_kind}
 use Rattle.dotenvy.specs.Decided.{HasDecided}
 use Rattle.dotenvy.specs.declared.lines.Stage.{Stage}
 use Rattle.dotenvy.specs.Errors.{IsMemory, IsMemoryErr}
+use Rattle.dotenvy.specs.Calls.{Call}
 use Rattle.dotenvy.specs.Source.{Ahead}
 use Rattle.dotenvy.specs.Input.{InputState, BoundIsMet, IsFinal, end_reads}
 use Rattle.dotenvy.specs.Lines.{LinesState, FailsFor}
@@ -118,24 +119,29 @@ items_go_on s a names entries (item ∷ given) can has (t, next, gives) granted 
     (next.0 can.is_open a can.is_told entries has)
 
 -- what a fresh iterator can read
-pub can_read_fresh : (dialect : Dialect) (a : Ahead) → IsReadable a → CanRead (fresh (Some a) dialect) a
-can_read_fresh dialect a can = let few = can.few in record { is_open = refl; is_told = (refl, can.not_interrupted); few = omega (arith, few) }
+pub can_read_fresh : (dialect : Dialect) (a : Ahead) (calls : Option (List Call)) → IsReadable a → CanRead (fresh (Some a) calls dialect) a
+can_read_fresh dialect a calls can = let few = can.few in record { is_open = refl; is_told = (refl, can.not_interrupted); few = omega (arith, few) }
 
 -- a fresh iterator remembers nothing
 recalled-empty : (n : List ℕ) → text_of (recalled_of empty) n ≡ text_of no_values n
 recalled-empty n = ap (λ o. unwrap_or (option_map chars (option_flatten o)) []) (get-empty (slice_cmp nat_cmp) (encode_utf8_all n))
 
 -- a fresh iterator gives the items of what its source tells
-pub items_in_order : {A : Type 0} (dialect : Dialect) (a : Ahead) (names : Texts) (entries : List Entry) (given : List (Given A)) → IsReadable a → HasLeft dialect a.fault a.bytes entries → GivesItems names (fresh (Some a) dialect) given → NoneRefused given → SayItems given (items (values_of names) (entries ++ told_fault a.fault))
-items_in_order dialect a names entries given can has gives granted =
+pub items_in_order : {A : Type 0} (dialect : Dialect) (a : Ahead) (calls : Option (List Call)) (names : Texts) (entries : List Entry)
+    (given : List (Given A)) → IsReadable a → HasLeft dialect a.fault a.bytes entries →
+    GivesItems names (fresh (Some a) calls dialect) given → NoneRefused given →
+    SayItems given (items (values_of names) (entries ++ told_fault a.fault))
+items_in_order dialect a calls names entries given can has gives granted =
     subst (SayItems given) (items_from-texts (values_of names) (recalled_of empty) no_values (entries ++ told_fault a.fault) recalled-empty)
-    (items_go_on (fresh (Some a) dialect) a names entries given (can_read_fresh dialect a can) has gives granted)
+    (items_go_on (fresh (Some a) calls dialect) a names entries given (can_read_fresh dialect a calls can) has gives granted)
 
 -- two runs over what a source tells give the same items
-pub give_the_same : {A : Type 0} (dialect : Dialect) (a : Ahead) (names : Texts) (given others : List (Given A)) → IsReadable a → GivesItems names (fresh (Some a) dialect) given → NoneRefused given → GivesItems names (fresh (Some a) dialect) others → NoneRefused others → SayTheSame given others
-give_the_same dialect a names given others can gives granted gives' granted' =
+pub give_the_same : {A : Type 0} (dialect : Dialect) (a : Ahead) (calls other_calls : Option (List Call)) (names : Texts)
+    (given others : List (Given A)) → IsReadable a → GivesItems names (fresh (Some a) calls dialect) given → NoneRefused given →
+    GivesItems names (fresh (Some a) other_calls dialect) others → NoneRefused others → SayTheSame given others
+give_the_same dialect a calls other_calls names given others can gives granted gives' granted' =
     let has = left_exists dialect a.fault a.bytes in (
       items (values_of names) (has.0 ++ told_fault a.fault),
-      items_in_order dialect a names has.0 given can has.1 gives granted,
-      items_in_order dialect a names has.0 others can has.1 gives' granted',
+      items_in_order dialect a calls names has.0 given can has.1 gives granted,
+      items_in_order dialect a other_calls names has.0 others can has.1 gives' granted',
     )

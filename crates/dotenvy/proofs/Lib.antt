@@ -38,6 +38,7 @@ pub mod StatementParts
 pub mod NextPiece
 pub mod Meanings
 pub mod Inputs
+pub mod AskedReads
 pub mod Nuls
 pub mod LineTexts
 pub mod LineJoins

@@ -30,7 +30,7 @@ use Rattle.dotenvy.specs.Names.{values_of, recalled_of, names_of}
 use Rattle.dotenvy.specs.Source.{Ahead}
 use Rattle.dotenvy.specs.Input.{InputState, IsTold, ReadsFit, BoundIsMet, IsFinal, begins_mark, DropsMark, end_reads}
 use Rattle.dotenvy.specs.Lines.{IsAtEnd, GoesOn}
-use Rattle.dotenvy.specs.Reading.{HasLeft, told_fault, StopsAtBound, IsReading}
+use Rattle.dotenvy.specs.Reading.{HasLeft, told_fault, certain_bytes, StopsAtBound, IsReading}
 use Rattle.dotenvy.specs.NextItem.{RemembersEntry, DecideFirst, TakesEntry, ItemIs, NextItem}
 use Rattle.dotenvy.specs.LoadsLeft.{IsAnswer, Leaves, Rule, LoadsLeft}
 use Rattle.dotenvy.specs.Iter.{IterState}
@@ -123,7 +123,7 @@ ends_memory l names recall e k is =
     (inr (inl (record { front = k.done; back = k.later; cut = k.split; ends = refl }))) refl is
 
 -- it ends at the bound on reads
-ends_bound : {A : Type 0} (l : Load) (names : Texts) (recall : Remembered) (x : IoError) (k : Done l names recall) → error_kind x ≡ Other → StopsAtBound l.dialect l.ahead l.start (k.done ++ Fails (Io Other) ∷ []) → Ends {A = A} l names (Err (error.Io x))
+ends_bound : {A : Type 0} (l : Load) (names : Texts) (recall : Remembered) (x : IoError) (k : Done l names recall) → error_kind x ≡ Other → StopsAtBound l.dialect l.ahead (certain_bytes l.start) (k.done ++ Fails (Io Other) ∷ []) → Ends {A = A} l names (Err (error.Io x))
 ends_bound l names recall x k is stops = ends_at l names recall (Err (error.Io x)) k (Fails (Io Other) ∷ []) (Err (Io Other)) (inr (inr stops)) refl is
 
 -- it ends at the fault that is told, after the last entry
@@ -134,7 +134,7 @@ ends_told l names recall x k told none =
 
 -- a final fault: refused memory, the fault that is told, or the bound
 ends_final : {A : Type 0} (l : Load) (b : Ahead) (t v : InputState) (P : List ℕ → Type 0) (names : Texts) (recall : Remembered) (e : Error A) (k : Done l names recall) → l.ahead.fault ≡ b.fault →
-    ((kind : ErrorKind) → l.ahead.fault ≡ Some kind → P b.bytes → k.later ≡ []) → (BoundIsMet b t P v → StopsAtBound l.dialect l.ahead l.start (k.done ++ Fails (Io Other) ∷ [])) → IsFinal b t P e v → Ends l names (Err e)
+    ((kind : ErrorKind) → l.ahead.fault ≡ Some kind → P b.bytes → k.later ≡ []) → (BoundIsMet b t P v → StopsAtBound l.dialect l.ahead (certain_bytes l.start) (k.done ++ Fails (Io Other) ∷ [])) → IsFinal b t P e v → Ends l names (Err e)
 ends_final l b t v P names recall e k same told stops (inl memory) = ends_memory l names recall e k memory
 ends_final l b t v P names recall (error.LineParse n i) k same told stops (inr io) = absurd io
 ends_final l b t v P names recall (error.Io x) k same told stops (inr (inl fault)) = ends_told l names recall x k (same ∙ fault.0) (told (error_kind x) (same ∙ fault.0) fault.1)
@@ -172,7 +172,7 @@ ends_none {A = A} l names t u k next =
         (left_once t.dialect l.ahead.fault k.left k.loaded.later [] k.has_left (left-none t.dialect l.ahead.fault k.left bytes fault), fault)
 
 -- the bound was met after what came
-bound_stops : (l : Load) (names : Texts) (t : IterState) (v : InputState) (k : Came l names t) → BoundIsMet (record { bytes = k.left; fault = l.ahead.fault }) t.lines.input (λ bytes. HasDecided t.dialect bytes []) v → StopsAtBound l.dialect l.ahead l.start (k.loaded.done ++ Fails (Io Other) ∷ [])
+bound_stops : (l : Load) (names : Texts) (t : IterState) (v : InputState) (k : Came l names t) → BoundIsMet (record { bytes = k.left; fault = l.ahead.fault }) t.lines.input (λ bytes. HasDecided t.dialect bytes []) v → StopsAtBound l.dialect l.ahead (certain_bytes l.start) (k.loaded.done ++ Fails (Io Other) ∷ [])
 bound_stops l names t v k met = record {
   bytes = k.used ++ met.front;
   later = met.later;

@@ -84,7 +84,7 @@ override_takes_all = loads_all override_result override_stops
 
 -- the same of a fresh iterator
 fresh_takes_all : {A : Type 0} (rule : Rule) (dialect : Dialect) (a : Ahead) (old new : Texts) (answer : Result (Unit {0}) (Error A)) (entries : List Entry) → LoadsAllLeft rule A → IsReadable a → HasLeft dialect a.fault (without_mark a.bytes) entries → LoadsFresh rule dialect a old answer new → Leaves (rule (values_of old) (recalled_of empty) (entries ++ told_fault a.fault)) new answer
-fresh_takes_all rule dialect a old new answer entries takes_all can has load = takes_all (fresh (Some a) dialect) a old new answer entries (can_read_fresh dialect a can) has load.loads load.not_refused
+fresh_takes_all rule dialect a old new answer entries takes_all can has load = takes_all (fresh (Some a) load.calls dialect) a old new answer entries (can_read_fresh dialect a load.calls can) has load.loads load.not_refused
 
 -- two loads of what a source tells agree
 load_the_same : {A : Type 0} (rule : Rule) → LoadsAllLeft rule A → LoadTheSame rule A

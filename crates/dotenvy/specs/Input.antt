@@ -1,12 +1,14 @@
 -- What an input has left, and what a read gives it.
-use Rattle.std.specs.Prelude.{ℕ, ◌≡◌, ◌≢◌, ◌+◌, ◌-◌, ◌*◌, ◌≤◌, ◌⊎◌, Bool, true, false, ◌&&◌, nat_eq, nat_lt, List, [], ◌++◌, length, drop, Option, Some, None, Result, Ok, Err, MatchBool, refl, if◌then◌else◌}
+use Rattle.std.specs.Prelude.{ℕ, ◌≡◌, ◌≢◌, ◌+◌, ◌-◌, ◌*◌, ◌≤◌, ◌⊎◌, Bool, true, false, ◌&&◌, nat_eq, nat_lt, List, [], ◌∷◌, ◌++◌, length, drop, Option, Some, None, Result, Ok, Err, MatchBool, refl, if◌then◌else◌}
 use Rattle.std.specs.List.{starts_with}
 use Rattle.std.specs.IoError.{error_kind}
 use Rattle.std.specs.declared.io.Error.{Error as IoError}
 use Rattle.std.specs.declared.io.ErrorKind.TheVariants.{Interrupted, Other}
-use Rattle.std.specs.Coded.{Coded, code_by, coded×, coded_ℕ, coded_bool, coded_option}
+use Rattle.std.specs.List.{AllByRecursion}
+use Rattle.std.specs.Coded.{Coded, code_by, coded×, coded_ℕ, coded_bool, coded_list, coded_option}
 use Rattle.dotenvy.specs.PhysicalLines.{no_line_feed, is_whole_line}
 use Rattle.dotenvy.specs.Marks.{byte_order_mark, without_mark}
+use Rattle.dotenvy.specs.Calls.{Call, call_code, MayGoOn, AllMayGoOn, OnlyLastEnds}
 use Rattle.dotenvy.specs.Source.{Ahead, ahead_code}
 use Rattle.dotenvy.specs.declared.errors.Error.{Error}
 use Rattle.dotenvy.specs.Errors.{IsMemory, IsIoOf}
@@ -17,16 +19,28 @@ left_of true ahead unread = Some (record { bytes = unread; fault = None })
 left_of false None unread = None
 left_of false (Some a) unread = Some (record { bytes = unread ++ a.bytes; fault = a.fault })
 
--- what is left to use; how many bytes of it were read already; how many reads may still be made; whether the end was read
+-- what is left to use; how many bytes of it were read already; how many reads may still be made; whether the end was read; the calls that the source tells
 pub record InputState : Type 0 where
   pub left : Option Ahead
   pub unread : ℕ
   pub reads : ℕ
   pub at_end : Bool
+  pub calls : Option (List Call)
 
 abbrev pub input_code : Coded InputState
 input_code =
-    code_by (Option Ahead × (ℕ × (ℕ × Bool))) (coded× (coded_option ahead_code) (coded× coded_ℕ (coded× coded_ℕ coded_bool))) (λ s. (s.left, (s.unread, (s.reads, s.at_end)))) (λ p. record { left = p.0; unread = p.1.0; reads = p.1.1.0; at_end = p.1.1.1 }) (λ _. refl)
+    code_by (Option Ahead × (ℕ × (ℕ × (Bool × Option (List Call)))))
+    (coded× (coded_option ahead_code) (coded× coded_ℕ (coded× coded_ℕ
+    (coded× coded_bool (coded_option (coded_list call_code))))))
+    (λ s. (s.left, (s.unread, (s.reads, (s.at_end, s.calls)))))
+    (λ p. record {
+      left = p.0;
+      unread = p.1.0;
+      reads = p.1.1.0;
+      at_end = p.1.1.1.0;
+      calls = p.1.1.1.1;
+    })
+    (λ _. refl)
 
 -- it is told what is left, and no interrupted read
 abbrev pub IsTold : Option Ahead → Ahead → Type 0
@@ -42,7 +56,7 @@ drop_left n None = None
 drop_left n (Some a) = Some (record { bytes = drop n a.bytes; fault = a.fault })
 
 abbrev pub used_up : ℕ → InputState → InputState
-used_up n s = record { left = drop_left n s.left; unread = s.unread - n; reads = s.reads; at_end = s.at_end }
+used_up n s = record s { left = drop_left n s.left; unread = s.unread - n }
 
 -- more than the calls that can still answer a line
 abbrev pub supply : InputState → ℕ
@@ -130,3 +144,24 @@ begins_mark bytes = nat_lt (length bytes) 3 && starts_with nat_eq byte_order_mar
 abbrev pub DropsMark : {A : Type 0} → Ahead → InputState → Result (Unit {0}) (Error A) → InputState → Type 0
 DropsMark a s (Ok _) t = (t.left ≡ Some (record { bytes = without_mark a.bytes; fault = a.fault })) × ReadsFit a s (record { bytes = without_mark a.bytes; fault = a.fault }) t
 DropsMark a s (Err e) t = IsFinal a s (λ bytes. begins_mark bytes ≡ true) e t
+
+-- the reads that were made on the way from s to t: each counts, also one that was interrupted; each asks for 8,192 bytes at most; none follows the end, or a fault that is no interruption
+pub record MakesReads (s t : InputState) (made : List Call) : Type 0 where
+  pub counted : length made + t.reads ≡ s.reads
+  pub small : AllByRecursion (λ call. call.len ≤ 8192) made
+  pub in_turn : OnlyLastEnds made
+  pub ended : s.at_end ≡ true → (made ≡ []) × (t.at_end ≡ true)
+
+-- where the source tells its calls, these were made; where reading goes on, and the end was not read, more may follow
+abbrev pub AsksReads : Type 0 → InputState → InputState → Type 0
+AsksReads goes_on s t =
+    (all : List Call) → t.calls ≡ Some all →
+    (calls made : List Call) × (s.calls ≡ Some calls) × (all ≡ calls ++ made) × MakesReads s t made
+    × (goes_on → t.at_end ≡ false → AllMayGoOn made)
+
+-- one read of the source, which answers whether it met the end
+abbrev pub AsksOnce : {A : Type 0} → Option (List Call) → Result Bool (Error A) → Option (List Call) → Type 0
+AsksOnce before answer after =
+    (all : List Call) → after ≡ Some all →
+    (calls : List Call) × (call : Call) × (before ≡ Some calls) × (all ≡ calls ++ call ∷ [])
+    × (call.len ≤ 8192) × (answer ≡ Ok false → MayGoOn call.answer)

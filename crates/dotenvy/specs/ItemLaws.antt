@@ -11,6 +11,7 @@ use Rattle.dotenvy.specs.Loads.{load_result, override_result}
 use Rattle.dotenvy.specs.Environment.{Texts}
 use Rattle.dotenvy.specs.Names.{values_of, recalled_of}
 use Rattle.dotenvy.specs.Marks.{without_mark}
+use Rattle.dotenvy.specs.Calls.{Call}
 use Rattle.dotenvy.specs.Source.{Ahead}
 use Rattle.dotenvy.specs.Reading.{HasLeft, told_fault}
 use Rattle.dotenvy.specs.Iter.{IterState, fresh}
@@ -20,8 +21,9 @@ use Rattle.dotenvy.specs.ItemRuns.{Given, GivesItems, NoneRefused, IsReadable, C
 -- a fresh iterator gives the items of what its source tells, and the fault that is told, if one is, as the last
 abbrev pub ItemsInOrder : Type 0 → Type 0
 ItemsInOrder A =
-    (dialect : Dialect) (a : Ahead) (names : Texts) (entries : List Entry) (given : List (Given A)) → IsReadable a → HasLeft dialect a.fault a.bytes entries →
-    GivesItems names (fresh (Some a) dialect) given → NoneRefused given → SayItems given (items (values_of names) (entries ++ told_fault a.fault))
+    (dialect : Dialect) (a : Ahead) (calls : Option (List Call)) (names : Texts) (entries : List Entry) (given : List (Given A)) →
+    IsReadable a → HasLeft dialect a.fault a.bytes entries →
+    GivesItems names (fresh (Some a) calls dialect) given → NoneRefused given → SayItems given (items (values_of names) (entries ++ told_fault a.fault))
 
 -- an iterator that was used gives the items of what is left, where a name may also mean what is remembered
 abbrev pub ItemsGoOn : Type 0 → Type 0
@@ -32,12 +34,14 @@ ItemsGoOn A =
 -- two fresh iterators over what a source tells give the same items
 abbrev pub GiveTheSame : Type 0 → Type 0
 GiveTheSame A =
-    (dialect : Dialect) (a : Ahead) (names : Texts) (given others : List (Given A)) → IsReadable a →
-    GivesItems names (fresh (Some a) dialect) given → NoneRefused given → GivesItems names (fresh (Some a) dialect) others → NoneRefused others → SayTheSame given others
+    (dialect : Dialect) (a : Ahead) (calls other_calls : Option (List Call)) (names : Texts) (given others : List (Given A)) →
+    IsReadable a → GivesItems names (fresh (Some a) calls dialect) given → NoneRefused given →
+    GivesItems names (fresh (Some a) other_calls dialect) others → NoneRefused others → SayTheSame given others
 
 -- a load by this rule of what a source tells, by a fresh iterator, which was not refused memory
 pub record LoadsFresh {A : Type 0} (rule : Rule) (dialect : Dialect) (a : Ahead) (old : Texts) (answer : Result (Unit {0}) (Error A)) (new : Texts) : Type 0 where
-  pub loads : LoadsLeft rule (fresh (Some a) dialect) old answer new
+  pub calls : Option (List Call)
+  pub loads : LoadsLeft rule (fresh (Some a) calls dialect) old answer new
   pub not_refused : ¬ (IsMemoryErr answer)
 
 -- both environments have the same values

@@ -1,10 +1,11 @@
 -- What an iterator over pairs has left, and what it remembers.
-use Rattle.std.specs.Prelude.{ℕ, ◌^◌, false, Option, refl}
+use Rattle.std.specs.Prelude.{ℕ, ◌^◌, false, List, Option, refl}
 use Rattle.std.specs.Coded.{Coded, code_by, coded×, coded_ℕ, coded_list, coded_option}
 use Rattle.std.specs.FinMap as fin
 use Rattle.dotenvy.specs.declared.dialect.Dialect.{Dialect}
 use Rattle.dotenvy.specs.contracts.dialect.Dialect as dialect
 use Rattle.dotenvy.specs.declared.lines.Stage.TheVariants.{Open}
+use Rattle.dotenvy.specs.Calls.{Call}
 use Rattle.dotenvy.specs.Source.{Ahead}
 use Rattle.dotenvy.specs.Lines.{LinesState, lines_code, fuel_of}
 use Rattle.dotenvy.specs.Remembered.{Remembered}
@@ -19,10 +20,13 @@ abbrev pub iter_code : Coded IterState
 iter_code =
     code_by (LinesState × (Remembered × Dialect)) (coded× lines_code (coded× (fin.code (coded_list coded_ℕ) (coded_option (coded_list coded_ℕ))) dialect.the_row.coded)) (λ s. (s.lines, (s.remembered, s.dialect))) (λ p. record { lines = p.0; remembered = p.1.0; dialect = p.1.1 }) (λ _. refl)
 
--- nothing was read, and nothing is remembered
-abbrev pub fresh : Option Ahead → Dialect → IterState
-fresh ahead dialect = record {
-  lines = record { input = record { left = ahead; unread = 0; reads = 2 ^ 32; at_end = false }; stage = Open };
+-- nothing was read of what a source tells, and nothing is remembered; these are the calls on it so far, if it tells them
+abbrev pub fresh : Option Ahead → Option (List Call) → Dialect → IterState
+fresh ahead calls dialect = record {
+  lines = record {
+    input = record { left = ahead; unread = 0; reads = 2 ^ 32; at_end = false; calls = calls };
+    stage = Open;
+  };
   remembered = fin.empty;
   dialect = dialect;
 }

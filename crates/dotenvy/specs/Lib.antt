@@ -16,6 +16,7 @@ pub mod Decided
 pub mod Search
 pub mod Errors
 pub mod Find
+pub mod Calls
 pub mod Source
 pub mod Sent
 pub mod Environment

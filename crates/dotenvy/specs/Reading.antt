@@ -26,16 +26,20 @@ pub record StopsAtMemory (entries read : List Entry) : Type 0 where
   pub cut : entries ≡ front ++ back
   pub ends : read ≡ front ++ Fails Memory ∷ []
 
--- a reading of a from s on, without a byte order mark at its front, stops at the bound on reads: after the entries that the bytes read so far decide, where each read gave a byte at least
-pub record StopsAtBound (dialect : Dialect) (a : Ahead) (s : InputState) (read : List Entry) : Type 0 where
+-- so many bytes can be read for certain: one by each read that may still be made, one more by that of the end, and those that were read already
+abbrev pub certain_bytes : InputState → ℕ
+certain_bytes s = s.reads + s.unread + end_reads s.at_end
+
+-- a reading of a, of which so many bytes can be read for certain, without a byte order mark at its front, stops at the bound on reads: after the entries that the bytes read so far decide, where each read gave a byte at least
+pub record StopsAtBound (dialect : Dialect) (a : Ahead) (certain : ℕ) (read : List Entry) : Type 0 where
   pub bytes : List ℕ
   pub later : List ℕ
   pub cut : a.bytes ≡ bytes ++ later
-  pub each_gave : s.reads + s.unread + end_reads s.at_end ≤ length bytes
+  pub each_gave : certain ≤ length bytes
   pub decided : List Entry
   pub has_decided : HasDecided dialect (without_mark bytes) decided
   pub ends : read ≡ decided ++ Fails (Io Other) ∷ []
 
 -- a reading of a from s on, where these are the entries without the byte order mark: all of them and the fault that is told; or it stops before
 abbrev pub IsReading : Dialect → Ahead → InputState → List Entry → List Entry → Type 0
-IsReading dialect a s entries read = (read ≡ entries ++ told_fault a.fault) ⊎ (StopsAtMemory entries read ⊎ StopsAtBound dialect a s read)
+IsReading dialect a s entries read = (read ≡ entries ++ told_fault a.fault) ⊎ (StopsAtMemory entries read ⊎ StopsAtBound dialect a (certain_bytes s) read)

@@ -1,43 +1,85 @@
 -- What a call that writes has appended to its sink, and which errors it answers.
-use Rattle.std.specs.Prelude.{ℕ, ◌≡◌, ◌<◌, ◌^◌, ◌≢◌, ◌⊎◌, List, [], ◌++◌, length, Option, Some, None, Result, Ok, Err, IfErr}
+use Rattle.std.specs.Prelude.{ℕ, ◌≡◌, ◌≤◌, ◌^◌, ◌≢◌, ◌⊎◌, List, [], ◌∷◌, ◌++◌, length, Option, Some, None, Result, Ok, Err, IfErr, OnOk, IsErrAnd}
 use Rattle.std.specs.IoError.{error_kind}
 use Rattle.std.specs.declared.io.Error.{Error as IoError}
 use Rattle.std.specs.declared.io.ErrorKind.{ErrorKind}
-use Rattle.std.specs.declared.io.ErrorKind.TheVariants.{Interrupted, Other}
+use Rattle.std.specs.declared.io.ErrorKind.TheVariants.{Interrupted, Other, WriteZero}
 use Rattle.dotenvy.specs.declared.errors.Error.{Error}
 use Rattle.dotenvy.specs.Errors.{IsMemory, IsIoOf}
+use Rattle.dotenvy.specs.Calls.{Call, AllMayGoOn, OnlyLastEnds}
 
--- of these bytes all but `rest` were appended
-abbrev pub Appended : Option (List ℕ) → Option (List ℕ) → List ℕ → List ℕ → Type 0
-Appended None after bytes rest = Unit {0}
-Appended (Some held) after bytes rest = (front : List ℕ) × (bytes ≡ front ++ rest) × (after ≡ Some (held ++ front))
+-- these bytes were appended, to a sink that tells what it holds
+abbrev pub Appended : Option (List ℕ) → Option (List ℕ) → List ℕ → Type 0
+Appended None after bytes = Unit {0}
+Appended (Some held) after bytes = after ≡ Some (held ++ bytes)
 
--- the bytes were appended whole where the call answered Ok, and else a front of them
-abbrev pub Sends : {E : Type 0} → Option (List ℕ) → Option (List ℕ) → List ℕ → Result (Unit {0}) E → Type 0
-Sends before after bytes (Ok done) = Appended before after bytes []
-Sends before after bytes (Err error) = (rest : List ℕ) × Appended before after bytes rest
-
--- no write was left: so many were made, each took a byte at least, and bytes were left; or the last that failed was interrupted
+-- no write was left, after so many bytes were taken: each write took a byte at least, or the last
+-- that failed was interrupted
 abbrev pub NoWriteIsLeft : ℕ → ℕ → Option ErrorKind → IoError → Type 0
-NoWriteIsLeft most len last e = (error_kind e ≡ Other) × ((last ≡ Some Interrupted) ⊎ (most < len))
+NoWriteIsLeft most taken last e =
+    (error_kind e ≡ Other) × ((last ≡ Some Interrupted) ⊎ (most ≤ taken))
 
 -- the fault of a write that failed last, which was not interrupted
 abbrev pub IsLastFault : Option ErrorKind → IoError → Type 0
 IsLastFault last e = (last ≡ Some (error_kind e)) × (error_kind e ≢ Interrupted)
 
--- a fault of writing so many bytes, by the last fault that the sink told before and after: if no write had failed before, it is that of one of these writes, or none was left
+-- a fault of writing, after so many bytes were taken, by the last fault that the sink told before
+-- and after: if no write had failed before, it is that of one of these writes, or none was left
 abbrev pub IsWriteFault : ℕ → ℕ → Option ErrorKind → Option ErrorKind → IoError → Type 0
-IsWriteFault most len before after e = before ≡ None → IsLastFault after e ⊎ NoWriteIsLeft most len after e
+IsWriteFault most taken before after e =
+    before ≡ None → IsLastFault after e ⊎ NoWriteIsLeft most taken after e
+
+-- the fault is that of a write which answered this: its own, or WriteZero where it took nothing; an
+-- interruption is none
+abbrev pub IsFaultOf : Result ℕ ErrorKind → IoError → Type 0
+IsFaultOf (Ok n) e = (n ≡ 0) × (error_kind e ≡ WriteZero)
+IsFaultOf (Err kind) e = (kind ≢ Interrupted) × (error_kind e ≡ kind)
+
+-- the fault is that of the last of these writes; or none was left, and none of them had failed but
+-- by an interruption
+abbrev pub IsFaultOfWrites : ℕ → List Call → IoError → Type 0
+IsFaultOfWrites most made e =
+    ((front : List Call) × (last : Call) × (made ≡ front ++ last ∷ []) × IsFaultOf last.answer e)
+    ⊎ ((error_kind e ≡ Other) × (length made ≡ most) × AllMayGoOn made)
+
+-- so many writes are the most that are made, and none follows a fault that is no interruption; a
+-- fault of theirs is answered, and no other
+pub record MakesWrites {A : Type 0} (most : ℕ) (made : List Call)
+    (answer : Result (Unit {0}) (Error A)) : Type 0 where
+  pub few : length made ≤ most
+  pub in_turn : OnlyLastEnds made
+  pub whole : OnOk answer (AllMayGoOn made)
+  pub fault : IfErr answer (IsIoOf (IsFaultOfWrites most made))
+
+-- the writes that were made on a sink that tells its calls
+abbrev pub AsksWrites : {A : Type 0} → ℕ → Option (List Call) → Option (List Call) →
+    Result (Unit {0}) (Error A) → Type 0
+AsksWrites most before after answer =
+    (all : List Call) → after ≡ Some all →
+    (calls made : List Call) × (before ≡ Some calls) × (all ≡ calls ++ made)
+    × MakesWrites most made answer
+
+-- the bytes are sent to a sink, in so many writes at most: whole where the answer is Ok, and else a
+-- front of them
+pub record Sends {A W : Type 0} (held : W → Option (List ℕ)) (last_fault : W → Option ErrorKind)
+    (calls : W → Option (List Call)) (most : ℕ) (old new : W) (bytes : List ℕ)
+    (answer : Result (Unit {0}) (Error A)) : Type 0 where
+  pub front : List ℕ
+  pub rest : List ℕ
+  pub cut : bytes ≡ front ++ rest
+  pub appended : Appended (held old) (held new) front
+  pub whole : OnOk answer (rest ≡ [])
+  pub fault : IfErr answer
+      (IsIoOf (IsWriteFault most (length front) (last_fault old) (last_fault new)))
+  pub asks : AsksWrites most (calls old) (calls new) answer
 
 -- the most writes that one call makes
 abbrev pub most_writes : ℕ
 most_writes = 2 ^ 32
 
--- a fault of writing these bytes
-abbrev pub IsFaultOfWriting : {A W : Type 0} → (W → Option ErrorKind) → W → W → List ℕ → Error A → Type 0
-IsFaultOfWriting last_fault old new bytes e = IsIoOf (IsWriteFault most_writes (length bytes) (last_fault old) (last_fault new)) e
-
--- the bytes are built and then sent to a sink: if memory is refused, it stays as it was; any other error is a fault of writing
-pub record Writes {A W : Type 0} (held : W → Option (List ℕ)) (last_fault : W → Option ErrorKind) (old new : W) (bytes : List ℕ) (answer : Result (Unit {0}) (Error A)) : Type 0 where
-  pub sends : Sends (held old) (held new) bytes answer
-  pub error : IfErr answer (λ e. (IsMemory e × (new ≡ old)) ⊎ IsFaultOfWriting last_fault old new bytes e)
+-- the bytes are built and then sent to a sink: if memory is refused, it stays as it was
+abbrev pub Writes : {A W : Type 0} → (W → Option (List ℕ)) → (W → Option ErrorKind) →
+    (W → Option (List Call)) → W → W → List ℕ → Result (Unit {0}) (Error A) → Type 0
+Writes held last_fault calls old new bytes answer =
+    (IsErrAnd answer IsMemory × (new ≡ old))
+    ⊎ Sends held last_fault calls most_writes old new bytes answer

@@ -63,7 +63,7 @@ pub fn from_path_iter<A: Allocator + Clone, R: Files + Alloc<A = A>>(
     rt: &R,
     path: Path<'_>,
 ) -> Result<Iter<Plain<R::File>, A>, A>
-    ensures ok { IfOk result (λ file. file ≡ fresh None Dialect.V15) }
+    ensures ok { IfOk result (λ file. file ≡ fresh None None Dialect.V15) }
     ensures fault { IfErr result IsFileFault }
 {
     from_read_iter(rt.alloc(), open(rt, path)?)
@@ -142,7 +142,7 @@ pub fn from_filename_iter<A: Allocator + Clone, R: Files + Env + Alloc<A = A>>(
     rt: &R,
     filename: Path<'_>,
 ) -> Result<Iter<Plain<R::File>, A>, A>
-    ensures ok { IfOk result (λ file. file ≡ fresh None Dialect.V15) }
+    ensures ok { IfOk result (λ file. file ≡ fresh None None Dialect.V15) }
     ensures fault { IfErr result IsFileFault }
 {
     let (_, file) = Finder::new().filename(filename).find(rt, Dialect::V15)?;
@@ -195,7 +195,7 @@ pub fn dotenv_override<A: Allocator + Clone, R: Files + Env + Alloc<A = A>>(
 pub fn dotenv_iter<A: Allocator + Clone, R: Files + Env + Alloc<A = A>>(
     rt: &R,
 ) -> Result<Iter<Plain<R::File>, A>, A>
-    ensures ok { IfOk result (λ file. file ≡ fresh None Dialect.V15) }
+    ensures ok { IfOk result (λ file. file ≡ fresh None None Dialect.V15) }
     ensures fault { IfErr result IsFileFault }
 {
     let (_, file) = Finder::new().find(rt, Dialect::V15)?;

@@ -46,7 +46,7 @@ impl<'a> Finder<'a> {
     ) -> Result<(PathBuf<A>, Iter<Plain<R::File>, A>), A>
         ensures path { IfOk result (λ found.
             IsPathOf (path_bytes self.entry.filename) (path_buf_bytes found.0)) }
-        ensures file { IfOk result (λ found. found.1 ≡ fresh None dialect) }
+        ensures file { IfOk result (λ found. found.1 ≡ fresh None None dialect) }
         ensures fault { IfErr result IsFileFault }
     {
         match self.found(rt, dialect) {
@@ -63,7 +63,7 @@ impl<'a> Finder<'a> {
     ) -> Result<(PathBuf<A>, Iter<Plain<R::File>, A>), A>
         ensures path { IfOk result (λ found.
             IsPathOf (path_bytes self.entry.filename) (path_buf_bytes found.0)) }
-        ensures file { IfOk result (λ found. found.1 ≡ fresh None dialect) }
+        ensures file { IfOk result (λ found. found.1 ≡ fresh None None dialect) }
         ensures fault { IfErr result IsSystemFault }
     {
         let directory = env::current_dir(rt)?;

@@ -1,8 +1,8 @@
 // The bytes of a source, as they are read: a physical line at a time.
-ghost use Rattle.std.specs.Prelude.{[], ◌≡◌, ◌≤◌, ◌<◌, ◌+◌, ◌==◌, ◌⊎◌, true, false, Some, None, IfOk, IfErr, IsTrue, ◌↔◌, OnOk, MatchOption, MatchBool, position, nat_eq, length, take, drop, vec_len};
+ghost use Rattle.std.specs.Prelude.{[], ◌≡◌, ◌≤◌, ◌<◌, ◌+◌, ◌==◌, ◌⊎◌, true, false, Some, None, IfOk, IfErr, IsOk, IsTrue, ◌↔◌, OnOk, MatchOption, MatchBool, position, nat_eq, length, take, drop, vec_len};
 ghost use Rattle.std.specs.IoError.{error_kind};
 ghost use Rattle.dotenvy.specs.Source.{Ahead};
-ghost use Rattle.dotenvy.specs.Input.{IsTold, ReadsOnce, IsAllRead, used_up, supply, ReadsMore, MovesLine, ReadsLine, begins_mark, DropsMark};
+ghost use Rattle.dotenvy.specs.Input.{IsTold, ReadsOnce, IsAllRead, used_up, supply, ReadsMore, MovesLine, ReadsLine, begins_mark, DropsMark, AsksOnce, AsksReads};
 ghost use Rattle.std.specs.List.{starts_with};
 ghost use Rattle.dotenvy.specs.PhysicalLines.{is_whole_line, no_line_feed};
 ghost use Rattle.dotenvy.specs.Marks.{byte_order_mark};
@@ -38,14 +38,14 @@ impl<R: Source, A: Allocator> Model for Input<R, A> {
 
     ghost coded = { input_code };
 
-    ghost view = { λ s. record { left = left_of s.at_end (R.ahead s.reader) (drop s.used s.held.items); unread = vec_len s.held - s.used; reads = s.reads_left; at_end = s.at_end } };
+    ghost view = { λ s. record { left = left_of s.at_end (R.ahead s.reader) (drop s.used s.held.items); unread = vec_len s.held - s.used; reads = s.reads_left; at_end = s.at_end; calls = R.calls s.reader } };
 
     ghost invariant = { λ s. s.used ≤ vec_len s.held };
 }
 
 impl<R: Source, A: Allocator> Input<R, A> {
     pub(crate) fn new(alloc: A, reader: R, reads_left: u64) -> Input<R, A>
-        ensures { result ≡ record { left = R.ahead reader; unread = 0; reads = reads_left; at_end = false } }
+        ensures { result ≡ record { left = R.ahead reader; unread = 0; reads = reads_left; at_end = false; calls = R.calls reader } }
     {
         Input {
             reader,
@@ -132,6 +132,7 @@ fn read_once<R: Source, A: Allocator>(reader: &mut R, held: &mut Vec<u8, A>) -> 
     ensures grows { vec_len held.old ≤ vec_len held.new }
     ensures bound { vec_len held.new ≤ vec_len held.old + 8192 }
     ensures told { (a : Ahead) → IsTold (R.ahead reader.old) a → ReadsOnce a held.old.items result (R.ahead reader.new) held.new.items }
+    ensures asks { AsksOnce (R.calls reader.old) result (R.calls reader.new) }
 {
     let mut buf = [0u8; READ_SIZE];
     match reader.read_some(&mut buf) {
@@ -155,6 +156,7 @@ impl<R: Source, A: Allocator> Input<R, A> {
         requires { self.old.at_end ≡ false }
         ensures falls { OnOk result (supply self.new < supply self.old) }
         ensures told { (a : Ahead) → IsTold self.old.left a → ReadsMore a self.old result self.new }
+        ensures asks { AsksReads (IsOk result) self.old self.new }
     {
         if self.reads_left == 0 {
             return Err(too_many_reads());
@@ -171,6 +173,7 @@ impl<R: Source, A: Allocator> Input<R, A> {
         ensures supply { supply self.new ≤ supply self.old }
         ensures memory { IfErr result IsMemory }
         ensures told { (a : Ahead) → self.old.left ≡ Some a → IfOk result (λ whole. MovesLine a self.old line.old.items whole line.new.items self.new) }
+        ensures asks { AsksReads (Unit {0}) self.old self.new }
     {
         let unread = self.unread();
         let whole = whole_line_len(unread);
@@ -184,6 +187,7 @@ impl<R: Source, A: Allocator> Input<R, A> {
     pub(crate) fn read_line(&mut self, line: &mut Vec<u8, A>) -> Result<(), A>
         ensures falls { OnOk result (supply self.new + vec_len line.new ≤ supply self.old) }
         ensures told { (a : Ahead) → IsTold self.old.left a → ReadsLine a self.old result line.new.items self.new }
+        ensures asks { AsksReads (IsOk result) self.old self.new }
     {
         line.clear();
         'reading: loop {
@@ -219,6 +223,7 @@ impl<R: Source, A: Allocator> Input<R, A> {
     pub(crate) fn drop_mark(&mut self) -> Result<(), A>
         ensures falls { OnOk result (supply self.new ≤ supply self.old) }
         ensures told { (a : Ahead) → IsTold self.old.left a → DropsMark a self.old result self.new }
+        ensures asks { AsksReads (IsOk result) self.old self.new }
     {
         'deciding: while self.is_undecided() {
             self.read_more()?;

@@ -4,6 +4,7 @@ ghost use Rattle.std.specs.Prelude.{◌≡◌, ◌≢◌, ◌<◌, ◌≤◌, �
 ghost use Rattle.std.specs.Iterator.{at_most};
 ghost use Rattle.dotenvy.specs.declared.lines.Stage.TheVariants.{Failed, Open};
 ghost use Rattle.dotenvy.specs.Errors.{IsMemory, IsMemoryErr};
+ghost use Rattle.dotenvy.specs.Input.{AsksReads};
 ghost use Rattle.dotenvy.specs.Iter.{fresh, item_fuel};
 ghost use Rattle.dotenvy.specs.Environment.{KeepsNames};
 ghost use Rattle.dotenvy.specs.Statement.{is_key};
@@ -69,7 +70,7 @@ impl<R: Source, A: Allocator + Clone> Iter<R, A> {
     pub fn new(alloc: A, reader: R) -> Result<Iter<R, A>, A>
     where
         R: Drop,
-        ensures ok { IfOk result (λ s. s ≡ fresh (R.ahead reader) Dialect.V15) }
+        ensures ok { IfOk result (λ s. s ≡ fresh (R.ahead reader) (R.calls reader) Dialect.V15) }
         ensures memory { IfErr result IsMemory }
     {
         Iter::with_dialect(alloc, reader, Dialect::V15)
@@ -79,7 +80,7 @@ impl<R: Source, A: Allocator + Clone> Iter<R, A> {
     pub fn with_dialect(alloc: A, reader: R, dialect: Dialect) -> Result<Iter<R, A>, A>
     where
         R: Drop,
-        ensures ok { IfOk result (λ s. s ≡ fresh (R.ahead reader) dialect) }
+        ensures ok { IfOk result (λ s. s ≡ fresh (R.ahead reader) (R.calls reader) dialect) }
         ensures memory { IfErr result IsMemory }
     {
         let remembered = HashMap::new(alloc.clone()?);
@@ -98,6 +99,9 @@ impl<R: Source, A: Allocator + Clone> Iter<R, A> {
         ensures memory { IfSome result (λ item. IsMemoryErr item → self.new.lines.stage ≡ Failed) }
         ensures key { IfSome result (λ item. IfOk item (λ pair. IsTrue (is_key (chars (string_bytes pair.0))))) }
         ensures name { GivesName result }
+
+        // Which reads it asks for, over every reader that tells its calls.
+        ensures asks { AsksReads (self.new.lines.stage ≡ Open) self.old.lines.input self.new.lines.input }
     {
         'lines: while let Some(line) = self.lines.next_line() {
             let item = self.item_of(line, env);
@@ -131,6 +135,8 @@ impl<R: Source, A: Allocator + Clone> Iter<R, A> {
         ensures adds { AddsLine env.now.names self.old line result self.new }
         ensures dialect { self.new.dialect ≡ self.old.dialect }
         ensures falls { item_fuel self.new ≤ item_fuel self.old }
+        ensures input { self.new.lines.input ≡ self.old.lines.input }
+        ensures stage { self.new.lines.stage ≡ Open → self.old.lines.stage ≡ Open }
         ensures memory { IfSome result (λ item. IsMemoryErr item → self.new.lines.stage ≡ Failed) }
         ensures key { IfSome result (λ item. IfOk item (λ pair. IsTrue (is_key (chars (string_bytes pair.0))))) }
     {
@@ -234,8 +240,8 @@ pub fn from_read<R: Source + Drop, A: Allocator + Clone>(
     reader: R,
     env: &mut Environment<A>,
 ) -> Result<(), A>
-    ensures told { LoadsLeft load_result (fresh (R.ahead reader) Dialect.V15) env.old.names result env.new.names }
-    ensures in_turn { LoadsLeft (run Keep) (fresh (R.ahead reader) Dialect.V15) env.old.names result env.new.names }
+    ensures told { LoadsLeft load_result (fresh (R.ahead reader) (R.calls reader) Dialect.V15) env.old.names result env.new.names }
+    ensures in_turn { LoadsLeft (run Keep) (fresh (R.ahead reader) (R.calls reader) Dialect.V15) env.old.names result env.new.names }
     ensures keeps { KeepsNames env.old.names env.new.names }
     ensures keys { ChangesKeys env.old.names env.new.names }
     ensures mark { env.new.loaded ≡ env.old.loaded }
@@ -249,8 +255,8 @@ pub fn from_read_override<R: Source + Drop, A: Allocator + Clone>(
     reader: R,
     env: &mut Environment<A>,
 ) -> Result<(), A>
-    ensures told { LoadsLeft override_result (fresh (R.ahead reader) Dialect.V15) env.old.names result env.new.names }
-    ensures in_turn { LoadsLeft (run Replace) (fresh (R.ahead reader) Dialect.V15) env.old.names result env.new.names }
+    ensures told { LoadsLeft override_result (fresh (R.ahead reader) (R.calls reader) Dialect.V15) env.old.names result env.new.names }
+    ensures in_turn { LoadsLeft (run Replace) (fresh (R.ahead reader) (R.calls reader) Dialect.V15) env.old.names result env.new.names }
     ensures keys { ChangesKeys env.old.names env.new.names }
     ensures mark { env.new.loaded ≡ env.old.loaded }
 {
@@ -262,7 +268,7 @@ pub fn from_read_iter<R: Source + Drop, A: Allocator + Clone>(
     alloc: A,
     reader: R,
 ) -> Result<Iter<R, A>, A>
-    ensures ok { IfOk result (λ s. s ≡ fresh (R.ahead reader) Dialect.V15) }
+    ensures ok { IfOk result (λ s. s ≡ fresh (R.ahead reader) (R.calls reader) Dialect.V15) }
     ensures memory { IfErr result IsMemory }
 {
     Iter::new(alloc, reader)

@@ -1,5 +1,5 @@
 // The logical lines of a source: physical lines, joined where quotes stand open.
-ghost use Rattle.std.specs.Prelude.{◌≡◌, ◌≢◌, ◌≤◌, ◌<◌, ◌++◌, [], None, Ok, IfOk, IfErr, OnOk, OnErr, IfSome, IsSome, false, IsTrue, ◌↔◌, ◌^◌, string_bytes};
+ghost use Rattle.std.specs.Prelude.{◌≡◌, ◌≢◌, ◌≤◌, ◌<◌, ◌++◌, [], None, Ok, IfOk, IfErr, IsOk, OnOk, OnErr, IfSome, IsSome, false, IsTrue, ◌↔◌, ◌^◌, string_bytes};
 ghost use Rattle.std.specs.Str.{chars, skip_leading_whitespace};
 ghost use Rattle.dotenvy.specs.Source.{Ahead};
 ghost use Rattle.dotenvy.specs.Characters.{begins_with, hash};
@@ -8,7 +8,7 @@ ghost use Rattle.dotenvy.specs.LogicalLine.{without_carriage_return};
 ghost use Rattle.dotenvy.specs.LineModes.{leads_outside, leads, kept};
 ghost use Rattle.std.specs.IoError.{error_kind};
 ghost use Rattle.dotenvy.specs.Errors.{IsIoOf, IsMemory, IsMemoryErr};
-ghost use Rattle.dotenvy.specs.Input.{IsTold, DropsMark};
+ghost use Rattle.dotenvy.specs.Input.{AsksReads, IsTold, DropsMark};
 ghost use Rattle.dotenvy.specs.Lines.{fuel_of, NextIs};
 ghost use Rattle.dotenvy.specs.JoinedLines.{WalksLine, joined_at_end, JoinsNext, UsesSome, stage_after, Answers};
 
@@ -161,6 +161,7 @@ fn at_input_end<A: Allocator>(text: String<A>, mode: LineMode) -> Joined<A>
 fn join_lines<R: Source, A: Allocator + Clone>(input: &mut Input<R, A>) -> Result<Joined<A>, A>
     ensures falls { IfOk result (λ joined. UsesSome input.old joined input.new) }
     ensures told { (a : Ahead) → IsTold input.old.left a → JoinsNext a input.old result input.new }
+    ensures asks { AsksReads (IsOk result) input.old input.new }
 {
     let mut text = String::new(input.allocator().clone()?);
     let mut bytes = Vec::new(input.allocator().clone()?);
@@ -216,13 +217,13 @@ impl<R: Source, A: Allocator> Model for QuotedLines<R, A> {
 impl<R: Source, A: Allocator + Clone> QuotedLines<R, A> {
     // Nothing is read.
     pub(crate) fn new(alloc: A, reader: R) -> QuotedLines<R, A>
-        ensures { result ≡ record { input = record { left = R.ahead reader; unread = 0; reads = 2 ^ 32; at_end = false }; stage = Stage.Open } }
+        ensures { result ≡ record { input = record { left = R.ahead reader; unread = 0; reads = 2 ^ 32; at_end = false; calls = R.calls reader }; stage = Stage.Open } }
     {
         QuotedLines::with_limit(alloc, reader, READ_LIMIT)
     }
 
     fn with_limit(alloc: A, reader: R, reads: u64) -> QuotedLines<R, A>
-        ensures { result ≡ record { input = record { left = R.ahead reader; unread = 0; reads = reads; at_end = false }; stage = Stage.Open } }
+        ensures { result ≡ record { input = record { left = R.ahead reader; unread = 0; reads = reads; at_end = false; calls = R.calls reader }; stage = Stage.Open } }
     {
         QuotedLines {
             input: Input::new(alloc, reader, reads),
@@ -291,6 +292,7 @@ impl<R: Source, A: Allocator + Clone> QuotedLines<R, A> {
         ensures none { result ≡ None → self.new.stage ≢ Stage.Open }
         ensures memory { IfSome result (λ r. IsMemoryErr r → self.new.stage ≡ Stage.Failed) }
         ensures told { (a : Ahead) → self.old.stage ≡ Stage.Open → IsTold self.old.input.left a → NextIs a self.old.input result self.new }
+        ensures asks { AsksReads (self.new.stage ≡ Stage.Open) self.old.input self.new.input }
     {
         if !self.is_open() {
             return None;
@@ -313,6 +315,7 @@ impl<R: Source, A: Allocator + Clone> QuotedLines<R, A> {
         ensures ok { OnOk result (self.new.stage ≡ self.old.stage) }
         ensures err { OnErr result (self.new.stage ≡ Stage.Failed) }
         ensures told { (a : Ahead) → self.old.stage ≡ Stage.Open → IsTold self.old.input.left a → DropsMark a self.old.input result self.new.input }
+        ensures asks { AsksReads (self.new.stage ≡ Stage.Open) self.old.input self.new.input }
     {
         if !self.is_open() {
             return Ok(());

@@ -7,7 +7,7 @@ ghost use Rattle.dotenvy.specs.Characters.{byte_len};
 ghost use Rattle.dotenvy.specs.Names.{saturated};
 ghost use Rattle.dotenvy.specs.Errors.{IsIoOf};
 ghost use Rattle.dotenvy.specs.Written.{needs_backslash, written_character, written_text, written_bytes};
-ghost use Rattle.dotenvy.specs.Sent.{Sends, IsWriteFault, Writes};
+ghost use Rattle.dotenvy.specs.Sent.{Sends, Writes};
 ghost use Rattle.dotenvy.specs.Environment.{AreTexts};
 ghost use Rattle.dotenvy.specs.Listed.{pairs_of, Lists, ListsSome};
 
@@ -96,8 +96,7 @@ fn listing<A: Allocator + Clone>(
 
 // Writes all of the bytes, in at most `writes_left` writes.
 fn write_all<W: Sink, A: Allocator>(writer: &mut W, bytes: &[u8], writes_left: u64) -> Result<(), A>
-    ensures sends { Sends (W.held writer.old) (W.held writer.new) bytes.now result }
-    ensures fault { IfErr result (IsIoOf (IsWriteFault writes_left (length bytes.now) (W.last_fault writer.old) (W.last_fault writer.new))) }
+    ensures { Sends W.held W.last_fault W.calls writes_left writer.old writer.new bytes.now result }
 {
     let mut rest = bytes;
     'writes: for _ in 0..writes_left {
@@ -136,7 +135,8 @@ pub fn write_pair<W: Sink, A: Allocator + Clone>(
     text: &str,
 ) -> Result<(), A>
     requires { IsTrue (is_key (chars key.now)) }
-    ensures { Writes W.held W.last_fault writer.old writer.new (written_bytes ((chars key.now, chars text.now) ∷ [])) result }
+    ensures { Writes W.held W.last_fault W.calls writer.old writer.new
+        (written_bytes ((chars key.now, chars text.now) ∷ [])) result }
 {
     let mut out = String::with_capacity(alloc, written_len(key, text))?;
     push_written(&mut out, key, text);
@@ -157,8 +157,9 @@ pub fn list<R: Source + Drop, W: Sink, A: Allocator + Clone>(
     reader: R,
     writer: &mut W,
 ) -> Result<(), A>
-    ensures lists { Lists Dialect.V15 (R.ahead reader) W.held W.last_fault writer.old writer.new result }
-    ensures some { ListsSome W.held W.last_fault writer.old writer.new result }
+    ensures lists { Lists Dialect.V15 (R.ahead reader) W.held W.last_fault W.calls
+        writer.old writer.new result }
+    ensures some { ListsSome W.held W.last_fault W.calls writer.old writer.new result }
 {
     list_with(alloc, reader, writer, Dialect::V15)
 }
@@ -170,8 +171,9 @@ pub fn list_with<R: Source + Drop, W: Sink, A: Allocator + Clone>(
     writer: &mut W,
     dialect: Dialect,
 ) -> Result<(), A>
-    ensures lists { Lists dialect (R.ahead reader) W.held W.last_fault writer.old writer.new result }
-    ensures some { ListsSome W.held W.last_fault writer.old writer.new result }
+    ensures lists { Lists dialect (R.ahead reader) W.held W.last_fault W.calls
+        writer.old writer.new result }
+    ensures some { ListsSome W.held W.last_fault W.calls writer.old writer.new result }
 {
     let mut env = Environment::new(alloc.clone()?);
     Iter::with_dialect(alloc.clone()?, reader, dialect)?.load(&mut env)?;

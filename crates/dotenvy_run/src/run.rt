@@ -37,10 +37,11 @@ pub fn run<A: Allocator + Clone, R: Files + Env + Processes + Alloc<A = A>, S: S
 
     // A list is that of the reader, in the dialect of the words.
     ensures lists { (line : Line) → HasUsage (texts words.now) (Ok line) → line.list ≡ true
-        → IsEarly result ⊎ EndsAs (Lists line.dialect (S.ahead reader.old) W.held W.last_fault
-        writer.old writer.new) result }
+        → IsEarly result ⊎ EndsAs (Lists line.dialect (S.ahead reader.old) W.held
+        W.last_fault W.calls writer.old writer.new) result }
     ensures some { (line : Line) → HasUsage (texts words.now) (Ok line) → line.list ≡ true
-        → IsEarly result ⊎ EndsAs (ListsSome W.held W.last_fault writer.old writer.new) result }
+        → IsEarly result ⊎ EndsAs (ListsSome W.held W.last_fault W.calls
+        writer.old writer.new) result }
 
     // A command leaves the reader and the writer as they were.
     ensures command { (line : Line) → HasUsage (texts words.now) (Ok line) → line.list ≡ false
@@ -62,9 +63,9 @@ fn list<A: Allocator + Clone, S: Source, W: Sink>(
     writer: &mut W,
     dialect: Dialect,
 ) -> Result<u8, Failure<A>>
-    ensures lists { EndsAs (Lists dialect (S.ahead reader.old) W.held W.last_fault
+    ensures lists { EndsAs (Lists dialect (S.ahead reader.old) W.held W.last_fault W.calls
         writer.old writer.new) result }
-    ensures some { EndsAs (ListsSome W.held W.last_fault writer.old writer.new) result }
+    ensures some { EndsAs (ListsSome W.held W.last_fault W.calls writer.old writer.new) result }
 {
     list_with(alloc, reader, writer, dialect)?;
     Ok(0)

@@ -17,11 +17,12 @@ use Rattle.env_layers.specs.Layers.{AddsLayer, after_load, rule_of}
 
 -- a load by the rule of the mode, whose answer decides what stands
 pub adds_by : {A : Type 0} (mode : Mode) (rule : Rule) (ahead : Option Ahead) (old loaded : Texts)
-    (answer : Result (Unit {0}) (Error A)) → rule_of mode ≡ rule → LoadsLeft rule (fresh ahead V15) old answer loaded →
+    (answer : Result (Unit {0}) (Error A)) → rule_of mode ≡ rule →
+        LoadsLeft rule (fresh ahead None V15) old answer loaded →
     AddsLayer mode ahead old answer (after_load old loaded answer)
 adds_by mode rule ahead old loaded answer is loads = record {
   loaded = loaded;
-  loads = subst (λ r. LoadsLeft r (fresh ahead V15) old answer loaded) (sym is) loads;
+  loads = subst (λ r. LoadsLeft r (fresh ahead None V15) old answer loaded) (sym is) loads;
   stands = refl;
 }
 
@@ -45,7 +46,7 @@ adds_none mode ahead old error is = record {
   loads = λ a told entries left. (
     Fails Memory ∷ [],
     inr (inl (record { front = []; back = entries; cut = refl; ends = refl })),
-    left_by_none mode old (recalled_of (fresh ahead V15).remembered) error is,
+    left_by_none mode old (recalled_of (fresh ahead None V15).remembered) error is,
   );
   stands = refl;
 }

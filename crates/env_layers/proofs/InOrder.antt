@@ -1,7 +1,7 @@
 -- What calls of `add` come to, one after another.
-use Rattle.std.proofs.Common.{◌≡◌, Bool, true, false, cond, List, [], ◌∷◌, ◌++◌, append-nil, Some, None, Result, Ok, Err, refl, sym, ◌∙◌, ap, subst, arith}
+use Rattle.std.proofs.Common.{◌≡◌, Bool, true, false, cond, List, [], ◌∷◌, ◌++◌, append-nil, None, Result, Ok, Err, refl, sym, ◌∙◌, ap, subst, arith}
 use Rattle.std.proofs.Math.Path.{fun_ext}
-use Rattle.std.specs.Prelude.{filter, is_ok, option_map}
+use Rattle.std.specs.Prelude.{None, filter, is_ok, option_map}
 use Rattle.std.specs.Option.{option_flatten}
 use Rattle.std.specs.Cmp.Lexicographic.{slice_cmp}
 use Rattle.std.specs.FinMap as fin
@@ -37,7 +37,7 @@ nothing_recalled = fun_ext
 
 -- a fresh iterator over fewer than 2^32 bytes, which tells no fault, can read them all
 can_read : {A : Type 0} (old : Texts) (layer : Layer) (new : Texts) → Adds A old layer new →
-    CanRead (fresh (telling layer.bytes) V15)
+    CanRead (fresh (telling layer.bytes) None V15)
     (record { bytes = layer.bytes; fault = None })
 can_read old layer new added = let few = added.few in
     record { is_open = refl; is_told = (refl, λ told. cc); few = omega (arith, few) }
@@ -49,7 +49,7 @@ leaves_rule : {A : Type 0} (old : Texts) (layer : Layer) (new : Texts) (entries 
 leaves_rule old layer new entries all added has =
     let adds = added.adds in
     let whole =
-    takes_all layer.mode all (fresh (telling layer.bytes) V15)
+    takes_all layer.mode all (fresh (telling layer.bytes) None V15)
     (record { bytes = layer.bytes; fault = None }) old adds.loaded added.answer entries
     (can_read old layer new added) has adds.loads added.not_refused in
     subst (λ es. Leaves (layer_result layer (values_of old) es) adds.loaded added.answer) (append-nil entries)

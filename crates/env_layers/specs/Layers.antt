@@ -1,5 +1,5 @@
 -- What a layer does to an environment.
-use Rattle.std.specs.Prelude.{◌≡◌, Option, Result, Ok, Err}
+use Rattle.std.specs.Prelude.{◌≡◌, Option, None, Result, Ok, Err}
 use Rattle.dotenvy.specs.declared.dialect.Dialect.TheVariants.{V15}
 use Rattle.dotenvy.specs.declared.errors.Error.{Error}
 use Rattle.dotenvy.specs.Environment.{Texts}
@@ -25,5 +25,5 @@ after_load before loaded (Err error) = before
 pub record AddsLayer {A : Type 0} (mode : Mode) (ahead : Option Ahead) (old : Texts)
     (answer : Result (Unit {0}) (Error A)) (new : Texts) : Type 0 where
   pub loaded : Texts
-  pub loads : LoadsLeft (rule_of mode) (fresh ahead V15) old answer loaded
+  pub loads : LoadsLeft (rule_of mode) (fresh ahead None V15) old answer loaded
   pub stands : new ≡ after_load old loaded answer

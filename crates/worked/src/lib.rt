@@ -54,6 +54,7 @@ mod shown;
 mod statements;
 #[cfg(test)]
 mod substitution;
+mod telling;
 #[cfg(test)]
 mod values;
 #[cfg(test)]

@@ -1,4 +1,4 @@
-use Rattle.std.proofs.Common.{rules, arith, ◌≡◌, ◌≤◌, ◌<◌, ◌∙◌, sym, ap, subst, ℕ, false, List, [], ◌++◌, length, take, inl, inr, string_bytes, vec_len}
+use Rattle.std.proofs.Common.{rules, arith, ◌≡◌, ◌≤◌, ◌<◌, ◌∙◌, refl, sym, ap, subst, ℕ, false, List, [], ◌++◌, length, take, inl, inr, string_bytes, vec_len}
 use Rattle.std.specs.Prelude.{string_len, IsUtf8}
 use Rattle.std.specs.Str.{chars, skip_leading_whitespace}
 use Rattle.std.proofs.lemmas.Str.{chars-nil, chars-append, IsUtf8-string_bytes}
@@ -10,13 +10,18 @@ use Rattle.dotenvy.specs.LineModes.{kept, ended}
 use Rattle.dotenvy.specs.Input.{TakesLine, supply}
 use Rattle.dotenvy.proofs.LineJoins.{Joining, joining_start, joining_told, joining_goes, joining_ends, joining_skips, joining_breaks, joining_finish, joining_fails, text_begun}
 use Rattle.dotenvy.proofs.Basics.{tested_empty, tested_some}
+use Rattle.dotenvy.proofs.AskedReads.{asks_none, asks_more, asks_on, asks_weaker, asks_failed}
 use Rattle.dotenvy.proofs.lines.join_lines.Goals as goal
 use Rattle.dotenvy.proofs.lines.join_lines.Goals.{else-is_empty-2-via-then-is_empty-2+else-is_comment, else-is_empty-2-via-else-is_empty-2}
 
 pub joining-init : goal.joining-init
 joining-init g c =
-    let same : supply c.args.input.now ≤ supply c.args.input.now = omega arith in
-    (same, λ some. absurd (some c.new-text.ensures.bytes), λ a told. subst (λ (seen : List ℕ). Joining a c.args.input.now seen Outside c.args.input.now) (sym (ap chars c.new-text.ensures.bytes ∙ chars-nil)) (joining_start a c.args.input.now told))
+    let same : supply c.args.input.now ≤ supply c.args.input.now = omega arith in (
+      same,
+      λ some. absurd (some c.new-text.ensures.bytes),
+      λ a told. subst (λ (seen : List ℕ). Joining a c.args.input.now seen Outside c.args.input.now) (sym (ap chars c.new-text.ensures.bytes ∙ chars-nil)) (joining_start a c.args.input.now told),
+      asks_none _ c.args.input.now c.args.input.now refl refl refl,
+    )
 
 pub returns-in_err-read_line-clause-told : goal.returns-in_err-read_line-clause-told
 returns-in_err-read_line-clause-told g c = λ a told.
@@ -86,6 +91,8 @@ joining-preserved g c =
           let takes = subst (λ (l : List ℕ). TakesLine next c.joining.input l c.read_line.new.self) same (c.in_ok-read_line.ensures.told next (joining_told a c.args.input.now c.joining.input seen c.joining.mode told j)) in
           subst (λ (l : List ℕ). Joining a c.args.input.now l c.in-Going.next c.read_line.new.self) (sym joined)
           (joining_goes a c.args.input.now c.joining.input c.read_line.new.self seen c.in-Ok.line.now c.joining.mode c.in-Going.next (λ h. some.1 (same ∙ h)) text comment (c.in-Going.ensures seen) j takes),
+      asks_more _ _ c.args.input.now c.joining.input c.read_line.new.self c.joining.invariant.3 tt
+          (asks_weaker _ _ _ _ (λ goes. refl) c.in_ok-read_line.ensures.asks),
     )
 
 pub returns-in-EndedAt-clause-told : goal.returns-in-EndedAt-clause-told
@@ -106,3 +113,38 @@ returns-in-EndedAt-clause-told g c = λ a told.
     let front : c.range.result.now ≡ take c.in-EndedAt.at c.in-Ok.line.now = search rules in
     let keeps : chars (string_bytes c.keep_front.new.text) ≡ kept c.in-EndedAt.end (seen ++ chars (take c.in-EndedAt.at c.in-Ok.line.now)) = c.in_ok-keep_front-in-EndedAt.ensures.kept ∙ ap (λ l. kept c.in-EndedAt.end (seen ++ chars l)) front in
     inr (joining_ends a c.args.input.now c.joining.input c.read_line.new.self seen c.in-Ok.line.now (chars (string_bytes c.keep_front.new.text)) c.joining.mode (λ h. some.1 (same ∙ h)) text comment (c.in-EndedAt.ensures.2 seen ∙ ap ended (sym keeps)) j takes)
+
+pub returns-in_err-clone-clause-asks : goal.returns-in_err-clone-clause-asks
+returns-in_err-clone-clause-asks g c = asks_none _ c.args.input.now c.args.input.now refl refl refl
+
+pub returns-in_err-clone-2-clause-asks : goal.returns-in_err-clone-2-clause-asks
+returns-in_err-clone-2-clause-asks g c = asks_none _ c.args.input.now c.args.input.now refl refl refl
+
+pub returns-in_err-read_line-clause-asks : goal.returns-in_err-read_line-clause-asks
+returns-in_err-read_line-clause-asks g c =
+    asks_failed _ _ _ _ c.from_residual-in_err-read_line.result c.from_residual-in_err-read_line.ensures.1
+    (asks_more _ _ c.args.input.now c.joining.input c.read_line.new.self c.joining.invariant.3 tt c.in_err-read_line.ensures.asks)
+
+pub returns-then-is_empty-clause-asks : goal.returns-then-is_empty-clause-asks
+returns-then-is_empty-clause-asks g c =
+    asks_on _ _ _ _ c.joining.invariant.3 c.in_ok-read_line.ensures.asks
+
+pub returns-in_default-clause-asks : goal.returns-in_default-clause-asks
+returns-in_default-clause-asks g c =
+    asks_on _ _ _ _ c.joining.invariant.3 c.in_ok-read_line.ensures.asks
+
+pub returns-then-is_comment-clause-asks : goal.returns-then-is_comment-clause-asks
+returns-then-is_comment-clause-asks g c =
+    asks_on _ _ _ _ c.joining.invariant.3 c.in_ok-read_line.ensures.asks
+
+pub returns-in_err-push_str-in-Going-clause-asks : goal.returns-in_err-push_str-in-Going-clause-asks
+returns-in_err-push_str-in-Going-clause-asks g c =
+    asks_on _ _ _ _ c.joining.invariant.3 c.in_ok-read_line.ensures.asks
+
+pub returns-in_err-keep_front-in-EndedAt-clause-asks : goal.returns-in_err-keep_front-in-EndedAt-clause-asks
+returns-in_err-keep_front-in-EndedAt-clause-asks g c =
+    asks_on _ _ _ _ c.joining.invariant.3 c.in_ok-read_line.ensures.asks
+
+pub returns-in-EndedAt-clause-asks : goal.returns-in-EndedAt-clause-asks
+returns-in-EndedAt-clause-asks g c =
+    asks_on _ _ _ _ c.joining.invariant.3 c.in_ok-read_line.ensures.asks

@@ -1,11 +1,16 @@
-use Rattle.std.proofs.Common.{arith, subst, sym, ◌∙◌, inl}
+use Rattle.std.proofs.Common.{arith, refl, subst, sym, ◌∙◌, inl}
 use Rattle.std.proofs.lemmas.Result.{err_from_is_err_and}
 use Rattle.std.specs.Prelude.{List, ℕ}
 use Rattle.dotenvy.proofs.Inputs.{Reading, reading_start, reading_moves, reading_whole, reading_ends, reading_more, reading_fails}
+use Rattle.dotenvy.proofs.AskedReads.{asks_none, asks_more, asks_weaker, asks_failed}
 use Rattle.dotenvy.proofs.input.Input.read_line.Goals as goal
 
 pub reading-init : goal.reading-init
-reading-init g c = (let l = c.clear.ensures.len in omega (arith, l), λ a told. subst (λ (line : List ℕ). Reading a c.args.self.now line c.args.self.now) (sym c.clear.ensures.items) (reading_start a c.args.self.now told))
+reading-init g c = (
+  let l = c.clear.ensures.len in omega (arith, l),
+  λ a told. subst (λ (line : List ℕ). Reading a c.args.self.now line c.args.self.now) (sym c.clear.ensures.items) (reading_start a c.args.self.now told),
+  asks_none _ c.args.self.now c.args.self.now refl refl refl,
+)
 
 pub returns-in_err-move_to_line-clause-told : goal.returns-in_err-move_to_line-clause-told
 returns-in_err-move_to_line-clause-told g c = λ a told.
@@ -29,6 +34,10 @@ reading-preserved g c = (
   λ a told.
       let m = reading_moves a c.args.self.now c.reading.self c.move_to_line.new.self c.reading.line.items c.move_to_line.new.line.items c.in_ok-move_to_line.field-0 c.if-branch.false (c.reading.invariant.1 a told) c.in_ok-move_to_line.ensures.told in
       reading_more a c.args.self.now c.move_to_line.new.self c.read_more.new.self c.move_to_line.new.line.items told m.0 (λ b t. c.in_ok-read_more.ensures.told b t),
+  let moved = asks_more _ _ c.args.self.now c.reading.self c.move_to_line.new.self c.reading.invariant.2 tt
+      c.in_ok-move_to_line.ensures.asks in
+      asks_more _ _ c.args.self.now c.move_to_line.new.self c.read_more.new.self moved tt
+      (asks_weaker _ _ _ _ (λ goes. refl) c.in_ok-read_more.ensures.asks),
 )
 
 pub returns-in_err-read_more-clause-told : goal.returns-in_err-read_more-clause-told
@@ -36,3 +45,24 @@ returns-in_err-read_more-clause-told g c = λ a told.
     let p = err_from_is_err_and c.from_residual-in_err-read_more.result c.from_residual-in_err-read_more.ensures.1 in
     let m = reading_moves a c.args.self.now c.reading.self c.move_to_line.new.self c.reading.line.items c.move_to_line.new.line.items c.in_ok-move_to_line.field-0 c.if-branch.false (c.reading.invariant.1 a told) c.in_ok-move_to_line.ensures.told in
     rw (p.1, p.2) (reading_fails a c.args.self.now c.move_to_line.new.self c.read_more.new.self c.move_to_line.new.line.items c.in_err-read_more.field-0.0 told m.0 m.1 (λ b t. c.in_err-read_more.ensures.told b t))
+
+pub returns-in_err-move_to_line-clause-asks : goal.returns-in_err-move_to_line-clause-asks
+returns-in_err-move_to_line-clause-asks g c =
+    asks_failed _ _ _ _ c.from_residual.result c.from_residual.ensures.1 (asks_more _ _ c.args.self.now c.reading.self c.move_to_line.new.self c.reading.invariant.2 tt
+    c.in_err-move_to_line.ensures.asks)
+
+pub returns-then-branch-clause-asks : goal.returns-then-branch-clause-asks
+returns-then-branch-clause-asks g c =
+    asks_weaker _ _ _ _ (λ goes. tt) (asks_more _ _ c.args.self.now c.reading.self c.move_to_line.new.self c.reading.invariant.2 tt
+    c.in_ok-move_to_line.ensures.asks)
+
+pub returns-then-is_at_end-clause-asks : goal.returns-then-is_at_end-clause-asks
+returns-then-is_at_end-clause-asks g c =
+    asks_weaker _ _ _ _ (λ goes. tt) (asks_more _ _ c.args.self.now c.reading.self c.move_to_line.new.self c.reading.invariant.2 tt
+    c.in_ok-move_to_line.ensures.asks)
+
+pub returns-in_err-read_more-clause-asks : goal.returns-in_err-read_more-clause-asks
+returns-in_err-read_more-clause-asks g c =
+    let moved = asks_more _ _ c.args.self.now c.reading.self c.move_to_line.new.self c.reading.invariant.2 tt
+    c.in_ok-move_to_line.ensures.asks in
+    asks_failed _ _ _ _ c.from_residual-in_err-read_more.result c.from_residual-in_err-read_more.ensures.1 (asks_more _ _ c.args.self.now c.move_to_line.new.self c.read_more.new.self moved tt c.in_err-read_more.ensures.asks)

@@ -1,4 +1,4 @@
-use Rattle.std.proofs.Common.{Ok, Err, ap, subst, ◌∙◌}
+use Rattle.std.proofs.Common.{None, Ok, Err, ap, subst, ◌∙◌}
 use Rattle.std.proofs.lemmas.Result.{err_from_is_err_and}
 use Rattle.dotenvy.specs.declared.dialect.Dialect.TheVariants.{V15}
 use Rattle.dotenvy.specs.Iter.{fresh}
@@ -22,7 +22,7 @@ returns-in_err-from_read-in-Keep-clause-told g c =
     let ahead = g.R.Source.ahead c.args.reader in
     let answer = Err c.in_err-from_read-in-Keep.field-0.0 in
     let told = subst (λ e. LoadsLeft {A = g.row.A.Denot} load_result
-    (fresh ahead V15) e.names answer c.from_read.new.env.names)
+    (fresh ahead None V15) e.names answer c.from_read.new.env.names)
     (c.in_ok-layered.ensures.ok ∙ c.self.view_is) c.in_err-from_read-in-Keep.ensures.told in
     rw (p.1, p.2)
     (adds_by c.args.mode load_result ahead c.args.self.now.names c.from_read.new.env.names answer
@@ -36,7 +36,7 @@ returns-in_err-from_read_override-in-Override-clause-told g c =
     let ahead = g.R.Source.ahead c.args.reader in
     let answer = Err c.in_err-from_read_override-in-Override.field-0.0 in
     let told = subst (λ e. LoadsLeft {A = g.row.A.Denot} override_result
-    (fresh ahead V15) e.names answer c.from_read_override.new.env.names)
+    (fresh ahead None V15) e.names answer c.from_read_override.new.env.names)
     (c.in_ok-layered.ensures.ok ∙ c.self.view_is) c.in_err-from_read_override-in-Override.ensures.told in
     rw (p.1, p.2)
     (adds_by c.args.mode override_result ahead c.args.self.now.names c.from_read_override.new.env.names answer
@@ -48,13 +48,13 @@ returns-clause-told g c =
     let copied = c.in_ok-layered.ensures.ok ∙ c.self.view_is in
     elim c.match-mode.branch [
       | in-Keep+in_ok-from_read-in-Keep w ↦
-          let told = subst (λ e. LoadsLeft {A = g.row.A.Denot} load_result (fresh ahead V15) e.names
+          let told = subst (λ e. LoadsLeft {A = g.row.A.Denot} load_result (fresh ahead None V15) e.names
           (Ok tt) w.from_read.new.env.names) copied w.in_ok-from_read-in-Keep.ensures.told in
           rw w.layered-is
           (adds_by c.args.mode load_result ahead c.args.self.now.names w.from_read.new.env.names (Ok tt)
           (ap rule_of w.in-Keep.is) told)
       | in-Override+in_ok-from_read_override-in-Override w ↦
-          let told = subst (λ e. LoadsLeft {A = g.row.A.Denot} override_result (fresh ahead V15) e.names
+          let told = subst (λ e. LoadsLeft {A = g.row.A.Denot} override_result (fresh ahead None V15) e.names
           (Ok tt) w.from_read_override.new.env.names) copied w.in_ok-from_read_override-in-Override.ensures.told in
           rw w.layered-is
           (adds_by c.args.mode override_result ahead c.args.self.now.names w.from_read_override.new.env.names (Ok tt)
