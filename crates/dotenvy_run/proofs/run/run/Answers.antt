@@ -41,7 +41,7 @@ returns-then-line-clause-lists g c = λ line is listed.
     let asked = asks_for (texts c.args.words.now) line c.in_ok-line.line c.in_ok-line.ensures is in
     inr (subst (λ l. EndsAs (Lists {A = g.row.A.Denot} l
     (g.S.Source.ahead c.args.reader.now) g.W.Sink.held g.W.Sink.last_fault g.W.Sink.calls c.args.writer.now
-        c.list.new.writer) c.list.result) (sym (ap (λ l. l.dialect) asked)) c.list.ensures.lists)
+    c.list.new.writer) c.list.result) (sym (ap (λ l. l.dialect) asked)) c.list.ensures.lists)
 
 pub returns-then-line-clause-command : goal.returns-then-line-clause-command
 returns-then-line-clause-command g c = λ line is unlisted.

@@ -25,6 +25,26 @@ fn lists(rt: HostRuntime) -> Result<(), Fail> {
 }
 
 #[test]
+fn nothing_is_read_behind_a_list(rt: HostRuntime) -> Result<(), Fail> {
+    let folder = Folder::new(rt, "run_reads", ENV)?;
+    let runtime = PlayedRuntime::new(rt, folder.as_str(), Start::Ends(0));
+    for (words, input, reads) in [
+        ("[--list]", "B=2\nA=1\n", 2),
+        ("[--list]", "", 1),
+        // A load ends at its first fault, and doesn't look for the end.
+        ("[--list]", ".B\nA=1\n", 1),
+        ("[sh]", "B=2\n", 0),
+        ("[-h]", "B=2\n", 0),
+    ] {
+        let outcome = outcome_of(&runtime, words, input)?;
+        assert_eq!(rt; outcome.reads, reads, "{words} of {input:?}");
+    }
+    let _ = runtime.into_notes();
+    folder.remove()?;
+    Ok(())
+}
+
+#[test]
 fn words_that_are_refused(rt: HostRuntime) -> Result<(), Fail> {
     let folder = Folder::new(rt, "run_refused", ENV)?;
     let runtime = PlayedRuntime::new(rt, folder.as_str(), Start::Ends(0));
