@@ -18,7 +18,7 @@ use Rattle.env_layers.specs.Layers.{AddsLayer, after_load, rule_of}
 -- a load by the rule of the mode, whose answer decides what stands
 pub adds_by : {A : Type 0} (mode : Mode) (rule : Rule) (ahead : Option Ahead) (old loaded : Texts)
     (answer : Result (Unit {0}) (Error A)) → rule_of mode ≡ rule →
-        LoadsLeft rule (fresh ahead None V15) old answer loaded →
+    LoadsLeft rule (fresh ahead None V15) old answer loaded →
     AddsLayer mode ahead old answer (after_load old loaded answer)
 adds_by mode rule ahead old loaded answer is loads = record {
   loaded = loaded;
