@@ -25,6 +25,8 @@ mod processes;
 #[cfg(test)]
 mod refusals;
 #[cfg(test)]
+mod requests;
+#[cfg(test)]
 mod required;
 #[cfg(test)]
 mod searches;

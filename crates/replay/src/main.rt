@@ -2,16 +2,18 @@
 //! through the library, prints where an answer differs, and ends with status 1 where one does.
 #![tactic(auto)]
 
-ghost use Rattle.std.specs.Prelude.{◌≡◌, IfOk, not};
+ghost use Rattle.std.specs.Prelude.{◌≡◌, ◌||◌, IfOk, not};
 ghost use Rattle.replay.specs.Answers.{same_answers};
 
 mod answers;
 mod case;
+mod counts;
 mod reader;
 
 use answers::Answers;
 use anyhow::{Context, Result, bail};
 use case::Case;
+use counts::Counts;
 use dotenvy::Bytes;
 use reader::OneByteReads;
 use std::alloc::Global;
@@ -54,13 +56,37 @@ fn differs<R: AllocGlobal + Print>(
     Ok(!differences.is_empty())
 }
 
+/// Prints each answer that is not the recorded one, of whole reads and of reads of one byte, and
+/// tells whether there is one.
+fn differs_in_a_cut<R: AllocGlobal + Print>(
+    rt: &R,
+    case: &Case,
+    whole: &Answers,
+    by_byte: &Answers,
+) -> Result<bool>
+    ensures { IfOk result (λ told. told ≡ (not (same_answers case.now.answers whole.now)
+        || not (same_answers case.now.answers by_byte.now))) }
+{
+    let whole_differs = differs(rt, case, "whole reads", whole)?;
+    let by_byte_differs = differs(rt, case, "one byte a read", by_byte)?;
+    Ok(whole_differs || by_byte_differs)
+}
+
 /// Runs a case with whole reads and with reads of one byte, and tells whether an answer differs.
 fn replay<R: AllocGlobal + Print>(rt: &R, case: &Case) -> Result<bool> {
     let whole = Answers::of(rt.alloc(), case, Bytes::new)?;
     let by_byte = Answers::of(rt.alloc(), case, OneByteReads::new)?;
-    let whole_differs = differs(rt, case, "whole reads", &whole)?;
-    let by_byte_differs = differs(rt, case, "one byte a read", &by_byte)?;
-    Ok(whole_differs || by_byte_differs)
+    differs_in_a_cut(rt, case, &whole, &by_byte)
+}
+
+/// Replays each of the cases, and counts them.
+fn replay_all<R: AllocGlobal + Print>(rt: &R, cases: &[Case]) -> Result<Counts> {
+    let mut counts = Counts::new();
+    for case in cases {
+        let differs = replay(rt, case).context(format_args!("{}", case.name))?;
+        counts.add(case.dialect, differs);
+    }
+    Ok(counts)
 }
 
 /// Replays each case of the file, and tells whether all answers are the recorded ones.
@@ -68,14 +94,9 @@ fn run<R: AllocGlobal + Env + Files + Print>(rt: &R) -> Result<bool> {
     let name = file_name(rt)?;
     let text = fs::read_to_string(rt, name.as_str()).context(format_args!("reading {name}"))?;
     let cases = read_cases(rt.alloc(), text.as_str())?;
-    let mut differ = 0u64;
-    for case in &cases {
-        if replay(rt, case).context(format_args!("{}", case.name))? {
-            differ = differ.saturating_add(1);
-        }
-    }
-    println!(rt; "{} cases, {differ} differ", cases.len())?;
-    Ok(differ == 0)
+    let counts = replay_all(rt, &cases)?;
+    println!(rt; "{counts}")?;
+    Ok(counts.none_differs())
 }
 
 fn main(rt: HostRuntime) -> Result<ExitCode> {
@@ -84,23 +105,4 @@ fn main(rt: HostRuntime) -> Result<ExitCode> {
 }
 
 #[cfg(test)]
-mod tests {
-    use super::*;
-    use std::test::Fail;
-
-    #[test]
-    fn each_answer_counts(rt: HostRuntime) -> std::result::Result<(), Fail> {
-        for (answers, want) in [
-            ("P41:31\tok@41=31\tok@41=31\tok@413d2231220a", false),
-            ("P41:32\tok@41=31\tok@41=31\tok@413d2231220a", true),
-            ("P41:31\tok@\tok@41=31\tok@413d2231220a", true),
-            ("P41:31\tok@41=31\tL41:0@41=31\tok@413d2231220a", true),
-            ("P41:31\tok@41=31\tok@41=31\tok@", true),
-        ] {
-            let line = format!(in rt.alloc(); "name\tv15\t-\t413d310a\t{answers}")?;
-            let case = Case::parse(rt.alloc(), line.as_str())?;
-            assert_eq!(rt; replay(&rt, &case)?, want, "at {answers:?}");
-        }
-        Ok(())
-    }
-}
+mod tests;

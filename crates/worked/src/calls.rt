@@ -2,9 +2,9 @@
 
 use crate::shown::{environment, fault, pairs_of, state};
 use dotenvy::{
-    Dialect, Environment, Plain, Result, dotenv, dotenv_iter, dotenv_override, from_filename,
-    from_filename_iter, from_filename_override, from_filename_with, from_path, from_path_iter,
-    from_path_override, from_read, from_read_override, var, vars,
+    Dialect, Environment, Error, Plain, Result, dotenv, dotenv_iter, dotenv_override,
+    from_filename, from_filename_iter, from_filename_override, from_filename_with, from_path,
+    from_path_iter, from_path_override, from_read, from_read_override, var, vars,
 };
 use env_layers::Layers;
 use std::env::Env;
@@ -63,6 +63,26 @@ impl Call {
         };
         let state = state(alloc, &environment)?;
         Ok(format!(in alloc; "{answer}: {state}")?)
+    }
+
+    /// What the call's fault prints, and its system code: `TEXT, Some(2)`; or `ok`.
+    pub fn printed<R: Files + Env + AllocGlobal>(
+        self,
+        rt: &R,
+        file: &str,
+    ) -> std::result::Result<String, Fail> {
+        let alloc = rt.alloc();
+        let mut environment = Environment::new(alloc);
+        let error = match self.answer(rt, Path::new(file), &mut environment) {
+            Ok(_) => return Ok(String::from_str(alloc, "ok")?),
+            Err(error) => error,
+        };
+        let printed = error.to_string(alloc)?;
+        let code = match error {
+            Error::Io(fault) => fault.raw_os_error(),
+            _ => None,
+        };
+        Ok(format!(in alloc; "{printed}, {code:?}")?)
     }
 
     fn answer<R: Files + Env + AllocGlobal>(

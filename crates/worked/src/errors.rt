@@ -44,6 +44,33 @@ fn texts(rt: HostRuntime) -> Result<(), Fail> {
 }
 
 #[test]
+fn places_of_each_number_of_digits(rt: HostRuntime) -> Result<(), Fail> {
+    let alloc = rt.alloc();
+    for (index, digits) in [
+        (0, "0"),
+        (1, "1"),
+        (9, "9"),
+        (10, "10"),
+        (99, "99"),
+        (100, "100"),
+        (109, "109"),
+        (1_000, "1000"),
+        (12_345, "12345"),
+        (65_535, "65535"),
+        (65_536, "65536"),
+        (4_294_967_295, "4294967295"),
+        (4_294_967_296, "4294967296"),
+        (10_000_000_000_000_000_000, "10000000000000000000"),
+        (usize::MAX, "18446744073709551615"),
+    ] {
+        let error: Error = Error::LineParse(String::from_str(alloc, "a b")?, index);
+        let want = format!(in alloc; "Error parsing line: 'a b', error at line index: {digits}")?;
+        assert_eq!(rt; error.to_string(alloc)?.as_str(), want.as_str());
+    }
+    Ok(())
+}
+
+#[test]
 fn a_fault_inside_prints_as_itself(rt: HostRuntime) -> Result<(), Fail> {
     let alloc = rt.alloc();
     let want = io::Error::from(ErrorKind::PermissionDenied).to_string(alloc)?;

@@ -165,3 +165,80 @@ fn bytes_that_are_no_whole_mark_are_a_line(rt: HostRuntime) -> Result<(), Fail> 
     );
     Ok(())
 }
+
+#[test]
+fn a_reader_without_memory_is_no_refused_memory(rt: HostRuntime) -> Result<(), Fail> {
+    let alloc = rt.alloc();
+    let environment = Environment::new(alloc);
+    for (file, items, loads) in [
+        ("", "", ""),
+        ("A=1\n", "A=1; ", "A=1"),
+        ("A=1\nB=", "A=1; ", "A=1"),
+    ] {
+        let read = || PlayedReader::failing(alloc, file.as_bytes(), ErrorKind::OutOfMemory);
+        let want = format!(in alloc; "{items}io OutOfMemory")?;
+        for dialect in [Dialect::V15, Dialect::Next] {
+            let got = items_of(alloc, &environment, read()?, dialect)?;
+            assert_eq!(rt; got.as_str(), want.as_str(), "at {file:?}");
+        }
+        let want = format!(in alloc; "io OutOfMemory: {loads} | io OutOfMemory: {loads}")?;
+        assert_eq!(rt;
+            loads_over(alloc, &[], read)?.as_str(),
+            want.as_str(),
+            "at {file:?}"
+        );
+    }
+    Ok(())
+}
+
+/// These bytes in pieces of this size, with an interruption before each and before the end.
+fn interrupted_pieces<'a>(
+    alloc: Global,
+    bytes: &'a [u8],
+    size: usize,
+) -> Result<PlayedReader<'a>, AllocError> {
+    let mut steps = Vec::new(alloc);
+    for piece in bytes.chunks(size.max(1)) {
+        steps.push(Step::Fail(ErrorKind::Interrupted))?;
+        steps.push(Step::Give(piece))?;
+    }
+    steps.push(Step::Fail(ErrorKind::Interrupted))?;
+    Ok(PlayedReader::new(steps))
+}
+
+#[test]
+fn a_long_line_with_interruptions_is_read_whole(rt: HostRuntime) -> Result<(), Fail> {
+    let alloc = rt.alloc();
+    let environment = Environment::new(alloc);
+    let letters = "a".repeat(alloc, 30_000)?;
+    let lines = "ab\n".repeat(alloc, 10_000)?;
+    for (value, quote, end) in [
+        (letters.as_str(), "", "\nL=1\n"),
+        (letters.as_str(), "", ""),
+        (lines.as_str(), "'", "\nL=1\n"),
+        (lines.as_str(), "\"", ""),
+    ] {
+        let file = format!(in alloc; "K={quote}{value}{quote}{end}")?;
+        let (separated, listed) = if end.is_empty() {
+            ("", "")
+        } else {
+            ("; L=1", ", L=1")
+        };
+        let items = format!(in alloc; "K={value}{separated}")?;
+        let loads = format!(in alloc; "ok: K={value}{listed} | ok: K={value}{listed}")?;
+        for size in [1_000usize, 5_000, 8_192, 20_000] {
+            let read = || interrupted_pieces(alloc, file.as_bytes(), size);
+            let got = items_of(alloc, &environment, read()?, Dialect::V15)?;
+            assert!(rt;
+                got.as_str() == items.as_str(),
+                "items in pieces of {size} bytes"
+            );
+            let got = loads_over(alloc, &[], read)?;
+            assert!(rt;
+                got.as_str() == loads.as_str(),
+                "loads in pieces of {size} bytes"
+            );
+        }
+    }
+    Ok(())
+}

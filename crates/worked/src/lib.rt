@@ -19,6 +19,8 @@ mod failing_readers;
 #[cfg(test)]
 mod failing_writers;
 #[cfg(test)]
+mod faults_of_std;
+#[cfg(test)]
 mod files;
 #[cfg(test)]
 mod first_use;
@@ -43,6 +45,8 @@ mod processes;
 #[cfg(test)]
 mod reader;
 #[cfg(test)]
+mod reads;
+#[cfg(test)]
 mod recorded;
 #[cfg(test)]
 mod runtime;
@@ -50,6 +54,8 @@ mod runtime;
 mod searches;
 #[cfg(test)]
 mod shown;
+#[cfg(test)]
+mod sizes;
 #[cfg(test)]
 mod statements;
 #[cfg(test)]
