@@ -19,7 +19,8 @@ left_of true ahead unread = Some (record { bytes = unread; fault = None })
 left_of false None unread = None
 left_of false (Some a) unread = Some (record { bytes = unread ++ a.bytes; fault = a.fault })
 
--- what is left to use; how many bytes of it were read already; how many reads may still be made; whether the end was read; the calls that the source tells
+-- what is left to use; how many bytes of it were read already; how many reads may still be made;
+-- whether the end was read; the calls that the source tells
 pub record InputState : Type 0 where
   pub left : Option Ahead
   pub unread : ℕ
@@ -145,14 +146,16 @@ abbrev pub DropsMark : {A : Type 0} → Ahead → InputState → Result (Unit {0
 DropsMark a s (Ok _) t = (t.left ≡ Some (record { bytes = without_mark a.bytes; fault = a.fault })) × ReadsFit a s (record { bytes = without_mark a.bytes; fault = a.fault }) t
 DropsMark a s (Err e) t = IsFinal a s (λ bytes. begins_mark bytes ≡ true) e t
 
--- the reads that were made on the way from s to t: each counts, also one that was interrupted; each asks for 8,192 bytes at most; none follows the end, or a fault that is no interruption
+-- the reads that were made on the way from s to t: each counts, also one that was interrupted; each
+-- asks for 8,192 bytes at most; none follows the end, or a fault that is no interruption
 pub record MakesReads (s t : InputState) (made : List Call) : Type 0 where
   pub counted : length made + t.reads ≡ s.reads
   pub small : AllByRecursion (λ call. call.len ≤ 8192) made
   pub in_turn : OnlyLastEnds made
   pub ended : s.at_end ≡ true → (made ≡ []) × (t.at_end ≡ true)
 
--- where the source tells its calls, these were made; where reading goes on, and the end was not read, more may follow
+-- where the source tells its calls, these were made; where reading goes on, and the end was not
+-- read, more may follow
 abbrev pub AsksReads : Type 0 → InputState → InputState → Type 0
 AsksReads goes_on s t =
     (all : List Call) → t.calls ≡ Some all →

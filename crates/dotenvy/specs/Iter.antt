@@ -20,7 +20,8 @@ abbrev pub iter_code : Coded IterState
 iter_code =
     code_by (LinesState × (Remembered × Dialect)) (coded× lines_code (coded× (fin.code (coded_list coded_ℕ) (coded_option (coded_list coded_ℕ))) dialect.the_row.coded)) (λ s. (s.lines, (s.remembered, s.dialect))) (λ p. record { lines = p.0; remembered = p.1.0; dialect = p.1.1 }) (λ _. refl)
 
--- nothing was read of what a source tells, and nothing is remembered; these are the calls on it so far, if it tells them
+-- nothing was read of what a source tells, and nothing is remembered; these are the calls on it so
+-- far, if it tells them
 abbrev pub fresh : Option Ahead → Option (List Call) → Dialect → IterState
 fresh ahead calls dialect = record {
   lines = record {

@@ -26,11 +26,14 @@ pub record StopsAtMemory (entries read : List Entry) : Type 0 where
   pub cut : entries ≡ front ++ back
   pub ends : read ≡ front ++ Fails Memory ∷ []
 
--- so many bytes can be read for certain: one by each read that may still be made, one more by that of the end, and those that were read already
+-- so many bytes can be read for certain: one by each read that may still be made, one more by that
+-- of the end, and those that were read already
 abbrev pub certain_bytes : InputState → ℕ
 certain_bytes s = s.reads + s.unread + end_reads s.at_end
 
--- a reading of a, of which so many bytes can be read for certain, without a byte order mark at its front, stops at the bound on reads: after the entries that the bytes read so far decide, where each read gave a byte at least
+-- a reading of a, of which so many bytes can be read for certain, without a byte order mark at its
+-- front, stops at the bound on reads: after the entries that the bytes read so far decide, where
+-- each read gave a byte at least
 pub record StopsAtBound (dialect : Dialect) (a : Ahead) (certain : ℕ) (read : List Entry) : Type 0 where
   pub bytes : List ℕ
   pub later : List ℕ

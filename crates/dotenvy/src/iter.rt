@@ -225,6 +225,7 @@ impl<'a, R: Source, A: Allocator + Clone> Iterator for Items<'a, R, A> {
     type Item = Result<(String<A>, String<A>), A>;
 
     ghost next_gives = { λ s item t. NextItem s.env.now.names s.file.now item t.file.now
+        × AsksReads (t.file.now.lines.stage ≡ Open) s.file.now.lines.input t.file.now.lines.input
         × (t.file.ghost_name ≡ s.file.ghost_name) × (t.env.now ≡ s.env.now) × GivesName item };
 
     ghost remaining = { λ s. at_most (item_fuel s.file.now) };
