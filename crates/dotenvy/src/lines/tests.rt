@@ -154,6 +154,14 @@ fn faults_and_bound(rt: HostRuntime) -> std::result::Result<(), Fail> {
     assert_eq!(rt; listed(alloc, &mut bounded)?.as_str(), "[A]<Other>");
     let mut enough = QuotedLines::with_limit(alloc, Bytes::new(b"A\nB"), 2);
     assert_eq!(rt; listed(alloc, &mut enough)?.as_str(), "[A][B]");
+    let interrupted = Pieces {
+        rest: b"A\n",
+        size: 4,
+        is_interrupted: false,
+        fault: Some(ErrorKind::Interrupted),
+    };
+    let mut waiting = QuotedLines::with_limit(alloc, interrupted, 1_000);
+    assert_eq!(rt; listed(alloc, &mut waiting)?.as_str(), "[A]<Other>");
 
     let mut failed = QuotedLines::new(alloc, Bytes::new(b"A"));
     failed.fail();
