@@ -162,6 +162,7 @@ sends_all held last_fault calls most old new bytes rest count s empty few = reco
   cut = s.cut;
   appended = s.appended;
   whole = empty;
+  unsent = tt;
   fault = tt;
   asks = λ all is. (let m = s.made all is in (
     m.0,
@@ -181,14 +182,15 @@ sends_all held last_fault calls most old new bytes rest count s empty few = reco
 pub sends_none_left : {A W : Type 0} (held : W → Option (List ℕ)) (last_fault : W → Option ErrorKind) (calls : W →
     Option (List Call)) (most : ℕ) (old new : W) (bytes rest : List ℕ) (count : ℕ) (e : Error) →
     Sending (held old) (held new) (last_fault old) (last_fault new) (calls old) (calls new) bytes rest count →
-    count ≡ most → error_kind e ≡ Other →
+    count ≡ most → rest ≢ [] → error_kind e ≡ Other →
     Sends {A = A} held last_fault calls most old new bytes (Err (Io e))
-sends_none_left held last_fault calls most old new bytes rest count e s all other = record {
+sends_none_left held last_fault calls most old new bytes rest count e s all some other = record {
   front = s.front;
   rest = rest;
   cut = s.cut;
   appended = s.appended;
   whole = tt;
+  unsent = some;
   fault = λ none. inr (
     other,
     elim (s.taken none) [
@@ -215,16 +217,17 @@ sends_none_left held last_fault calls most old new bytes rest count e s all othe
 sends_fault : {A W : Type 0} (held : W → Option (List ℕ)) (last_fault : W → Option ErrorKind) (calls : W →
     Option (List Call)) (most : ℕ) (old mid new : W) (bytes rest : List ℕ) (count : ℕ) (call : Call) (e : Error) →
     (s : Sending (held old) (held mid) (last_fault old) (last_fault mid) (calls old)
-    (calls mid) bytes rest count) → count < most →
+    (calls mid) bytes rest count) → count < most → rest ≢ [] →
     Appended (held old) (held new) s.front → TellsCall (calls mid) (calls new) call → IsFaultOf call.answer e →
     IsLastFault (last_fault new) e →
     Sends {A = A} held last_fault calls most old new bytes (Err (Io e))
-sends_fault held last_fault calls most old mid new bytes rest count call e s few appended tells fault last = record {
+sends_fault held last_fault calls most old mid new bytes rest count call e s few some appended tells fault last = record {
   front = s.front;
   rest = rest;
   cut = s.cut;
   appended = appended;
   whole = tt;
+  unsent = some;
   fault = λ none. inl last;
   asks = λ all is. (let told = tells all is in let m = s.made told.0 told.1 in (
     m.0,
@@ -249,7 +252,7 @@ pub sends_failed : {A W : Type 0} (held : W → Option (List ℕ)) (last_fault :
     TellsCall (calls mid) (calls new) (call_of (length rest) (Err e)) → rest ≢ [] → error_kind e ≢ Interrupted →
     Sends {A = A} held last_fault calls most old new bytes (Err (Io e))
 sends_failed held last_fault calls most old mid new bytes rest count e s few write told tells some differs =
-    sends_fault held last_fault calls most old mid new bytes rest count (call_of (length rest) (Err e)) e s few
+    sends_fault held last_fault calls most old mid new bytes rest count (call_of (length rest) (Err e)) e s few some
     (appended_same (held old) (held mid) (held new) s.front rest e s.appended write) tells (differs, refl)
     (told ∙ fault_told (last_fault mid) rest e some, differs)
 
@@ -267,7 +270,7 @@ pub sends_zero : {A W : Type 0} (held : W → Option (List ℕ)) (last_fault : W
     Sends {A = A} held last_fault calls most old new bytes (Err (Io e))
 sends_zero held last_fault calls most old mid new bytes rest count e s few write told tells some kind =
     let appended = appended_more (held old) (held mid) (held new) s.front rest 0 s.appended write in
-    sends_fault held last_fault calls most old mid new bytes rest count (call_of (length rest) (Ok 0)) e s few
+    sends_fault held last_fault calls most old mid new bytes rest count (call_of (length rest) (Ok 0)) e s few some
     (subst (Appended (held old) (held new)) (append-nil s.front) appended) tells (refl, kind) (
       told ∙ zero_told (last_fault mid) rest some
           ∙ ap Some (sym kind),

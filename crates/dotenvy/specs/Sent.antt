@@ -1,5 +1,5 @@
 -- What a call that writes has appended to its sink, and which errors it answers.
-use Rattle.std.specs.Prelude.{ℕ, ◌≡◌, ◌≤◌, ◌^◌, ◌≢◌, ◌⊎◌, List, [], ◌∷◌, ◌++◌, length, Option, Some, None, Result, Ok, Err, IfErr, OnOk, IsErrAnd}
+use Rattle.std.specs.Prelude.{ℕ, ◌≡◌, ◌≤◌, ◌^◌, ◌≢◌, ◌⊎◌, List, [], ◌∷◌, ◌++◌, length, Option, Some, None, Result, Ok, Err, IfErr, OnOk, OnErr, IsErrAnd}
 use Rattle.std.specs.IoError.{error_kind}
 use Rattle.std.specs.declared.io.Error.{Error as IoError}
 use Rattle.std.specs.declared.io.ErrorKind.{ErrorKind}
@@ -60,7 +60,7 @@ AsksWrites most before after answer =
     × MakesWrites most made answer
 
 -- the bytes are sent to a sink, in so many writes at most: whole where the answer is Ok, and else a
--- front of them
+-- front of them that leaves some
 pub record Sends {A W : Type 0} (held : W → Option (List ℕ)) (last_fault : W → Option ErrorKind)
     (calls : W → Option (List Call)) (most : ℕ) (old new : W) (bytes : List ℕ)
     (answer : Result (Unit {0}) (Error A)) : Type 0 where
@@ -69,6 +69,7 @@ pub record Sends {A W : Type 0} (held : W → Option (List ℕ)) (last_fault : W
   pub cut : bytes ≡ front ++ rest
   pub appended : Appended (held old) (held new) front
   pub whole : OnOk answer (rest ≡ [])
+  pub unsent : OnErr answer (rest ≢ [])
   pub fault : IfErr answer
       (IsIoOf (IsWriteFault most (length front) (last_fault old) (last_fault new)))
   pub asks : AsksWrites most (calls old) (calls new) answer

@@ -86,7 +86,8 @@ pub returns-else-is_empty-2 : goal.returns-else-is_empty-2
 returns-else-is_empty-2 g c =
     let within = c.writes.auto.counter-end in
     let ended = c.writes-test.false in
-    sends_none_left {A =
-    g.row.A.Denot} g.W.Sink.held g.W.Sink.last_fault g.W.Sink.calls c.args.writes_left c.args.writer.now
-    c.writes.writer c.args.bytes.now c.writes.rest.now c.writes.counter c.other.result c.writes.invariant
-    (omega (arith, within, ended)) c.other.ensures.kind
+    let some = tested_some c.writes.rest.now (length c.writes.rest.now) c.is_empty-2.result c.is_empty-2.ensures refl
+    c.if-is_empty-2.false in
+    sends_none_left {A = g.row.A.Denot} g.W.Sink.held g.W.Sink.last_fault g.W.Sink.calls c.args.writes_left
+    c.args.writer.now c.writes.writer c.args.bytes.now c.writes.rest.now c.writes.counter c.other.result c.writes.invariant
+    (omega (arith, within, ended)) some.1 c.other.ensures.kind

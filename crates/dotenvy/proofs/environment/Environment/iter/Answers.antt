@@ -1,5 +1,5 @@
-use Rattle.std.proofs.Common.{rules, sym}
-use Rattle.dotenvy.specs.Environment.{env_of}
+use Rattle.std.proofs.Common.{rules, subst, sym}
+use Rattle.dotenvy.specs.Environment.{IsEnvironment, env_of}
 use Rattle.dotenvy.proofs.TextMaps.{entries-strings}
 use Rattle.dotenvy.proofs.EnvironmentTexts.{listed_texts}
 use Rattle.dotenvy.proofs.GoodPairs.{good_entries}
@@ -9,6 +9,9 @@ pub invariant_of-result : goal.invariant_of-result
 invariant_of-result g c =
     rw (c.iter-pairs.ensures.rest, ← entries-strings _ c.iter-pairs.ensures.ordered)
     (good_entries (env_of c.self.inside.entries.entries c.self.inside.loaded) c.self.invariant)
+
+pub returns-clause-good : goal.returns-clause-good
+returns-clause-good g c = subst IsEnvironment c.self.view_is c.self.invariant
 
 pub returns-clause-texts : goal.returns-clause-texts
 returns-clause-texts g c =
