@@ -1,6 +1,6 @@
 -- Facts on tests, options and codes that many proofs use.
 use Rattle.std.proofs.Common.{◌≡◌, ◌≢◌, ℕ, ◌<◌, List, [], ◌∷◌, length, ap, sym, ◌∙◌, Bool, true, false, cond, ◌&&◌, ◌||◌, not, Option, Some, refl, arith}
-use Rattle.std.specs.Prelude.{◌==◌}
+use Rattle.std.specs.Prelude.{◌==◌, IfOk, Result, Ok, Err}
 use Rattle.std.proofs.lemmas.Bool.Decides.{nat_tests}
 
 pub and_left : (a b : Bool) → (a && b) ≡ true → a ≡ true
@@ -64,3 +64,8 @@ pub tested_some : (xs : List ℕ) (n : ℕ) (b : Bool) → b ≡ (n == 0) → n 
 tested_some xs n b test len is =
     let some : 0 < n = (let t : (n == 0) ≡ false = sym test ∙ is in grind (arith, nat_tests, t)) in
     (some, λ h. let l = ap length h in omega (arith, some, len, l))
+
+-- a weaker fact of the value, if there is one
+pub ok-weaker : {T E : Type 0} (P Q : T → Type 0) (r : Result T E) → ((x : T) → P x → Q x) → IfOk r P → IfOk r Q
+ok-weaker P Q (Ok x) f h = f x h
+ok-weaker P Q (Err e) f h = tt

@@ -1,15 +1,17 @@
 -- Reads, and the first lines of bytes.
-use Rattle.std.proofs.Common.{◌≡◌, ℕ, suc, ◌+◌, ◌<◌, ◌≤◌, Bool, true, false, cond, not, ◌&&◌, List, [], ◌∷◌, ◌++◌, length, take, drop, refl, sym, ◌∙◌, ap, subst, inl, inr, append-nil, append_assoc, ◌⊎◌, arith, nat_lt, position, length-append, length-drop}
+use Rattle.std.proofs.Common.{◌≡◌, ℕ, suc, ◌+◌, ◌<◌, ◌≤◌, Bool, true, false, cond, not, ◌&&◌, List, [], ◌∷◌, ◌++◌, length, take, drop, refl, sym, ◌∙◌, ap, subst, inl, inr, append-nil, append_assoc, ◌⊎◌, arith, nat_lt, position, length-append, length-drop, get_or}
 use Rattle.std.specs.Prelude.{Option, Some, None, unwrap_or, ◌==◌}
 use Rattle.std.specs.IoError.{error_kind}
 use Rattle.std.proofs.Math.Seq.{take-append_seam}
 use Rattle.std.proofs.lemmas.Option.{none-some}
 use Rattle.std.specs.List.{position_or_len}
+use Rattle.memchr.specs.Find.{IsFirstByte, is_byte}
+use Rattle.std.proofs.lemmas.List.Sums.{position_or_len_is}
 use Rattle.std.proofs.lemmas.Grind.{common_steps}
 use Rattle.std.proofs.lemmas.Bool.{ltb-true, ltb-false}
 use Rattle.std.proofs.lemmas.Bool.Decides.{nat_tests}
-use Rattle.std.proofs.lemmas.List.{take-append-drop, drop-append-le, take-take, take_all, length-take-le}
-use Rattle.std.specs.Prelude.{nat_eq, MatchOption, MatchBool, is_some}
+use Rattle.std.proofs.lemmas.List.{take-append-drop, take-take, take_all, length-take-le}
+use Rattle.std.specs.Prelude.{nat_eq, MatchBool}
 use Rattle.std.specs.List.{starts_with}
 use lib.Pointwise.{pointwise}
 use Rattle.std.specs.declared.io.ErrorKind.{ErrorKind}
@@ -22,7 +24,7 @@ use Rattle.dotenvy.specs.Marks.{byte_order_mark, without_mark}
 use Rattle.dotenvy.specs.Source.{Ahead}
 use Rattle.dotenvy.proofs.Basics.{and_left, and_right}
 use Rattle.dotenvy.specs.Errors.{IsMemory, IsIoOf}
-use Rattle.dotenvy.specs.Input.{InputState, left_of, IsTold, IsAllRead, ReadsFit, IsReadFault, IsFinal, FaultIsNext, Takes, end_reads, drop_left, used_up, MovesLine, TakesLine, begins_mark}
+use Rattle.dotenvy.specs.Input.{InputState, left_of, IsTold, IsAllRead, ReadsFit, IsReadFault, IsFinal, FaultIsNext, Takes, end_reads, drop_left, used_up, IsLinePiece, MovesLine, TakesLine, begins_mark}
 
 abbrev is_lf : ℕ → Bool
 is_lf b = b == 10
@@ -67,6 +69,33 @@ none_at xs false t e = ltb-false _ _ t
 
 pub line_not_found : (xs : List ℕ) → position is_lf xs ≡ None → no_line_feed xs ≡ true
 line_not_found xs e = no_place xs (none_at xs _ refl e)
+
+-- the first byte that is found is the first line feed
+not_passed : (p : ℕ → Bool) (x : ℕ) → ¬ (p x ≡ true) → p x ≡ false
+not_passed p x h = at (p x) h
+  where
+    at : (b : Bool) → ¬ (b ≡ true) → b ≡ false
+    at true e = absurd (e refl)
+    at false e = refl
+
+pub found-place : (bytes : List ℕ) (found : Option ℕ) → IsFirstByte (is_byte 10) bytes found → found ≡ position is_lf bytes
+found-place bytes None none =
+    let all = position_or_len_is is_lf bytes (length bytes) 0 (omega arith)
+    (λ k below. not_passed is_lf (get_or bytes k 0) (none k (omega arith) below)) (λ h. absurd (omega (arith, h))) in
+    sym (ap (λ k. cond (nat_lt k (length bytes)) (Some k) None) all ∙ when (nat_lt (length bytes) (length bytes)) (grind (arith, nat_tests)))
+  where
+    when : (b : Bool) → b ≡ false → cond b (Some (length bytes)) None ≡ None
+    when true e = cc
+    when false e = refl
+found-place bytes (Some n) (before, here) =
+    let high = before.high in
+    let at = position_or_len_is is_lf bytes n 0 (omega (arith, high))
+    (λ k below. not_passed is_lf (get_or bytes k 0) (before.before k (omega arith) below)) (λ h. here) in
+    sym (ap (λ k. cond (nat_lt k (length bytes)) (Some k) None) at ∙ when (nat_lt n (length bytes)) (grind (arith, nat_tests, high)))
+  where
+    when : (b : Bool) → b ≡ true → cond b (Some n) None ≡ Some n
+    when true e = refl
+    when false e = cc
 
 -- what is told, from its parts
 abbrev pub ahead_of : List ℕ → Option ErrorKind → Ahead
@@ -125,18 +154,20 @@ left_at false after a b unread some later bytes fault cut left ends =
     ap (λ o. left_of false o (unread ++ some)) left ∙ same_ahead a ((unread ++ some) ++ later) b.fault (append_assoc unread some later ∙ ap (λ l. unread ++ l) (sym cut) ∙ sym bytes) (sym fault)
 
 -- a read that gives something, or the end
-pub read_more_gives : (s t : InputState) (e at_end : Bool) (o after : Option Ahead) (unread old new : List ℕ) (used : ℕ) (a : Ahead) → e ≡ false → s.at_end ≡ e → t.at_end ≡ at_end → length unread ≡ s.unread → used ≤ length old → drop used old ≡ unread → t.unread + used ≡ length new → s.reads ≡ t.reads + 1 →
-    t.left ≡ left_of at_end after (drop used new) → IsTold (left_of e o unread) a → ((b : Ahead) → IsTold o b → Takes b old at_end after new) → (t.left ≡ Some a) × ReadsFit a s a t
-read_more_gives s t e at_end o after unread old new used a h se te n within cut size reads left told once =
-    let b = told_next e o unread a h told in
+pub read_more_gives : (s t : InputState) (e at_end : Bool) (o after : Option Ahead) (old new : List ℕ) (a : Ahead) →
+    e ≡ false → s.at_end ≡ e → t.at_end ≡ at_end → length old ≡ s.unread → t.unread ≡ length new →
+    s.reads ≡ t.reads + 1 → t.left ≡ left_of at_end after new → IsTold (left_of e o old) a →
+    ((b : Ahead) → IsTold o b → Takes b old at_end after new) → (t.left ≡ Some a) × ReadsFit a s a t
+read_more_gives s t e at_end o after old new a h se te n size reads left told once =
+    let b = told_next e o old a h told in
     let k = once b.next b.is_told in
-    let now : drop used new ≡ unread ++ k.some = ap (drop used) k.appends ∙ drop-append-le used old k.some within ∙ ap (λ l. l ++ k.some) cut in
     let long = k.goes_on in
     let none : end_reads s.at_end ≡ 0 = ap end_reads (se ∙ h) in
     let ends = ap end_reads te in
-    let lens : length new ≡ used + length unread + length k.some = let l = ap length k.appends in let d = ap length cut in omega (arith, l, d, within, length-drop used old, length-append old k.some) in (
-      left ∙ ap (left_of at_end after) now ∙ left_at at_end after a b.next unread k.some k.later b.bytes b.fault k.cut k.left k.ends,
-      omega (arith, long, none, ends, n, size, reads, lens),
+    let lens = ap length k.appends in (
+      left ∙ ap (left_of at_end after) k.appends
+          ∙ left_at at_end after a b.next old k.some k.later b.bytes b.fault k.cut k.left k.ends,
+      omega (arith, long, none, ends, n, size, reads, lens, length-append old k.some),
     )
 
 -- a line that is being read: no line feed was met
@@ -150,7 +181,7 @@ pub record Reading (a : Ahead) (s : InputState) (line : List ℕ) (t : InputStat
 pub reading_start : (a : Ahead) (s : InputState) → IsTold s.left a → Reading a s [] s
 reading_start a s told = record { left = a.bytes; joins = refl; is_left = told.0; none = refl; reads = omega arith }
 
-whole_after : (xs line : List ℕ) → no_line_feed xs ≡ true → is_whole_line line ≡ true → is_whole_line (xs ++ line) ≡ true
+pub whole_after : (xs line : List ℕ) → no_line_feed xs ≡ true → is_whole_line line ≡ true → is_whole_line (xs ++ line) ≡ true
 whole_after [] line h w = w
 whole_after (x ∷ xs) line h w = whole_cons x (xs ++ line) (not_both (x == line_feed) (no_line_feed xs) h) (whole_after xs line (and_right (not (x == line_feed)) (no_line_feed xs) h) w)
   where
@@ -158,40 +189,48 @@ whole_after (x ∷ xs) line h w = whole_cons x (xs ++ line) (not_both (x == line
     not_both true c h = let f : false ≡ true = h in cc
     not_both false c h = refl
 
-none_after : (xs ys : List ℕ) → no_line_feed xs ≡ true → no_line_feed ys ≡ true → no_line_feed (xs ++ ys) ≡ true
+pub none_after : (xs ys : List ℕ) → no_line_feed xs ≡ true → no_line_feed ys ≡ true → no_line_feed (xs ++ ys) ≡ true
 none_after [] ys h k = k
 none_after (x ∷ xs) ys h k = ap (λ b. b && no_line_feed (xs ++ ys)) (and_left (not (x == line_feed)) (no_line_feed xs) h) ∙ none_after xs ys (and_right (not (x == line_feed)) (no_line_feed xs) h) k
 
-fits_moved : (a : Ahead) (s t v : InputState) (moved left now : List ℕ) → now ≡ moved ++ left → v.unread + length moved ≡ t.unread → v.reads ≡ t.reads → v.at_end ≡ t.at_end → ReadsFit a s (ahead_of now a.fault) t → ReadsFit a s (ahead_of left a.fault) v
+pub fits_moved : (a : Ahead) (s t v : InputState) (moved left now : List ℕ) → now ≡ moved ++ left → v.unread + length moved ≡ t.unread → v.reads ≡ t.reads → v.at_end ≡ t.at_end → ReadsFit a s (ahead_of now a.fault) t → ReadsFit a s (ahead_of left a.fault) v
 fits_moved a s t v moved left now cut unread reads ends fits =
     let l = ap length cut in
     let e = ap end_reads ends in
     omega (arith, fits, l, e, unread, reads, length-append moved left)
 
-pub reading_moves : (a : Ahead) (s t v : InputState) (line new : List ℕ) (whole : Bool) → whole ≡ false → Reading a s line t → ((b : Ahead) → t.left ≡ Some b → MovesLine b t line whole new v) → Reading a s new v × (v.unread ≡ 0)
-reading_moves a s t v line new true h r move = let f : true ≡ false = h in cc
-reading_moves a s t v line new false h r move =
+pub reading_moves : (a : Ahead) (s t v : InputState) (line : List ℕ) (whole : Bool) → whole ≡ false →
+    Reading a s line t → ((b : Ahead) → t.left ≡ Some b → MovesLine b t whole v) →
+    (new : List ℕ) × Reading a s new v × (v.unread ≡ 0)
+reading_moves a s t v line true h r move = let f : true ≡ false = h in cc
+reading_moves a s t v line false h r move =
     let m = move (ahead_of r.left a.fault) r.is_left in (
+      line ++ m.some,
       record {
         left = m.left;
-        joins = r.joins ∙ ap (λ l. line ++ l) m.joins ∙ sym (append_assoc line m.some m.left) ∙ ap (λ l. l ++ m.left) (sym m.appends);
+        joins = r.joins ∙ ap (λ l. line ++ l) m.joins ∙ sym (append_assoc line m.some m.left);
         is_left = m.is_left;
-        none = ap no_line_feed m.appends ∙ none_after line m.some r.none m.is_line.0;
+        none = none_after line m.some r.none m.is_line.0;
         reads = fits_moved a s t v m.some m.left r.left m.joins m.unread m.reads m.at_end r.reads;
       },
       m.is_line.1,
     )
 
-pub reading_whole : (a : Ahead) (s t v : InputState) (line new : List ℕ) (whole : Bool) → whole ≡ true → Reading a s line t → ((b : Ahead) → t.left ≡ Some b → MovesLine b t line whole new v) → TakesLine a s new v
-reading_whole a s t v line new false h r move = let f : false ≡ true = h in cc
-reading_whole a s t v line new true h r move =
-    let m = move (ahead_of r.left a.fault) r.is_left in record {
-      left = m.left;
-      joins = r.joins ∙ ap (λ l. line ++ l) m.joins ∙ sym (append_assoc line m.some m.left) ∙ ap (λ l. l ++ m.left) (sym m.appends);
-      is_left = m.is_left;
-      is_line = inl (ap is_whole_line m.appends ∙ whole_after line m.some r.none m.is_line);
-      reads = fits_moved a s t v m.some m.left r.left m.joins m.unread m.reads m.at_end r.reads;
-    }
+pub reading_whole : (a : Ahead) (s t v : InputState) (line : List ℕ) (whole : Bool) → whole ≡ true →
+    Reading a s line t → ((b : Ahead) → t.left ≡ Some b → MovesLine b t whole v) →
+    (new : List ℕ) × TakesLine a s new v
+reading_whole a s t v line false h r move = let f : false ≡ true = h in cc
+reading_whole a s t v line true h r move =
+    let m = move (ahead_of r.left a.fault) r.is_left in (
+      line ++ m.some,
+      record {
+        left = m.left;
+        joins = r.joins ∙ ap (λ l. line ++ l) m.joins ∙ sym (append_assoc line m.some m.left);
+        is_left = m.is_left;
+        is_line = inl (whole_after line m.some r.none m.is_line);
+        reads = fits_moved a s t v m.some m.left r.left m.joins m.unread m.reads m.at_end r.reads;
+      },
+    )
 
 empty_of : (xs : List ℕ) → length xs ≡ 0 → xs ≡ []
 empty_of [] h = refl
@@ -251,36 +290,27 @@ reading_fails a s t v line e told r zero fails =
     (λ kind front later cut why none. ap no_line_feed (ap (λ l. line ++ l) (empty_of front (none ∙ zero)) ∙ append-nil line) ∙ r.none)
     (fails b (reading_told a s t line told r))
 
--- a move of unread bytes
-pub moves_line : (a : Ahead) (s t : InputState) (unread old new : List ℕ) (n : ℕ) (whole : Option ℕ) → s.left ≡ Some a → unread ≡ take s.unread a.bytes → length unread ≡ s.unread → n ≡ unwrap_or whole (length unread) → MatchOption whole (no_line_feed unread ≡ true) (λ k. (k ≤ length unread) × (is_whole_line (take k unread) ≡ true)) → new ≡ old ++ take n unread → t ≡ used_up n s → MovesLine a s old (is_some whole) new t
-moves_line a s t unread old new n whole left u len count line appends after = record {
-  some = take n unread;
-  left = drop n a.bytes;
-  appends = appends;
-  joins = sym (take-append-drop n a.bytes) ∙ ap (λ l. l ++ drop n a.bytes) (sym front);
-  is_left = ap (λ v. v.left) after ∙ ap (drop_left n) left;
-  is_line = lines whole count line;
-  unread = let v = ap (λ v. v.unread) after in let l = length-take-le n unread within in omega (arith, v, l, len, within);
-  reads = ap (λ v. v.reads) after;
-  at_end = ap (λ v. v.at_end) after;
-}
+-- a piece of a line that is used
+pub moves_line : (a : Ahead) (s t : InputState) (piece : List ℕ) (whole : Bool) → s.left ≡ Some a →
+    IsLinePiece s piece whole → t ≡ used_up (length piece) s → MovesLine a s whole t
+moves_line a s t piece whole left is after =
+    let unread = ap (λ v. v.unread) after in
+    let within = is.within in record {
+      some = piece;
+      left = drop (length piece) a.bytes;
+      joins = sym (take-append-drop (length piece) a.bytes)
+          ∙ ap (λ l. l ++ drop (length piece) a.bytes) (sym (is.told a left));
+      is_left = ap (λ v. v.left) after ∙ ap (drop_left (length piece)) left;
+      is_line = lines whole is.is_line;
+      unread = omega (arith, unread, within);
+      reads = ap (λ v. v.reads) after;
+      at_end = ap (λ v. v.at_end) after;
+    }
   where
-    within_at : (w : Option ℕ) → n ≡ unwrap_or w (length unread) → MatchOption w (no_line_feed unread ≡ true) (λ k. (k ≤ length unread) × (is_whole_line (take k unread) ≡ true)) → n ≤ length unread
-    within_at None e h = omega (arith, e)
-    within_at (Some k) e h = let w = h.0 in omega (arith, e, w)
-
-    within : n ≤ length unread
-    within = within_at whole count line
-
-    front : take n unread ≡ take n a.bytes
-    front = ap (take n) u ∙ take-take n s.unread a.bytes (omega (arith, within, len))
-
-    spent : n ≡ length unread → t.unread ≡ 0
-    spent e = let v = ap (λ v. v.unread) after in omega (arith, v, e, len)
-
-    lines : (w : Option ℕ) → n ≡ unwrap_or w (length unread) → MatchOption w (no_line_feed unread ≡ true) (λ k. (k ≤ length unread) × (is_whole_line (take k unread) ≡ true)) → MatchBool (is_some w) (is_whole_line (take n unread) ≡ true) ((no_line_feed (take n unread) ≡ true) × (t.unread ≡ 0))
-    lines None e h = (ap no_line_feed (ap (λ k. take k unread) e ∙ take_all (length unread) unread (omega arith)) ∙ h, spent e)
-    lines (Some k) e h = ap (λ j. is_whole_line (take j unread)) e ∙ h.1
+    lines : (w : Bool) → MatchBool w (is_whole_line piece ≡ true) ((no_line_feed piece ≡ true) × (length piece ≡ s.unread)) →
+        MatchBool w (is_whole_line piece ≡ true) ((no_line_feed piece ≡ true) × (t.unread ≡ 0))
+    lines true whole = whole
+    lines false is_all = (is_all.0, let n = is_all.1 in let u = ap (λ v. v.unread) after in omega (arith, n, u))
 
 -- the bytes that were read decide whether a mark stands there
 same_test : (b c : ℕ) → (b == c) ≡ (c == b)
@@ -337,3 +367,41 @@ deciding_done a s t v is_mark left fits decided test long after = at is_mark (st
         (ap (λ x. x.left) now ∙ left, omega (arith, fits, u, r, z))
     at true false e is wide now = cc
     at false true e is wide now = cc
+
+-- the first line of the unread bytes, or all of them
+pub piece_whole : (s : InputState) (unread : List ℕ) (n : ℕ) → length unread ≡ s.unread →
+    ((a : Ahead) → s.left ≡ Some a → unread ≡ take s.unread a.bytes) → n ≤ length unread →
+    is_whole_line (take n unread) ≡ true → IsLinePiece s (take n unread) true
+piece_whole s unread n len told within whole =
+    let long = length-take-le n unread within in record {
+      within = omega (arith, long, len, within);
+      is_line = whole;
+      told = λ a left. ap (take n) (told a left) ∙ take-take n s.unread a.bytes (omega (arith, within, len))
+          ∙ ap (λ k. take k a.bytes) (sym long);
+    }
+
+pub piece_open : (s : InputState) (unread : List ℕ) → length unread ≡ s.unread →
+    ((a : Ahead) → s.left ≡ Some a → unread ≡ take s.unread a.bytes) → no_line_feed unread ≡ true →
+    IsLinePiece s unread false
+piece_open s unread len told none = record {
+  within = omega (arith, len);
+  is_line = (none, len);
+  told = λ a left. told a left ∙ ap (λ k. take k a.bytes) (sym len);
+}
+
+-- a fault before any byte, where none is unread
+pub waiting_fails : {A : Type 0} (a : Ahead) (s t v : InputState) (e : Error A) → ReadsFit a s a t → t.unread ≡ 0 →
+    IsFinal a t (λ bytes. length bytes ≡ t.unread) e v → IsFinal a s (λ bytes. bytes ≡ []) e v
+waiting_fails a s t v e fits zero fails =
+    final_before a a s t v (λ bytes. length bytes ≡ t.unread) (λ bytes. bytes ≡ []) [] e refl refl fits
+    (λ kind front later cut why read. empty_of front (read ∙ zero)) fails
+
+-- either a byte is unread, or what holds where none is
+pub some-or-none : (n : ℕ) (empty : Bool) (P : Type 0) → empty ≡ (n == 0) → (n ≡ 0 → P) → MatchBool (not empty) (0 < n) P
+some-or-none n true P test none = none (grind (arith, nat_tests, test))
+some-or-none n false P test none = grind (arith, nat_tests, test)
+
+-- what holds where a test failed
+pub when-not : (b : Bool) (P Q : Type 0) → b ≡ false → MatchBool b P Q → Q
+when-not true P Q h k = let f : true ≡ false = h in cc
+when-not false P Q h k = k

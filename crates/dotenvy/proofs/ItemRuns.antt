@@ -38,7 +38,7 @@ items_from-texts env a b [] same = refl
 items_from-texts env a b (Fails failure ∷ entries) same = ap (λ rest. Err failure ∷ rest) (items_from-texts env a b entries same)
 items_from-texts env a b (Declares key pieces ∷ entries) same =
     let w = meaning (or_else env b) pieces in
-    ap (λ v. Ok (key, v) ∷ items_from env (with_value a key v) entries) (meaning-text (or_else env a) (or_else env b) pieces (λ n. or_else-text (env n) (env n) (a n) (b n) refl (same n)))
+    ap (λ v. Ok (key, v) ∷ items_from env (with_value a key v) entries) (meaning-text (or_else env a) (or_else env b) pieces (λ n. or_else-text (env n) (env n) (a n) (b n) refl (λ absent. same n)))
     ∙ ap (λ rest. Ok (key, w) ∷ rest) (items_from-texts env (with_value a key w) (with_value b key w) entries (λ n. with_value-text w (a n) (b n) (bytes_eq key n) (same n)))
 
 -- an item that says an entry, before those of the later entries

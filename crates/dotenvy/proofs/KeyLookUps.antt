@@ -57,9 +57,11 @@ pub values_of-insert : (names : Texts) (key value : List ℕ) → IsUtf8 key →
 values_of-insert names key value utf8 = changed_text (λ q. fin.get names q) (λ q. fin.get (fin.insert names key value) q) key (chars key) (Some value) (encodes-chars key utf8) (get-inserted names key value)
 
 -- a name is absent by its characters where it is by its bytes
-pub is_none-contains : (names : Texts) (key bytes : List ℕ) (found : Bool) → IsUtf8 key → bytes ≡ key → found ≡ fin.contains_key names bytes → is_none (values_of names (chars key)) ≡ not found
-is_none-contains names key bytes found utf8 same is =
-    ap (λ k. is_none (option_map chars (fin.get names k))) (encodes-chars key utf8) ∙ mapped (fin.get names key) ∙ ap not (sym (is ∙ ap (fin.contains_key names) same))
+pub is_none-contains : (names : Texts) (key : List ℕ) (found : Bool) → IsUtf8 key →
+    found ≡ fin.contains_key names key → is_none (values_of names (chars key)) ≡ not found
+is_none-contains names key found utf8 is =
+    ap (λ k. is_none (option_map chars (fin.get names k))) (encodes-chars key utf8)
+    ∙ mapped (fin.get names key) ∙ ap not (sym is)
   where
     mapped : (o : Option (List ℕ)) → is_none (option_map chars o) ≡ not (is_some o)
     mapped None = refl

@@ -1,4 +1,5 @@
 pub mod Basics
+mod Buffers
 pub mod Cuts
 pub mod LoadLaws
 pub mod LoadsTwice
@@ -34,6 +35,9 @@ pub mod SameEnvironments
 pub mod Keys
 pub mod RememberedMaps
 pub mod Slices
+pub mod ByteRuns
+pub mod ByteTables
+pub mod ByteClasses
 pub mod StatementParts
 pub mod NextPiece
 pub mod Meanings
@@ -46,12 +50,16 @@ pub mod LineEntries
 pub mod LinePasses
 pub mod ItemRuns
 pub mod WholeLoads
+mod WalkedPieces
+mod LinePieces
+mod TakenLines
 pub mod LineCounts
 pub mod LineItems
 pub mod FirstLines
 pub mod NextItems
 pub mod KeyLookUps
 pub mod LoadRuns
+pub mod LoadedLines
 pub mod DroppedMarks
 pub mod LoadSteps
 pub mod LongestFronts

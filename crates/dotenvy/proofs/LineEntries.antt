@@ -1,5 +1,5 @@
 -- The entries of what a splitter has left, one answer after another.
-use Rattle.std.proofs.Common.{◌≡◌, ℕ, length, arith, List, [], ◌∷◌, ◌++◌, Option, Some, None, refl, sym, subst}
+use Rattle.std.proofs.Common.{◌≡◌, ℕ, length, arith, List, [], ◌∷◌, ◌++◌, Option, Some, None, refl, sym, ap, subst}
 use Rattle.std.proofs.lemmas.Option.{none-some}
 use Rattle.std.specs.declared.io.ErrorKind.{ErrorKind}
 use Rattle.dotenvy.specs.declared.dialect.Dialect.{Dialect}
@@ -8,7 +8,8 @@ use Rattle.dotenvy.specs.Entries.{Entry, AreLogicalLines, Gives, GiveAll, HasEnt
 use Rattle.dotenvy.specs.Decided.{up_to_last_line_feed, without_open_end, HasDecided}
 use Rattle.dotenvy.specs.Input.{InputState}
 use Rattle.dotenvy.specs.Reading.{HasLeft}
-use Rattle.dotenvy.specs.Lines.{IsOpen, lines_so_far, IsNextAlways, TakesNext, IsUndecided}
+use Rattle.dotenvy.specs.PhysicalLines.{line_texts}
+use Rattle.dotenvy.specs.Lines.{IsOpen, whole_lines, lines_so_far, IsNextAlways, TakesNext, IsUndecided}
 use Rattle.dotenvy.proofs.EntriesOnce.{lines_within, cut_line_texts, entries_exist, entries_once}
 use Rattle.dotenvy.proofs.DecidedFront.{decided_exist, decided_once}
 use Rattle.dotenvy.proofs.NextEntries.{entries-none}
@@ -46,6 +47,22 @@ left-next dialect (Some kind) bytes s t next front after k gives has = record {
   are_lines = (k.some, k.count, k.is_next, subst (λ ls. AreLogicalLines ls has.lines) k.later has.are_lines);
   give = decided_give dialect next has.lines front after (λ is_open. none-some kind (sym (k.open_at_end is_open))) gives has.give;
 }
+
+-- a logical line was taken: the entries left are its own, and then those of what it leaves
+pub took : (dialect : Dialect) (fault : Option ErrorKind) (bytes : List ℕ) (entries : List Entry) (s t : InputState)
+    (next : Logical) (front : List Entry) → (k : TakesNext (record { bytes = bytes; fault = fault }) s next t) →
+    Gives dialect next front → HasLeft dialect fault bytes entries →
+    (later : List Entry) × HasLeft dialect fault k.left later × (entries ≡ front ++ later)
+took dialect fault bytes entries s t next front k gives has =
+    let l = left_exists dialect fault k.left in
+    let all = left-next dialect fault bytes s t next front l.0 k gives l.1 in
+    (l.0, l.1, left_once dialect fault bytes entries (front ++ l.0) has all)
+
+-- where nothing is left no line is whole
+pub no_lines : (fault : Option ErrorKind) (left : List ℕ) → left ≡ [] →
+    whole_lines (record { bytes = left; fault = fault }) ≡ []
+no_lines None left empty = ap line_texts empty
+no_lines (Some kind) left empty = ap lines_so_far empty
 
 -- what bytes decide that are whole lines, whatever follows them
 pub decided-next : (dialect : Dialect) (bytes more : List ℕ) (count : ℕ) (next : Logical) (front after : List Entry) → (IsOpen next → ⊥) → IsNextAlways bytes count next → Gives dialect next front → HasDecided dialect more after → HasDecided dialect (bytes ++ more) (front ++ after)

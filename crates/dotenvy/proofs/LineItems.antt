@@ -1,6 +1,6 @@
 -- What a logical line says, as the item that it adds.
 use Rattle.std.proofs.Common.{◌≡◌, ℕ, Bool, true, false, cond, List, [], Option, Some, None, Result, Ok, Err, ◌⊎◌, inl, inr, refl, sym, ◌∙◌, ap, subst, unwrap_or, string_bytes}
-use Rattle.std.specs.Prelude.{IfOk, IfErr, option_map, bytes_eq, if◌then◌else◌}
+use Rattle.std.specs.Prelude.{OnOk, IfErr, option_map, bytes_eq, if◌then◌else◌}
 use Rattle.std.specs.Str.{chars}
 use Rattle.std.specs.Result.{result_transpose}
 use Rattle.std.specs.FinMap as fin
@@ -115,11 +115,11 @@ refused_added (Err (Nul key)) s t is h = absurd is
 refused_added (Err (Memory e)) s t is h = (is, ap (λ l. l.stage) h)
 
 -- what a line says is what it adds
-pub line_added : {A : Type 0} (names : Texts) (s t : IterState) (line : Result (String A) (Error A)) (said : Result (Option (String A × String A)) (Error A)) →
-    IfOk line (λ text. IsMemoryErr said ⊎ ((outcome : Outcome) × Says s.dialect (chars (string_bytes text)) outcome × IsLineAnswer (names_of names s.remembered) outcome said)) →
-    IfOk line (λ text. Remembers (chars (string_bytes text)) s.remembered t.remembered said) →
+pub line_added : {A : Type 0} (names : Texts) (s t : IterState) (line : Result (Unit {0}) (Error A)) (text : List ℕ) (said : Result (Option (String A × String A)) (Error A)) →
+    OnOk line (IsMemoryErr said ⊎ ((outcome : Outcome) × Says s.dialect (chars text) outcome × IsLineAnswer (names_of names s.remembered) outcome said)) →
+    OnOk line (Remembers (chars text) s.remembered t.remembered said) →
     IfErr line (λ e. (said ≡ Err e) × (t.remembered ≡ s.remembered)) →
-    t.lines ≡ lines_said said s.lines → AddsLine names s line (result_transpose said) t
-line_added names s t (Ok text) said (inl refused) remembers fault lines = inl (refused_added said s.lines t.lines refused lines)
-line_added names s t (Ok text) said (inr (outcome, says, is)) remembers fault lines = inr (outcome, says, answer_added s.dialect names (chars (string_bytes text)) outcome s.remembered t.remembered said says is remembers, answer_lines (names_of names s.remembered) outcome said s.lines t.lines is lines)
-line_added names s t (Err e) said says remembers fault lines = (ap result_transpose fault.0, fault.1, subst (λ r. t.lines ≡ lines_said r s.lines) fault.0 lines)
+    t.lines ≡ lines_said said s.lines → AddsLine names s line text (result_transpose said) t
+line_added names s t (Ok u) text said (inl refused) remembers fault lines = inl (refused_added said s.lines t.lines refused lines)
+line_added names s t (Ok u) text said (inr (outcome, says, is)) remembers fault lines = inr (outcome, says, answer_added s.dialect names (chars text) outcome s.remembered t.remembered said says is remembers, answer_lines (names_of names s.remembered) outcome said s.lines t.lines is lines)
+line_added names s t (Err e) text said says remembers fault lines = (ap result_transpose fault.0, fault.1, subst (λ r. t.lines ≡ lines_said r s.lines) fault.0 lines)

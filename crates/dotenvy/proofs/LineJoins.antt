@@ -1,6 +1,6 @@
 -- The splitter's loop over physical lines: what it keeps, and a theorem for each way out of it.
 use Rattle.std.proofs.Common.{◌≡◌, ◌≢◌, ℕ, zero, suc, Bool, true, false, cond, not, List, [], ◌∷◌, ◌++◌, ◌+◌, ◌≤◌, map, length, drop, refl, sym, ◌∙◌, ap, subst, append_assoc, arith, length-append, Some, None, Option, inl, inr, ◌⊎◌}
-use Rattle.std.specs.Prelude.{◌==◌, IsUtf8, encode_utf8_all, string_bytes, string_len, Result, Ok, Err}
+use Rattle.std.specs.Prelude.{◌==◌, IsUtf8, encode_utf8_all, string_bytes, Result, Ok, Err}
 use Rattle.std.specs.List.{concat}
 use Rattle.std.specs.Str.{chars, is_utf8, skip_leading_whitespace}
 use Rattle.std.specs.declared.io.ErrorKind.{ErrorKind}
@@ -8,13 +8,13 @@ use Rattle.std.specs.declared.string.String.{String}
 use Rattle.std.proofs.lemmas.Option.{none-some}
 use Rattle.std.proofs.lemmas.List.{append-nil, map-append}
 use Rattle.std.proofs.lemmas.List.Folds.{concat-append}
-use Rattle.std.proofs.lemmas.Str.{chars-nil, encodes-chars, IsUtf8-string_bytes, is_utf8-from_IsUtf8, IsUtf8-from_is_utf8}
+use Rattle.std.proofs.lemmas.Str.{chars-nil, encodes-chars, is_utf8-from_IsUtf8, IsUtf8-from_is_utf8}
 use Rattle.dotenvy.specs.declared.errors.Error.{Error}
 use Rattle.dotenvy.specs.declared.errors.Error.TheVariants.{LineParse, Io, EnvVar, Nul, Memory}
-use Rattle.dotenvy.specs.declared.lines.LineMode.{LineMode}
-use Rattle.dotenvy.specs.declared.lines.LineMode.TheVariants.{Outside, Escaping, Inside, InsideEscaping, AfterBlank}
+use Rattle.dotenvy.specs.declared.walk.LineMode.{LineMode}
+use Rattle.dotenvy.specs.declared.walk.LineMode.TheVariants.{Outside, Escaping, Inside, InsideEscaping, AfterBlank}
 use Rattle.dotenvy.specs.declared.lines.Joined.{Joined}
-use Rattle.dotenvy.specs.declared.lines.Joined.TheVariants.{Nothing, Whole, OpenEnd, BrokenLine}
+use Rattle.dotenvy.specs.declared.lines.Joined.TheVariants.{Nothing, Skipped, Whole, OpenEnd, BrokenLine}
 use Rattle.dotenvy.specs.declared.lines.Stage.{Stage}
 use Rattle.dotenvy.specs.declared.lines.Stage.TheVariants.{Open as stage_open, Ended}
 use Rattle.dotenvy.specs.Characters.{begins_with, hash, line_feed, byte_len}
@@ -24,11 +24,12 @@ use Rattle.dotenvy.specs.LogicalLine.{Skip, Text, Open, Broken, IsNext, IsSkippe
 use Rattle.dotenvy.specs.LineModes.{walk, going, ended}
 use Rattle.dotenvy.specs.Source.{Ahead}
 use Rattle.dotenvy.specs.Input.{InputState, IsTold, ReadsFit, IsFinal, TakesLine, end_reads}
-use Rattle.dotenvy.specs.Lines.{whole_before, whole_lines, lines_so_far, IsOpen, IsAtEnd, IsNextAlways, TakesNext, IsUndecided, GoesOn, NextIs}
-use Rattle.dotenvy.specs.JoinedLines.{joined_at_end, TakesJoined, stage_after, Answers}
+use Rattle.dotenvy.specs.Lines.{LinesState, whole_before, whole_lines, lines_so_far, IsOpen, IsAtEnd, IsNextAlways, TakesNext, IsUndecided, GoesOn, NextIs}
+use Rattle.dotenvy.specs.JoinedLines.{begun_at_end, joined_at_end, TakesJoined, is_refused, stage_after, IsOutcome}
+use Rattle.dotenvy.specs.Splitter.{AdvanceIs}
 use Rattle.dotenvy.proofs.Scans as scans
 use Rattle.dotenvy.proofs.Scans.{stops, scan, scan-reads, Reads, Read}
-use Rattle.dotenvy.proofs.Basics.{and_left, and_right, tested_some}
+use Rattle.dotenvy.proofs.Basics.{and_left, and_right}
 use Rattle.dotenvy.proofs.Cuts.{concat-lines}
 use Rattle.dotenvy.proofs.NextLine.{whole_line, last_line, ends_line, whole_ends, ends_join, one_next}
 use Rattle.dotenvy.proofs.EntriesOnce.{cut_line_texts, whole_chars, one_last}
@@ -126,7 +127,7 @@ pub record Joining (a : Ahead) (s : InputState) (seen : List ℕ) (m : LineMode)
   pub ends : IsAtEnd a.fault left t ⊎ AreWhole used taken seen
   pub reads : ReadsFit a s (record { bytes = left; fault = a.fault }) t
 
-pub joining_start : (a : Ahead) (s : InputState) → IsTold s.left a → Joining a s [] Outside s
+joining_start : (a : Ahead) (s : InputState) → IsTold s.left a → Joining a s [] Outside s
 joining_start a s told = record {
   taken = [];
   left = a.bytes;
@@ -142,6 +143,12 @@ joining_start a s told = record {
   ends = inr (record { ends = inl refl; lines = λ more. refl });
   reads = omega arith;
 }
+
+-- where nothing is in the line buffer
+pub joining_empty : (a : Ahead) (s : InputState) (text : List ℕ) → text ≡ [] → IsTold s.left a →
+    Joining a s (chars text) Outside s
+joining_empty a s text empty told =
+    subst (λ seen. Joining a s seen Outside s) (sym (ap chars empty ∙ chars-nil)) (joining_start a s told)
 
 pub joining_told : (a : Ahead) (s t : InputState) (seen : List ℕ) (m : LineMode) → IsTold s.left a → (j : Joining a s seen m t) → IsTold t.left (record { bytes = j.left; fault = a.fault })
 joining_told a s t seen m told j = (j.is_left, told.1)
@@ -426,12 +433,18 @@ joining_end a s t v seen m begun j k =
     no_lines [] h = refl
     no_lines (t ∷ ts) h = cc
 
-pub joining_at_end : {A : Type 0} (a : Ahead) (s t v : InputState) (text : String A) (m : LineMode) → chars (string_bytes text) ≢ [] → string_len text ≡ byte_len (chars (string_bytes text)) → (j : Joining a s (chars (string_bytes text)) m t) → TakesLine (record { bytes = j.left; fault = a.fault }) t [] v → TakesJoined a s (joined_at_end m text) v
-joining_at_end a s t v text Outside begun len j k = inr (joining_end a s t v (chars (string_bytes text)) Outside begun j k)
-joining_at_end a s t v text Escaping begun len j k = subst (λ n. TakesNext a s (Open (chars (string_bytes text)) n) v) (sym len) (joining_end a s t v (chars (string_bytes text)) Escaping begun j k)
-joining_at_end a s t v text (Inside q) begun len j k = subst (λ n. TakesNext a s (Open (chars (string_bytes text)) n) v) (sym len) (joining_end a s t v (chars (string_bytes text)) (Inside q) begun j k)
-joining_at_end a s t v text (InsideEscaping q) begun len j k = subst (λ n. TakesNext a s (Open (chars (string_bytes text)) n) v) (sym len) (joining_end a s t v (chars (string_bytes text)) (InsideEscaping q) begun j k)
-joining_at_end a s t v text AfterBlank begun len j k = subst (λ n. TakesNext a s (Open (chars (string_bytes text)) n) v) (sym len) (joining_end a s t v (chars (string_bytes text)) AfterBlank begun j k)
+joining_begun : (a : Ahead) (s t v : InputState) (text : List ℕ) (m : LineMode) → chars text ≢ [] →
+    length text ≡ byte_len (chars text) → (j : Joining a s (chars text) m t) →
+    TakesLine (record { bytes = j.left; fault = a.fault }) t [] v → TakesJoined a s (begun_at_end m) text v
+joining_begun a s t v text Outside begun len j k = joining_end a s t v (chars text) Outside begun j k
+joining_begun a s t v text Escaping begun len j k =
+    subst (λ n. TakesNext a s (Open (chars text) n) v) (sym len) (joining_end a s t v (chars text) Escaping begun j k)
+joining_begun a s t v text (Inside q) begun len j k =
+    subst (λ n. TakesNext a s (Open (chars text) n) v) (sym len) (joining_end a s t v (chars text) (Inside q) begun j k)
+joining_begun a s t v text (InsideEscaping q) begun len j k =
+    subst (λ n. TakesNext a s (Open (chars text) n) v) (sym len) (joining_end a s t v (chars text) (InsideEscaping q) begun j k)
+joining_begun a s t v text AfterBlank begun len j k =
+    subst (λ n. TakesNext a s (Open (chars text) n) v) (sym len) (joining_end a s t v (chars text) AfterBlank begun j k)
 
 -- what ends with a line feed stands in quotes
 not_outside : (seen : List ℕ) (m : LineMode) → IsGoing seen m → ends_line seen ≡ true → m ≢ Outside
@@ -481,23 +494,58 @@ joining_fails a s t v seen m e j fails =
         let empty = ap length (sym cut ∙ f.1) in
         absurd (omega (arith, each, read, empty, length-append front later))
 
-begun_chars : {A : Type 0} (text : String A) → string_bytes text ≢ [] → chars (string_bytes text) ≢ []
-begun_chars text some h = some (sym (encodes-chars (string_bytes text) (IsUtf8-string_bytes text)) ∙ ap encode_utf8_all h)
+pub begun_chars : (text : List ℕ) → IsUtf8 text → text ≢ [] → chars text ≢ []
+begun_chars text u some h = some (sym (encodes-chars text u) ∙ ap encode_utf8_all h)
 
 -- the end of input
-pub joining_finish : {A : Type 0} (a : Ahead) (s t v : InputState) (text : String A) (m : LineMode) (r : Joined A) → (string_bytes text ≡ [] → r ≡ Nothing) → (string_bytes text ≢ [] → r ≡ joined_at_end m text) → string_len text ≡ length (string_bytes text) → (j : Joining a s (chars (string_bytes text)) m t) → TakesLine (record { bytes = j.left; fault = a.fault }) t [] v → TakesJoined a s r v
-joining_finish {A} a s t v text m r empty begun len j k = at (string_bytes text) refl
-  where
-    at : (bytes : List ℕ) → string_bytes text ≡ bytes → TakesJoined a s r v
-    at [] e = subst (λ (q : Joined A). TakesJoined a s q v) (sym (empty e)) (joining_nothing a s t v (chars (string_bytes text)) m (ap chars e ∙ chars-nil) j k)
-    at (b ∷ bytes) e =
-        let some : string_bytes text ≢ [] = λ h. let f : b ∷ bytes ≡ [] = sym e ∙ h in cc in
-        subst (λ (q : Joined A). TakesJoined a s q v) (sym (begun some)) (joining_at_end a s t v text m (begun_chars text some) (len ∙ sym (ap length (encodes-chars (string_bytes text) (IsUtf8-string_bytes text)))) j k)
+pub joining_finish : (a : Ahead) (s t v : InputState) (text : List ℕ) (m : LineMode) → IsUtf8 text →
+    (j : Joining a s (chars text) m t) → TakesLine (record { bytes = j.left; fault = a.fault }) t [] v →
+    TakesJoined a s (joined_at_end text m) text v
+joining_finish a s t v [] m u j k = joining_nothing a s t v (chars []) m chars-nil j k
+joining_finish a s t v (b ∷ text) m u j k =
+    joining_begun a s t v (b ∷ text) m (begun_chars (b ∷ text) u (λ h. cc)) (sym (ap length (encodes-chars (b ∷ text) u))) j k
 
-pub text_begun : {A : Type 0} (text : String A) (b : Bool) → b ≡ (string_len text == 0) → string_len text ≡ length (string_bytes text) → b ≡ false → chars (string_bytes text) ≢ []
-text_begun text b test len is = begun_chars text (let t = tested_some (string_bytes text) (string_len text) b test len is in t.1)
+-- a wait for more bytes, of which nothing is used
+pub joining_waits : (a : Ahead) (s t v : InputState) (seen : List ℕ) (m : LineMode) → (j : Joining a s seen m t) →
+    (t.at_end ≡ true → v ≡ t) → (v.left ≡ Some (record { bytes = j.left; fault = a.fault })) →
+    ReadsFit (ahead_of j.left a.fault) t (ahead_of j.left a.fault) v → Joining a s seen m v
+joining_waits a s t v seen m j same left fits = record {
+  taken = j.taken;
+  left = j.left;
+  is_left = left;
+  rest = j.rest;
+  lines = j.lines;
+  joined = j.joined;
+  is_going = j.is_going;
+  shown = j.shown;
+  first = j.first;
+  used = j.used;
+  joins = j.joins;
+  ends = elim j.ends [
+    | inl last ↦ inl (last.0, last.1, ap (λ u. u.at_end) (same last.2) ∙ last.2)
+    | inr whole ↦ inr whole
+  ];
+  reads = fits_more a (ahead_of j.left a.fault) (ahead_of j.left a.fault) s t v j.reads fits;
+}
 
--- what was joined, as an answer
+-- a fault before any byte is one before a line feed
+pub none-feeds : {A : Type 0} (a : Ahead) (s v : InputState) (e : Error A) → IsFinal a s (λ bytes. bytes ≡ []) e v →
+    IsFinal a s (λ bytes. no_line_feed bytes ≡ true) e v
+none-feeds a s v e fails =
+    final_before a a s s v (λ bytes. bytes ≡ []) (λ bytes. no_line_feed bytes ≡ true) [] e refl refl (omega arith)
+    (λ kind front later cut why none. ap no_line_feed none) fails
+
+-- nothing is left, as a line of no bytes
+pub line-of-none : (b : Ahead) (s t : InputState) → t.left ≡ Some b → ReadsFit b s b t → b.bytes ≡ [] → b.fault ≡ None →
+    t.at_end ≡ true → TakesLine b s [] t
+line-of-none b s t left fits empty none at_last = record {
+  left = b.bytes;
+  joins = refl;
+  is_left = left;
+  is_line = inr (refl, empty, none, at_last);
+  reads = fits;
+}
+
 left_at_end : (t : InputState) (left : List ℕ) (fault : Option ErrorKind) → t.left ≡ Some (ahead_of left fault) → ((b : Ahead) → t.left ≡ Some b → (b.bytes ≡ []) × (b.fault ≡ None)) → t.left ≡ Some (ahead_of [] None)
 left_at_end t left fault is all = let e = all (ahead_of left fault) is in is ∙ ap (λ l. Some (ahead_of l fault)) e.0 ∙ ap (λ f. Some (ahead_of [] f)) e.1
 
@@ -505,15 +553,49 @@ goes_on : (t : InputState) (stage : Stage) (used_up : Bool) (left : List ℕ) (f
 goes_on t stage true left fault e is all = inr (e, left_at_end t left fault is (λ b h. all b h refl))
 goes_on t stage false left fault e is all = inl e
 
-pub answered : {A : Type 0} (a : Ahead) (s t : InputState) (joined : Joined A) (r : Option (Result (String A) (Error A))) (stage : Stage) (used_up : Bool) → TakesJoined a s joined t → Answers joined r → stage ≡ stage_after joined used_up → ((b : Ahead) → t.left ≡ Some b → used_up ≡ true → (b.bytes ≡ []) × (b.fault ≡ None)) → NextIs a s r (record { input = t; stage = stage })
-answered {A} a s t Nothing r stage used_up takes answers e all = subst (λ (q : Option (Result (String A) (Error A))). NextIs a s q (record { input = t; stage = stage })) (sym answers) (takes.0, takes.1, e)
-answered {A} a s t (Whole text) r stage used_up (inl skip) answers e all = subst (λ (q : Option (Result (String A) (Error A))). NextIs a s q (record { input = t; stage = stage })) (sym answers) (inl (inl skip, let k = skip.1 in goes_on t stage used_up k.left a.fault e k.is_left all))
-answered {A} a s t (Whole text) r stage used_up (inr k) answers e all = subst (λ (q : Option (Result (String A) (Error A))). NextIs a s q (record { input = t; stage = stage })) (sym answers) (inl (inr k, goes_on t stage used_up k.left a.fault e k.is_left all))
-answered {A} a s t (OpenEnd text) r stage used_up k answers e all = subst (λ (q : Option (Result (String A) (Error A))). NextIs a s q (record { input = t; stage = stage })) (sym answers) (inl (k, goes_on t stage used_up k.left a.fault e k.is_left all))
-answered a s t BrokenLine None stage used_up k answers e all = absurd answers
-answered a s t BrokenLine (Some (Ok text)) stage used_up k answers e all = absurd answers
-answered a s t BrokenLine (Some (Err (LineParse text i))) stage used_up k answers e all = absurd answers
-answered a s t BrokenLine (Some (Err (Io x))) stage used_up k answers e all = inl ((answers, k), goes_on t stage used_up k.left a.fault e k.is_left all)
-answered a s t BrokenLine (Some (Err (EnvVar x))) stage used_up k answers e all = absurd answers
-answered a s t BrokenLine (Some (Err (Nul key))) stage used_up k answers e all = absurd answers
-answered a s t BrokenLine (Some (Err (Memory m))) stage used_up k answers e all = absurd answers
+-- what was joined, as an outcome
+pub advanced : {A : Type 0} (a : Ahead) (s t : InputState) (joined : Joined) (text : List ℕ) (r : Option (Result (Unit {0}) (Error A))) (stage : Stage) (used_up : Bool) →
+    TakesJoined a s joined text t → IsOutcome joined text r → stage ≡ stage_after joined used_up (is_refused r) →
+    ((b : Ahead) → t.left ≡ Some b → used_up ≡ true → (b.bytes ≡ []) × (b.fault ≡ None)) →
+    AdvanceIs a s r text (record { input = t; stage = stage })
+advanced {A} a s t Nothing text r stage used_up takes outcome e all =
+    subst (λ (q : Option (Result (Unit {0}) (Error A))). stage ≡ stage_after Nothing used_up (is_refused q) → AdvanceIs a s q text (record { input = t; stage = stage }))
+    (sym outcome) (λ e. (takes.0, takes.1, e)) e
+advanced {A} a s t Skipped text r stage used_up takes outcome e all =
+    subst (λ (q : Option (Result (Unit {0}) (Error A))). stage ≡ stage_after Skipped used_up (is_refused q) → AdvanceIs a s q text (record { input = t; stage = stage }))
+    (sym outcome) (λ e. inl (inl takes, let k = takes.1 in goes_on t stage used_up k.left a.fault e k.is_left all)) e
+advanced {A} a s t Whole text r stage used_up k outcome e all =
+    subst (λ (q : Option (Result (Unit {0}) (Error A))). stage ≡ stage_after Whole used_up (is_refused q) → AdvanceIs a s q text (record { input = t; stage = stage }))
+    (sym outcome) (λ e. inl (inr k, goes_on t stage used_up k.left a.fault e k.is_left all)) e
+advanced a s t OpenEnd text None stage used_up k outcome e all = absurd outcome
+advanced a s t OpenEnd text (Some (Ok _)) stage used_up k outcome e all = absurd outcome
+advanced a s t OpenEnd text (Some (Err (LineParse found place))) stage used_up k (inl refused) e all = absurd refused
+advanced a s t OpenEnd text (Some (Err (LineParse found place))) stage used_up k (inr is) e all = inl (
+  subst (λ cs. TakesNext a s (Open cs place) t) (sym is.0) (subst (λ n. TakesNext a s (Open (chars text) n) t) (sym is.1) k),
+  goes_on t stage used_up k.left a.fault e k.is_left all,
+)
+advanced a s t OpenEnd text (Some (Err (Io x))) stage used_up k outcome e all = elim outcome [ inl f ↦ absurd f | inr f ↦ absurd f ]
+advanced a s t OpenEnd text (Some (Err (EnvVar x))) stage used_up k outcome e all = elim outcome [ inl f ↦ absurd f | inr f ↦ absurd f ]
+advanced a s t OpenEnd text (Some (Err (Nul key))) stage used_up k outcome e all = elim outcome [ inl f ↦ absurd f | inr f ↦ absurd f ]
+advanced a s t OpenEnd text (Some (Err (Memory m))) stage used_up k outcome e all = inr (e, inl tt)
+advanced a s t BrokenLine text None stage used_up k outcome e all = absurd outcome
+advanced a s t BrokenLine text (Some (Ok _)) stage used_up k outcome e all = absurd outcome
+advanced a s t BrokenLine text (Some (Err (LineParse found place))) stage used_up k outcome e all = absurd outcome
+advanced a s t BrokenLine text (Some (Err (Io x))) stage used_up k outcome e all =
+    inl ((outcome, k), goes_on t stage used_up k.left a.fault e k.is_left all)
+advanced a s t BrokenLine text (Some (Err (EnvVar x))) stage used_up k outcome e all = absurd outcome
+advanced a s t BrokenLine text (Some (Err (Nul key))) stage used_up k outcome e all = absurd outcome
+advanced a s t BrokenLine text (Some (Err (Memory m))) stage used_up k outcome e all = absurd outcome
+
+-- a copy of the text that was left is the line
+pub copied : {A : Type 0} (a : Ahead) (s : InputState) (u : Unit {0}) (line : List ℕ) (text : String A) (t : LinesState) →
+    AdvanceIs {A = A} a s (Some (Ok u)) line t → string_bytes text ≡ line → NextIs {A = A} a s (Some (Ok text)) t
+copied a s u line text t (inl (inl (empty, k), goes)) same = inl (inl (same ∙ empty, k), goes)
+copied a s u line text t (inl (inr k, goes)) same = inl (inr (subst (λ l. TakesNext a s (Text (chars l)) t.input) (sym same) k), goes)
+copied a s u line text t (inr fails) same = absurd fails
+
+-- and its fault is that of the line
+pub fault-stays : {A : Type 0} (a : Ahead) (s : InputState) (e : Error A) (line : List ℕ) (t : LinesState) →
+    AdvanceIs a s (Some (Err e)) line t → NextIs a s (Some (Err e)) t
+fault-stays a s e line t (inl takes) = inl takes
+fault-stays a s e line t (inr fails) = inr fails

@@ -1,46 +1,42 @@
--- How far a load came, what each item adds, and how a load ends.
-use Rattle.std.proofs.Common.{◌≡◌, ℕ, Bool, true, false, ◌&&◌, List, [], ◌∷◌, ◌++◌, length, length-append, Some, None, Result, Ok, Err, refl, sym, ◌∙◌, ap, subst, inl, inr, append_assoc, arith}
-use Rattle.std.specs.Prelude.{◌⊎◌, not, string_bytes, if◌then◌else◌}
+-- How far a load came, what each line adds, and how a load ends.
+use Rattle.std.proofs.Common.{◌≡◌, ◌≢◌, ℕ, true, List, [], ◌∷◌, ◌++◌, length, length-append, Option, Some, None, Result, Ok, Err, refl, sym, ◌∙◌, ap, subst, inl, inr, append_assoc, arith, string_bytes}
+use Rattle.std.specs.Prelude.{◌⊎◌}
 use Rattle.std.specs.Str.{chars}
-use Rattle.std.specs.FinMap.{insert}
 use Rattle.std.specs.IoError.{error_kind}
 use Rattle.std.specs.declared.io.Error.{Error as IoError}
 use Rattle.std.proofs.lemmas.List.{append-nil}
 use Rattle.std.specs.declared.io.ErrorKind.{ErrorKind}
-use Rattle.std.specs.declared.io.ErrorKind.TheVariants.{Other}
-use Rattle.std.specs.declared.string.String.{String}
+use Rattle.std.specs.declared.io.ErrorKind.TheVariants.{InvalidData, Other}
 use Rattle.std.proofs.lemmas.Option.{none-some}
-use Rattle.std.proofs.lemmas.Str.{IsUtf8-string_bytes}
+use Rattle.std.proofs.lemmas.Str.{chars-nil}
 use Rattle.dotenvy.specs.declared.dialect.Dialect.{Dialect}
 use Rattle.dotenvy.specs.declared.errors.Error.{Error}
 use Rattle.dotenvy.specs.declared.errors.Error.TheVariants as error
 use Rattle.dotenvy.specs.declared.lines.Stage.TheVariants.{Open, Ended}
-use Rattle.dotenvy.specs.Errors.{IsMemory, IsNulOf}
-use Rattle.dotenvy.specs.Statement.{is_key}
-use Rattle.dotenvy.specs.Value.{Piece}
-use Rattle.dotenvy.specs.Entries.{Failure, Io, Nul, Memory, Entry, Declares, Fails}
+use Rattle.dotenvy.specs.Errors.{IsMemory}
+use Rattle.dotenvy.specs.LogicalLine.{Logical, Skip, Text, Open as OpenEnd, Broken}
+use Rattle.dotenvy.specs.Line.{Outcome, Nothing, Says}
+use Rattle.dotenvy.specs.Entries.{Failure, LineParse, Io, Memory, Entry, Fails, outcome_entries, Gives}
 use Rattle.dotenvy.specs.Decided.{HasDecided}
 use Rattle.dotenvy.specs.Marks.{without_mark}
-use Rattle.dotenvy.specs.Items.{LookUp, meaning, with_value}
-use Rattle.dotenvy.specs.Run.{Mode, Loaded, sets, after_declaration, run, has_nul}
+use Rattle.dotenvy.specs.Items.{LookUp}
+use Rattle.dotenvy.specs.Run.{Mode, Loaded, run}
 use Rattle.dotenvy.specs.Loads.{SameLoad}
-use Rattle.dotenvy.specs.Environment.{Texts, value_ok}
+use Rattle.dotenvy.specs.Environment.{Texts}
 use Rattle.dotenvy.specs.Remembered.{Remembered}
-use Rattle.dotenvy.specs.Names.{values_of, recalled_of, names_of}
+use Rattle.dotenvy.specs.Names.{values_of, recalled_of}
 use Rattle.dotenvy.specs.Source.{Ahead}
 use Rattle.dotenvy.specs.Input.{InputState, IsTold, ReadsFit, BoundIsMet, IsFinal, begins_mark, DropsMark, end_reads}
-use Rattle.dotenvy.specs.Lines.{IsAtEnd, GoesOn}
+use Rattle.dotenvy.specs.Lines.{LinesState, IsOpen, IsAtEnd, IsNextAlways, TakesNext, IsUndecided, GoesOn}
+use Rattle.dotenvy.specs.Splitter.{AdvanceIs}
 use Rattle.dotenvy.specs.Reading.{HasLeft, told_fault, certain_bytes, StopsAtBound, IsReading}
-use Rattle.dotenvy.specs.NextItem.{RemembersEntry, DecideFirst, TakesEntry, ItemIs, NextItem}
 use Rattle.dotenvy.specs.LoadsLeft.{IsAnswer, Leaves, Rule, LoadsLeft}
+use Rattle.dotenvy.specs.LoadedLine.{LoadsLine}
 use Rattle.dotenvy.specs.Iter.{IterState}
-use Rattle.dotenvy.proofs.Basics.{not_false, if_true, if_false}
-use Rattle.dotenvy.proofs.Nuls.{value_ok-chars}
-use Rattle.dotenvy.proofs.Keys.{chars-key}
 use Rattle.dotenvy.proofs.Inputs.{ahead_of, the_bytes, the_fault, fits_more}
-use Rattle.dotenvy.proofs.LineEntries.{left_once, left-none, left-fault}
-use Rattle.dotenvy.proofs.KeyLookUps.{values_of-insert}
-use Rattle.dotenvy.proofs.LoadRuns.{run-same, after-same}
+use Rattle.dotenvy.proofs.LineEntries.{left_once, left-none, left-fault, took, no_lines, decided-next, decided-none}
+use Rattle.dotenvy.proofs.Outcomes.{one_outcome}
+use Rattle.dotenvy.proofs.LoadRuns.{run-goes_on, run-stops, same-then}
 use Rattle.dotenvy.proofs.DroppedMarks.{mark_decides, marked}
 
 -- a load of these entries: its mode and dialect, what is told, the input at its start, and what names meant then
@@ -55,7 +51,15 @@ pub record Load : Type 0 where
 
 -- the load of what s has left
 abbrev pub load_of : Mode → IterState → Texts → Ahead → List Entry → Load
-load_of mode s old a entries = record { mode = mode; dialect = s.dialect; ahead = a; start = s.lines.input; entries = entries; env = values_of old; remembered = recalled_of s.remembered }
+load_of mode s old a entries = record {
+  mode = mode;
+  dialect = s.dialect;
+  ahead = a;
+  start = s.lines.input;
+  entries = entries;
+  env = values_of old;
+  remembered = recalled_of s.remembered;
+}
 
 -- the entries one by one, from the start and from here on
 abbrev run_all : Load → List Entry → Loaded
@@ -73,7 +77,9 @@ pub record Done (l : Load) (names : Texts) (recall : Remembered) : Type 0 where
 
 -- the bytes that were used decide the entries that are done, whatever part of what is left follows them
 abbrev pub DecideDone : Load → IterState → List Entry → List ℕ → List ℕ → Type 0
-DecideDone l t done used left = (more rest : List ℕ) (decided : List Entry) → left ≡ more ++ rest → HasDecided t.dialect more decided → HasDecided l.dialect (without_mark (used ++ more)) (done ++ decided)
+DecideDone l t done used left =
+    (more rest : List ℕ) (decided : List Entry) → left ≡ more ++ rest →
+    HasDecided t.dialect more decided → HasDecided l.dialect (without_mark (used ++ more)) (done ++ decided)
 
 -- a load came to t: some entries are done, and t has the later ones left
 pub record Came (l : Load) (names : Texts) (t : IterState) : Type 0 where
@@ -89,56 +95,81 @@ pub record Came (l : Load) (names : Texts) (t : IterState) : Type 0 where
 
 -- a load of what s has left came to t, whatever s is told
 abbrev pub CameTo : Mode → IterState → Texts → Texts → IterState → Type 0
-CameTo mode s old new t = s.lines.stage ≡ Open → (a : Ahead) → IsTold s.lines.input.left a → (entries : List Entry) → HasLeft s.dialect a.fault (without_mark a.bytes) entries → Came (load_of mode s old a entries) new t
+CameTo mode s old new t =
+    s.lines.stage ≡ Open → (a : Ahead) → IsTold s.lines.input.left a → (entries : List Entry) →
+    HasLeft s.dialect a.fault (without_mark a.bytes) entries → Came (load_of mode s old a entries) new t
 
 -- a load ends with this environment and this answer
 abbrev pub Ends : {A : Type 0} → Load → Texts → Result (Unit {0}) (Error A) → Type 0
-Ends l names answer = (read : List Entry) × IsReading l.dialect l.ahead l.start l.entries read × Leaves (run_all l read) names answer
+Ends l names answer =
+    (read : List Entry) × IsReading l.dialect l.ahead l.start l.entries read × Leaves (run_all l read) names answer
 
 -- nothing is done at first
-abbrev none_done : (mode : Mode) (s : IterState) (old : Texts) (a : Ahead) (entries : List Entry) → Done (load_of mode s old a entries) old s.remembered
-none_done mode s old a entries = record { done = []; later = entries; split = refl; same = λ more. record { env = λ n. refl; answer = refl } }
+abbrev none_done : (mode : Mode) (s : IterState) (old : Texts) (a : Ahead) (entries : List Entry) →
+    Done (load_of mode s old a entries) old s.remembered
+none_done mode s old a entries =
+    record { done = []; later = entries; split = refl; same = λ more. record { env = λ n. refl; answer = refl } }
 
-ends_at : {A : Type 0} (l : Load) (names : Texts) (recall : Remembered) (answer : Result (Unit {0}) (Error A)) (k : Done l names recall) (more : List Entry) (stop : Result (Unit {0}) Failure) → IsReading l.dialect l.ahead l.start l.entries (k.done ++ more) → run_on l names recall more ≡ record { env = values_of names; answer = stop } → IsAnswer stop answer → Ends l names answer
-ends_at l names recall answer k more stop reading stops is =
+-- a load ends with what is left where it came to, and its answer
+ends_at : {A : Type 0} (l : Load) (names new : Texts) (recall : Remembered) (answer : Result (Unit {0}) (Error A))
+    (k : Done l names recall) (more : List Entry) → IsReading l.dialect l.ahead l.start l.entries (k.done ++ more) →
+    Leaves (run_on l names recall more) new answer → Ends l new answer
+ends_at l names new recall answer k more reading leaves =
     let same = k.same more in (
       k.done ++ more,
       reading,
       record {
-        values = λ n. sym (same.env n ∙ ap (λ (r : Loaded). r.env n) stops);
-        is_answer = subst (λ r. IsAnswer r answer) (sym (same.answer ∙ ap (λ (r : Loaded). r.answer) stops)) is;
+        values = λ n. leaves.values n ∙ sym (same.env n);
+        is_answer = subst (λ r. IsAnswer r answer) (sym same.answer) leaves.is_answer;
       },
     )
 
--- a load ends with the later entries and the fault that is told
-ends_read : {A : Type 0} (l : Load) (names : Texts) (recall : Remembered) (answer : Result (Unit {0}) (Error A)) (k : Done l names recall) (stop : Result (Unit {0}) Failure) → run_on l names recall (k.later ++ told_fault l.ahead.fault) ≡ record { env = values_of names; answer = stop } → IsAnswer stop answer → Ends l names answer
-ends_read l names recall answer k stop stops is =
-    ends_at l names recall answer k (k.later ++ told_fault l.ahead.fault) stop
-    (inl (sym (append_assoc k.done k.later (told_fault l.ahead.fault)) ∙ ap (λ es. es ++ told_fault l.ahead.fault) (sym k.split))) stops is
+-- it ends with the later entries and the fault that is told
+ends_read : {A : Type 0} (l : Load) (names new : Texts) (recall : Remembered) (answer : Result (Unit {0}) (Error A))
+    (k : Done l names recall) → Leaves (run_on l names recall (k.later ++ told_fault l.ahead.fault)) new answer →
+    Ends l new answer
+ends_read l names new recall answer k leaves =
+    ends_at l names new recall answer k (k.later ++ told_fault l.ahead.fault)
+    (inl (sym (append_assoc k.done k.later (told_fault l.ahead.fault))
+    ∙ ap (λ es. es ++ told_fault l.ahead.fault) (sym k.split))) leaves
 
 -- it ends where memory is refused
-ends_memory : {A : Type 0} (l : Load) (names : Texts) (recall : Remembered) (e : Error A) → Done l names recall → IsMemory e → Ends l names (Err e)
+ends_memory : {A : Type 0} (l : Load) (names : Texts) (recall : Remembered) (e : Error A) → Done l names recall →
+    IsMemory e → Ends l names (Err e)
 ends_memory l names recall e k is =
-    ends_at l names recall (Err e) k (Fails Memory ∷ []) (Err Memory)
-    (inr (inl (record { front = k.done; back = k.later; cut = k.split; ends = refl }))) refl is
+    ends_at l names names recall (Err e) k (Fails Memory ∷ [])
+    (inr (inl (record { front = k.done; back = k.later; cut = k.split; ends = refl })))
+    (record { values = λ n. refl; is_answer = is })
 
 -- it ends at the bound on reads
-ends_bound : {A : Type 0} (l : Load) (names : Texts) (recall : Remembered) (x : IoError) (k : Done l names recall) → error_kind x ≡ Other → StopsAtBound l.dialect l.ahead (certain_bytes l.start) (k.done ++ Fails (Io Other) ∷ []) → Ends {A = A} l names (Err (error.Io x))
-ends_bound l names recall x k is stops = ends_at l names recall (Err (error.Io x)) k (Fails (Io Other) ∷ []) (Err (Io Other)) (inr (inr stops)) refl is
+ends_bound : {A : Type 0} (l : Load) (names : Texts) (recall : Remembered) (x : IoError) (k : Done l names recall) →
+    error_kind x ≡ Other → StopsAtBound l.dialect l.ahead (certain_bytes l.start) (k.done ++ Fails (Io Other) ∷ []) →
+    Ends {A = A} l names (Err (error.Io x))
+ends_bound l names recall x k is stops =
+    ends_at l names names recall (Err (error.Io x)) k (Fails (Io Other) ∷ []) (inr (inr stops))
+    (record { values = λ n. refl; is_answer = is })
 
 -- it ends at the fault that is told, after the last entry
-ends_told : {A : Type 0} (l : Load) (names : Texts) (recall : Remembered) (x : IoError) (k : Done l names recall) → l.ahead.fault ≡ Some (error_kind x) → k.later ≡ [] → Ends {A = A} l names (Err (error.Io x))
-ends_told l names recall x k told none =
-    ends_read l names recall (Err (error.Io x)) k (Err (Io (error_kind x)))
-    (ap (run_on l names recall) (ap (λ es. es ++ told_fault l.ahead.fault) none ∙ ap told_fault told)) refl
+ends_told : {A : Type 0} (l : Load) (names : Texts) (recall : Remembered) (x : IoError) (k : Done l names recall) →
+    l.ahead.fault ≡ Some (error_kind x) → k.later ≡ [] → Ends {A = A} l names (Err (error.Io x))
+ends_told {A = A} l names recall x k told none =
+    ends_read l names names recall (Err (error.Io x)) k
+    (subst (λ es. Leaves {A = A} (run_on l names recall es) names (Err (error.Io x)))
+    (sym (ap (λ es. es ++ told_fault l.ahead.fault) none ∙ ap told_fault told))
+    (record { values = λ n. refl; is_answer = refl }))
 
 -- a final fault: refused memory, the fault that is told, or the bound
-ends_final : {A : Type 0} (l : Load) (b : Ahead) (t v : InputState) (P : List ℕ → Type 0) (names : Texts) (recall : Remembered) (e : Error A) (k : Done l names recall) → l.ahead.fault ≡ b.fault →
-    ((kind : ErrorKind) → l.ahead.fault ≡ Some kind → P b.bytes → k.later ≡ []) → (BoundIsMet b t P v → StopsAtBound l.dialect l.ahead (certain_bytes l.start) (k.done ++ Fails (Io Other) ∷ [])) → IsFinal b t P e v → Ends l names (Err e)
+ends_final : {A : Type 0} (l : Load) (b : Ahead) (t v : InputState) (P : List ℕ → Type 0) (names : Texts)
+    (recall : Remembered) (e : Error A) (k : Done l names recall) → l.ahead.fault ≡ b.fault →
+    ((kind : ErrorKind) → l.ahead.fault ≡ Some kind → P b.bytes → k.later ≡ []) →
+    (BoundIsMet b t P v → StopsAtBound l.dialect l.ahead (certain_bytes l.start) (k.done ++ Fails (Io Other) ∷ [])) →
+    IsFinal b t P e v → Ends l names (Err e)
 ends_final l b t v P names recall e k same told stops (inl memory) = ends_memory l names recall e k memory
 ends_final l b t v P names recall (error.LineParse n i) k same told stops (inr io) = absurd io
-ends_final l b t v P names recall (error.Io x) k same told stops (inr (inl fault)) = ends_told l names recall x k (same ∙ fault.0) (told (error_kind x) (same ∙ fault.0) fault.1)
-ends_final l b t v P names recall (error.Io x) k same told stops (inr (inr bound)) = ends_bound l names recall x k bound.0 (stops bound.1)
+ends_final l b t v P names recall (error.Io x) k same told stops (inr (inl fault)) =
+    ends_told l names recall x k (same ∙ fault.0) (told (error_kind x) (same ∙ fault.0) fault.1)
+ends_final l b t v P names recall (error.Io x) k same told stops (inr (inr bound)) =
+    ends_bound l names recall x k bound.0 (stops bound.1)
 ends_final l b t v P names recall (error.EnvVar x) k same told stops (inr io) = absurd io
 ends_final l b t v P names recall (error.Nul x) k same told stops (inr io) = absurd io
 ends_final l b t v P names recall (error.Memory x) k same told stops (inr io) = absurd io
@@ -146,33 +177,129 @@ ends_final l b t v P names recall (error.Memory x) k same told stops (inr io) = 
 open_ended : Open ≡ Ended → ⊥
 open_ended h = cc
 
--- the next item is of the first of the later entries
-came_item : {A : Type 0} (l : Load) (names : Texts) (t u : IterState) (item : Result (String A × String A) (Error A)) (k : Came l names t) → NextItem names t (Some item) u → ItemIs names (record { bytes = k.left; fault = l.ahead.fault }) t k.loaded.later (Some item) u
-came_item l names t u item k next = at k.goes_on
-  where
-    at : GoesOn t.lines → ItemIs names (record { bytes = k.left; fault = l.ahead.fault }) t k.loaded.later (Some item) u
-    at (inl opened) = next.0 opened (ahead_of k.left l.ahead.fault) k.is_told k.loaded.later k.has_left
-    at (inr ended) = absurd (none-some item (sym (next.1 (λ opened. open_ended (sym opened ∙ ended.0))).0))
+-- a load that is given a line came to where reading goes on
+came_open : {A : Type 0} (l : Load) (names : Texts) (t : IterState) (line : Result (Unit {0}) (Error A)) →
+    Came l names t → (t.lines.stage ≢ Open → ◌≡◌ {A = Option (Result (Unit {0}) (Error A))} (Some line) None) →
+    t.lines.stage ≡ Open
+came_open l names t line k shut = elim k.goes_on [
+  | inl opened ↦ opened
+  | inr ended ↦ absurd (none-some line (sym (shut (λ opened. open_ended (sym opened ∙ ended.0)))))
+]
 
--- no item ends a load
-ends_none : {A : Type 0} (l : Load) (names : Texts) (t u : IterState) → Came l names t → NextItem {A = A} names t None u → Ends {A = A} l names (Ok tt)
-ends_none {A = A} l names t u k next =
+-- before a line the end was not read
+decided_so_far : (l : Load) (names : Texts) (t : IterState) (next : Logical) (m : InputState) →
+    (k : Came l names t) → TakesNext (record { bytes = k.left; fault = l.ahead.fault }) t.lines.input next m →
+    DecideDone l t k.loaded.done k.used k.left
+decided_so_far l names t next m k takes =
+    elim k.stays [ inl ended ↦ absurd (takes.some (no_lines l.ahead.fault k.left ended.1)) | inr decide ↦ decide ]
+
+-- the entries of one more line are decided
+decide_more : (l : Load) (t u : IterState) (done front : List Entry) (used left : List ℕ) (next : Logical)
+    (m : InputState) → DecideDone l t done used left →
+    (k : TakesNext (record { bytes = left; fault = l.ahead.fault }) t.lines.input next m) →
+    (IsOpen next → ⊥) → IsNextAlways k.used k.count next → Gives t.dialect next front → u.dialect ≡ t.dialect →
+    DecideDone l u (done ++ front) (used ++ k.used) k.left
+decide_more l t u done front used left next m decide k no_open always gives dialect more rest decided cut has =
+    let first = decided-next t.dialect k.used more k.count next front decided no_open always gives
+    (subst (λ d. HasDecided d more decided) dialect has) in
+    let all = decide (k.used ++ more) rest (front ++ decided)
+    (k.joins ∙ ap (λ bytes. k.used ++ bytes) cut ∙ sym (append_assoc k.used more rest)) first in
+    subst (λ bytes. HasDecided l.dialect (without_mark bytes) ((done ++ front) ++ decided))
+    (sym (append_assoc used k.used more))
+    (subst (HasDecided l.dialect (without_mark (used ++ (k.used ++ more)))) (sym (append_assoc done front decided)) all)
+
+-- the entries of a line that a load came through are done
+more_done : (l : Load) (names new : Texts) (recall now : Remembered) (front later : List Entry) →
+    (k : Done l names recall) → k.later ≡ front ++ later →
+    ((more : List Entry) → SameLoad (run_on l names recall (front ++ more)) (run_on l new now more)) → Done l new now
+more_done l names new recall now front later k first same = record {
+  done = k.done ++ front;
+  later = later;
+  split = k.split ∙ ap (λ es. k.done ++ es) first ∙ sym (append_assoc k.done front later);
+  same = λ more.
+      subst (λ es. SameLoad (run_all l es) (run_on l new now more)) (sym (append_assoc k.done front more))
+      (same-then (run_all l (k.done ++ (front ++ more))) (run_on l names recall (front ++ more))
+      (run_on l new now more) (k.same (front ++ more)) (same more));
+}
+
+-- a line that a load came through leads on
+came_on : (l : Load) (names new : Texts) (t u : IterState) (next : Logical) (front : List Entry) →
+    (k : Came l names t) →
+    TakesNext (record { bytes = k.left; fault = l.ahead.fault }) t.lines.input next u.lines.input → GoesOn u.lines →
+    u.dialect ≡ t.dialect → Gives t.dialect next front →
+    ((more : List Entry) → SameLoad (run_on l names t.remembered (front ++ more)) (run_on l new u.remembered more)) →
+    Came l new u
+unfolding more_done
+came_on l names new t u next front k takes goes_on dialect gives same =
+    let own = took t.dialect l.ahead.fault k.left k.loaded.later t.lines.input u.lines.input next front takes gives
+    k.has_left in
+    record {
+      loaded = more_done l names new t.remembered u.remembered front own.0 k.loaded own.2 same;
+      used = k.used ++ takes.used;
+      left = takes.left;
+      joins = k.joins ∙ ap (λ bytes. k.used ++ bytes) takes.joins ∙ sym (append_assoc k.used takes.used takes.left);
+      stays = elim takes.stays [
+        | inl ended ↦ inl ended
+        | inr always ↦ inr (decide_more l t u k.loaded.done front k.used k.left next u.lines.input
+            (decided_so_far l names t next u.lines.input k takes) takes always.0 always.1 gives dialect)
+      ];
+      is_told = (takes.is_left, k.is_told.1);
+      has_left = subst (λ d. HasLeft d l.ahead.fault takes.left own.0) (sym dialect) own.1;
+      goes_on = goes_on;
+      reads =
+          fits_more l.ahead (ahead_of k.left l.ahead.fault) (ahead_of takes.left l.ahead.fault) l.start
+          t.lines.input u.lines.input k.reads takes.reads;
+    }
+
+-- where a line stops a load, the load ends with what the line leaves
+ends_line : {A : Type 0} (l : Load) (names new : Texts) (t : IterState) (m : InputState) (next : Logical)
+    (front : List Entry) (failure : Failure) (answer : Result (Unit {0}) (Error A)) → (k : Came l names t) →
+    TakesNext (record { bytes = k.left; fault = l.ahead.fault }) t.lines.input next m → Gives t.dialect next front →
+    (run_on l names t.remembered front).answer ≡ Err failure →
+    Leaves (run_on l names t.remembered front) new answer → Ends l new answer
+ends_line l names new t m next front failure answer k takes gives stops leaves =
+    let own = took t.dialect l.ahead.fault k.left k.loaded.later t.lines.input m next front takes gives k.has_left in
+    let all : k.loaded.later ++ told_fault l.ahead.fault ≡ front ++ (own.0 ++ told_fault l.ahead.fault) =
+    ap (λ es. es ++ told_fault l.ahead.fault) own.2 ∙ append_assoc front own.0 (told_fault l.ahead.fault) in
+    ends_read l names new t.remembered answer k.loaded
+    (subst (λ loaded. Leaves loaded new answer)
+    (sym (ap (run_on l names t.remembered) all
+    ∙ run-stops l.mode (values_of names) (recalled_of t.remembered) front (own.0 ++ told_fault l.ahead.fault)
+    failure stops)) leaves)
+
+-- no line ends a load
+ends_none : {A : Type 0} (l : Load) (names : Texts) (t : IterState) (m : LinesState) (text : List ℕ) →
+    Came l names t →
+    ((a : Ahead) → t.lines.stage ≡ Open → IsTold t.lines.input.left a → AdvanceIs {A = A} a t.lines.input None text m) →
+    Ends {A = A} l names (Ok tt)
+ends_none {A = A} l names t m text k next =
     let rest = at k.goes_on in
-    ends_read l names t.remembered (Ok tt) k.loaded (Ok tt)
-    (ap (run_on l names t.remembered) (ap (λ es. es ++ told_fault l.ahead.fault) rest.0 ∙ ap told_fault rest.1)) tt
+    ends_read l names names t.remembered (Ok tt) k.loaded
+    (subst (λ es. Leaves {A = A} (run_on l names t.remembered es) names (Ok tt))
+    (sym (ap (λ es. es ++ told_fault l.ahead.fault) rest.0 ∙ ap told_fault rest.1))
+    (record { values = λ n. refl; is_answer = tt }))
   where
+    nothing : (bytes : List ℕ) (fault : Option ErrorKind) →
+        Some (ahead_of k.left l.ahead.fault) ≡ Some (ahead_of bytes fault) → bytes ≡ [] → fault ≡ None →
+        (k.loaded.later ≡ []) × (l.ahead.fault ≡ None)
+    nothing bytes fault same empty none =
+        let no_bytes = the_bytes (ahead_of k.left l.ahead.fault) (ahead_of bytes fault) same ∙ empty in
+        let no_fault = the_fault (ahead_of k.left l.ahead.fault) (ahead_of bytes fault) same ∙ none in (
+          left_once t.dialect l.ahead.fault k.left k.loaded.later [] k.has_left
+              (left-none t.dialect l.ahead.fault k.left no_bytes no_fault),
+          no_fault,
+        )
+
     at : GoesOn t.lines → (k.loaded.later ≡ []) × (l.ahead.fault ≡ None)
     at (inl opened) =
-        let is = next.0 opened (ahead_of k.left l.ahead.fault) k.is_told k.loaded.later k.has_left in
-        (is.0, is.1)
-    at (inr ended) =
-        let same = sym k.is_told.0 ∙ ended.1 in
-        let bytes = the_bytes (ahead_of k.left l.ahead.fault) (ahead_of [] None) same in
-        let fault = the_fault (ahead_of k.left l.ahead.fault) (ahead_of [] None) same in
-        (left_once t.dialect l.ahead.fault k.left k.loaded.later [] k.has_left (left-none t.dialect l.ahead.fault k.left bytes fault), fault)
+        let is = next (ahead_of k.left l.ahead.fault) opened k.is_told in
+        nothing k.left l.ahead.fault refl is.0 is.1
+    at (inr ended) = nothing [] None (sym k.is_told.0 ∙ ended.1) refl refl
 
 -- the bound was met after what came
-bound_stops : (l : Load) (names : Texts) (t : IterState) (v : InputState) (k : Came l names t) → BoundIsMet (record { bytes = k.left; fault = l.ahead.fault }) t.lines.input (λ bytes. HasDecided t.dialect bytes []) v → StopsAtBound l.dialect l.ahead (certain_bytes l.start) (k.loaded.done ++ Fails (Io Other) ∷ [])
+bound_stops : (l : Load) (names : Texts) (t : IterState) (v : InputState) (k : Came l names t) →
+    BoundIsMet (record { bytes = k.left; fault = l.ahead.fault }) t.lines.input IsUndecided v →
+    StopsAtBound l.dialect l.ahead (certain_bytes l.start) (k.loaded.done ++ Fails (Io Other) ∷ [])
 bound_stops l names t v k met = record {
   bytes = k.used ++ met.front;
   later = met.later;
@@ -189,136 +316,119 @@ bound_stops l names t v k met = record {
         let read = ap end_reads ended.2 in
         let empty = ap length (sym met.cut ∙ ended.1) in
         absurd (omega (arith, each, read, empty, length-append met.front met.later))
-    | inr decide ↦ subst (HasDecided l.dialect (without_mark (k.used ++ met.front))) (append-nil k.loaded.done) (decide met.front met.later [] met.cut met.holds)
+    | inr decide ↦ subst (HasDecided l.dialect (without_mark (k.used ++ met.front))) (append-nil k.loaded.done)
+        (decide met.front met.later [] met.cut (decided-none t.dialect met.front met.holds))
   ];
   ends = refl;
 }
 
--- a fault ends a load
-ends_fault : {A : Type 0} (l : Load) (names : Texts) (t u : IterState) (e : Error A) → Came l names t → NextItem names t (Some (Err e)) u → Ends l names (Err e)
-ends_fault l names t u e k next = at (came_item l names t u (Err e) k next)
-  where
-    at : ItemIs names (record { bytes = k.left; fault = l.ahead.fault }) t k.loaded.later (Some (Err e)) u → Ends l names (Err e)
-    at (inl (Declares key pieces, is, takes)) = absurd is
-    at (inl (Fails failure, is, takes)) =
-        ends_read l names t.remembered (Err e) k.loaded (Err failure)
-        (ap (λ es. run_on l names t.remembered (es ++ told_fault l.ahead.fault)) takes.first) is
-    at (inr fails) =
-        ends_final l (ahead_of k.left l.ahead.fault) t.lines.input u.lines.input (λ bytes. HasDecided t.dialect bytes []) names t.remembered e k.loaded refl
-        (λ kind told none. left-fault t.dialect l.ahead.fault kind k.left k.loaded.later told k.has_left none) (bound_stops l names t u.lines.input k) fails.1
+-- a fault in the place of a line ends a load
+ends_fault : {A : Type 0} (l : Load) (names : Texts) (t : IterState) (m : LinesState) (text : List ℕ) (e : Error A) →
+    (k : Came l names t) →
+    AdvanceIs {A = A} (record { bytes = k.left; fault = l.ahead.fault }) t.lines.input (Some (Err e)) text m →
+    Ends l names (Err e)
+ends_fault l names t m text e k (inr (failed, final)) =
+    ends_final l (ahead_of k.left l.ahead.fault) t.lines.input m.input IsUndecided names t.remembered e k.loaded refl
+    (λ kind told none. left-fault t.dialect l.ahead.fault kind k.left k.loaded.later told k.has_left
+    (decided-none t.dialect k.left none)) (bound_stops l names t m.input k) final
+ends_fault l names t m line (error.LineParse text index) k (inl (takes, goes_on)) =
+    let failure = LineParse (chars (string_bytes text)) index in
+    ends_line l names names t m.input (OpenEnd (chars (string_bytes text)) index) (Fails failure ∷ []) failure
+    (Err (error.LineParse text index)) k takes refl refl (record { values = λ n. refl; is_answer = (refl, refl) })
+ends_fault l names t m line (error.Io x) k (inl (takes, goes_on)) =
+    ends_line l names names t m.input Broken (Fails (Io InvalidData) ∷ []) (Io InvalidData)
+    (Err (error.Io x)) k takes.1 refl refl (record { values = λ n. refl; is_answer = takes.0 })
+ends_fault l names t m line (error.EnvVar x) k (inl (takes, goes_on)) = absurd takes
+ends_fault l names t m line (error.Nul x) k (inl (takes, goes_on)) = absurd takes
+ends_fault l names t m line (error.Memory x) k (inl (takes, goes_on)) = absurd takes
 
--- a pair is what the first of the later entries declares
-record Pair {A : Type 0} (names : Texts) (b : Ahead) (t : IterState) (later : List Entry) (pair : String A × String A) (u : IterState) : Type 0 where
-  pieces : List Piece
-  value : chars (string_bytes pair.1) ≡ meaning (names_of names t.remembered) pieces
-  takes : TakesEntry names b t later (Declares (chars (string_bytes pair.0)) pieces) u
+-- the logical line that a text is, and that it gives what the text says
+record TakesText (dialect : Dialect) (a : Ahead) (s : InputState) (text : List ℕ) (outcome : Outcome)
+    (m : LinesState) : Type 0 where
+  next : Logical
+  takes : TakesNext a s next m.input
+  gives : Gives dialect next (outcome_entries outcome)
+  goes_on : GoesOn m
 
-came_pair : {A : Type 0} (l : Load) (names : Texts) (t u : IterState) (pair : String A × String A) (k : Came l names t) → NextItem {A = A} names t (Some (Ok pair)) u → Pair names (record { bytes = k.left; fault = l.ahead.fault }) t k.loaded.later pair u
-came_pair {A = A} l names t u pair k next = at (came_item {A = A} l names t u (Ok pair) k next)
-  where
-    at : ItemIs {A = A} names (record { bytes = k.left; fault = l.ahead.fault }) t k.loaded.later (Some (Ok pair)) u → Pair names (record { bytes = k.left; fault = l.ahead.fault }) t k.loaded.later pair u
-    at (inl (Declares key pieces, is, takes)) = record { pieces = pieces; value = is.1; takes = subst (λ n. TakesEntry names (ahead_of k.left l.ahead.fault) t k.loaded.later (Declares n pieces) u) (sym is.0) takes }
-    at (inl (Fails failure, is, takes)) = absurd is
-    at (inr fails) = absurd fails
-
-same-then : (x y z : Loaded) → SameLoad x y → SameLoad y z → SameLoad x z
-same-then x y z h k = record { env = λ n. h.env n ∙ k.env n; answer = h.answer ∙ k.answer }
-
-same-as : (x y : Loaded) → x ≡ y → SameLoad x y
-same-as x y h = record { env = λ n. ap (λ (r : Loaded). r.env n) h; answer = ap (λ (r : Loaded). r.answer) h }
-
--- a declaration that is set or passed by is done
-declared_done : (l : Load) (names new : Texts) (recall now : Remembered) (key value : List ℕ) (pieces : List Piece) (rest : List Entry) (b : Bool) → (k : Done l names recall) → k.later ≡ Declares key pieces ∷ rest → value ≡ meaning (names_of names recall) pieces → sets l.mode (values_of names) key ≡ b → (b && has_nul value) ≡ false →
-    ((n : List ℕ) → values_of new n ≡ (if b then with_value (values_of names) key value else values_of names) n) →
-    RemembersEntry (names_of names recall) (recalled_of recall) (recalled_of now) (Declares key pieces) → Done l new now
-declared_done l names new recall now key value pieces rest b k first means is good values remembers = record {
-  done = k.done ++ Declares key pieces ∷ [];
-  later = rest;
-  split = k.split ∙ ap (λ es. k.done ++ es) first ∙ sym (append_assoc k.done (Declares key pieces ∷ []) rest);
-  same = λ more.
-      same-then (run_all l ((k.done ++ Declares key pieces ∷ []) ++ more)) (run_on l names recall (Declares key pieces ∷ more)) (run_on l new now more)
-      (same-then (run_all l ((k.done ++ Declares key pieces ∷ []) ++ more)) (run_all l (k.done ++ Declares key pieces ∷ more)) (run_on l names recall (Declares key pieces ∷ more))
-      (same-as _ _ (ap (run_all l) (append_assoc k.done (Declares key pieces ∷ []) more)))
-      (k.same (Declares key pieces ∷ more)))
-      (same-then (run_on l names recall (Declares key pieces ∷ more)) (run l.mode after (with_value (recalled_of recall) key v) more) (run_on l new now more)
-      (same-as _ _ (if_false (record { env = values_of names; answer = Err (Nul key) }) (run l.mode after (with_value (recalled_of recall) key v) more) (sets l.mode (values_of names) key && has_nul v) (ap (λ t. t && has_nul v) is ∙ ap (λ t. b && has_nul t) (sym means) ∙ good)))
-      (run-same l.mode after (values_of new) (with_value (recalled_of recall) key v) (recalled_of now) more
-      (λ n. sym (values n ∙ after-same (values_of names) (values_of names) key value v n b (sets l.mode (values_of names) key) (sym is) means refl))
-      (λ n. sym (remembers n))));
+takes_line : (A : Type 0) (dialect : Dialect) (a : Ahead) (s : InputState) (text : List ℕ) (outcome : Outcome)
+    (m : LinesState) → AdvanceIs {A = A} a s (Some (Ok tt)) text m → Says dialect (chars text) outcome →
+    TakesText dialect a s text outcome m
+takes_line A dialect a s text outcome m (inr fails) says = absurd fails
+takes_line A dialect a s text outcome m (inl (inr takes, goes_on)) says =
+    record { next = Text (chars text); takes = takes; gives = (outcome, says, refl); goes_on = goes_on }
+takes_line A dialect a s text outcome m (inl (inl (empty, takes), goes_on)) says = record {
+  next = Skip;
+  takes = takes;
+  gives = ap outcome_entries
+      (one_outcome dialect [] outcome Nothing
+      (subst (λ cs. Says dialect cs outcome) (ap chars empty ∙ chars-nil) says) refl);
+  goes_on = goes_on;
 }
+
+-- an answer that says that all went well
+went_well : (A : Type 0) (said : Result (Unit {0}) Failure) → IsAnswer {A = A} said (Ok tt) → said ≡ Ok tt
+went_well A (Ok done) is = refl
+went_well A (Err failure) is = absurd is
+
+-- a line that was loaded leads on
+line_leads : {A : Type 0} (l : Load) (names new : Texts) (t u : IterState) (text : List ℕ) → (k : Came l names t) →
+    AdvanceIs {A = A} (record { bytes = k.left; fault = l.ahead.fault }) t.lines.input (Some (Ok tt)) text u.lines →
+    LoadsLine {A = A} l.mode t.dialect t.remembered (chars text) names (Ok tt) new →
+    u.remembered ≡ t.remembered → u.dialect ≡ t.dialect → Came l new u
+line_leads l names new t u text k next (inl refused) recall dialect = absurd refused.0
+line_leads {A = A} l names new t u text k next (inr (outcome, says, leaves)) recall dialect =
+    let line = takes_line A t.dialect (ahead_of k.left l.ahead.fault) t.lines.input text outcome u.lines next says in
+    let through = went_well A (run_on l names t.remembered (outcome_entries outcome)).answer leaves.is_answer in
+    came_on l names new t u line.next (outcome_entries outcome) k line.takes line.goes_on dialect line.gives
+    (λ more. subst (λ r. SameLoad (run_on l names t.remembered (outcome_entries outcome ++ more))
+    (run_on l new r more)) (sym recall)
+    (run-goes_on l.mode (values_of names) (values_of new) (recalled_of t.remembered) outcome more through
+    leaves.values))
+
+-- a line that is a fault, or of which a value is one, ends a load
+line_ends : {A : Type 0} (l : Load) (names new : Texts) (t : IterState) (m : LinesState) (text : List ℕ)
+    (e : Error A) → (k : Came l names t) →
+    AdvanceIs {A = A} (record { bytes = k.left; fault = l.ahead.fault }) t.lines.input (Some (Ok tt)) text m →
+    LoadsLine l.mode t.dialect t.remembered (chars text) names (Err e) new → Ends l new (Err e)
+line_ends l names new t m text e k next (inl (refused, same)) =
+    subst (λ n. Ends l n (Err e)) (sym same) (ends_memory l names t.remembered e k.loaded refused)
+line_ends {A = A} l names new t m text e k next (inr (outcome, says, leaves)) =
+    let line = takes_line A t.dialect (ahead_of k.left l.ahead.fault) t.lines.input text outcome m next says in
+    let loaded = run_on l names t.remembered (outcome_entries outcome) in
+    at loaded.answer refl leaves.is_answer line
   where
-    v : List ℕ
-    v = meaning (names_of names recall) pieces
-
-    after : LookUp
-    after = after_declaration l.mode (values_of names) key v
-
--- one more entry is decided
-decide_more : (l : Load) (t u : IterState) (entry : Entry) (done : List Entry) (used left taken later : List ℕ) → DecideDone l t done used left → left ≡ taken ++ later → u.dialect ≡ t.dialect → DecideFirst t.dialect taken (entry ∷ []) → DecideDone l u (done ++ entry ∷ []) (used ++ taken) later
-decide_more l t u entry done used left taken later decide joins dialect first more rest decided cut has =
-    let all = decide (taken ++ more) rest (entry ∷ decided) (joins ∙ ap (λ bytes. taken ++ bytes) cut ∙ sym (append_assoc taken more rest)) (first more decided (subst (λ d. HasDecided d more decided) dialect has)) in
-    subst (λ bytes. HasDecided l.dialect (without_mark bytes) ((done ++ entry ∷ []) ++ decided)) (sym (append_assoc used taken more))
-    (subst (HasDecided l.dialect (without_mark (used ++ (taken ++ more)))) (sym (append_assoc done (entry ∷ []) decided)) all)
-
--- before an entry the end was not read
-decided_so_far : (l : Load) (names : Texts) (t u : IterState) (entry : Entry) → (k : Came l names t) → TakesEntry names (record { bytes = k.left; fault = l.ahead.fault }) t k.loaded.later entry u → DecideDone l t k.loaded.done k.used k.left
-decided_so_far l names t u entry k takes = elim k.stays [ inl ended ↦ absurd (none_first (sym takes.first ∙ left_once t.dialect l.ahead.fault k.left k.loaded.later [] k.has_left (left-none t.dialect l.ahead.fault k.left ended.1 ended.0))) | inr decide ↦ decide ]
-  where
-    none_first : {es : List Entry} → entry ∷ es ≡ [] → ⊥
-    none_first h = cc
-
--- a pair that is set or passed by leads on
-came_on : {A : Type 0} (l : Load) (names new : Texts) (t u : IterState) (pair : String A × String A) (b : Bool) → Came l names t → NextItem {A = A} names t (Some (Ok pair)) u → sets l.mode (values_of names) (chars (string_bytes pair.0)) ≡ b → (b && has_nul (chars (string_bytes pair.1))) ≡ false →
-    ((n : List ℕ) → values_of new n ≡ (if b then with_value (values_of names) (chars (string_bytes pair.0)) (chars (string_bytes pair.1)) else values_of names) n) → Came l new u
-unfolding declared_done came_pair
-came_on {A = A} l names new t u pair b k next is good values =
-    let p = came_pair {A = A} l names t u pair k next in
-    let takes = p.takes in
-    record {
-      loaded = declared_done l names new t.remembered u.remembered (chars (string_bytes pair.0)) (chars (string_bytes pair.1)) p.pieces takes.later b k.loaded takes.first p.value is good values takes.remembers;
-      used = k.used ++ takes.used;
-      left = takes.left;
-      joins = k.joins ∙ ap (λ bytes. k.used ++ bytes) takes.joins ∙ sym (append_assoc k.used takes.used takes.left);
-      stays = elim takes.stays [
-        | inl ended ↦ inl ended
-        | inr first ↦ inr (decide_more l t u (Declares (chars (string_bytes pair.0)) p.pieces) k.loaded.done k.used k.left takes.used takes.left (decided_so_far l names t u (Declares (chars (string_bytes pair.0)) p.pieces) k takes) takes.joins takes.dialect first)
-      ];
-      is_told = (takes.is_left, k.is_told.1);
-      has_left = subst (λ d. HasLeft d l.ahead.fault takes.left takes.later) (sym takes.dialect) takes.has_left;
-      goes_on = takes.goes_on;
-      reads = fits_more l.ahead (ahead_of k.left l.ahead.fault) (ahead_of takes.left l.ahead.fault) l.start t.lines.input u.lines.input k.reads takes.reads;
-    }
-
--- an answer of `set`, where the value has a NUL or memory is refused, ends a load
-ends_set : {A : Type 0} (l : Load) (names : Texts) (t u : IterState) (pair : String A × String A) (e : Error A) → Came l names t → NextItem {A = A} names t (Some (Ok pair)) u → sets l.mode (values_of names) (chars (string_bytes pair.0)) ≡ true → is_key (chars (string_bytes pair.0)) ≡ true →
-    (value_ok (string_bytes pair.1) ≡ true → IsMemory e) → (value_ok (string_bytes pair.1) ≡ false → IsNulOf (string_bytes pair.0) e) → Ends l names (Err e)
-ends_set {A = A} l names t u pair e k next is key good nul = at (value_ok (string_bytes pair.1)) refl
-  where
-    at : (b : Bool) → value_ok (string_bytes pair.1) ≡ b → Ends l names (Err e)
-    at true h = ends_memory l names t.remembered e k.loaded (good h)
-    at false h =
-        let p = came_pair {A = A} l names t u pair k next in
-        let takes = p.takes in
-        let text = chars (string_bytes pair.0) in
-        let v = meaning (names_of names t.remembered) p.pieces in
-        let has : has_nul v ≡ true = ap has_nul (sym p.value) ∙ not_false (has_nul (chars (string_bytes pair.1))) (sym (value_ok-chars (string_bytes pair.1) (IsUtf8-string_bytes pair.1)) ∙ h) in
-        ends_read l names t.remembered (Err e) k.loaded (Err (Nul text))
-        (ap (λ es. run_on l names t.remembered (es ++ told_fault l.ahead.fault)) takes.first
-        ∙ if_true (record { env = values_of names; answer = Err (Nul text) }) (run l.mode (after_declaration l.mode (values_of names) text v) (with_value (recalled_of t.remembered) text v) (takes.later ++ told_fault l.ahead.fault)) (sets l.mode (values_of names) text && has_nul v) (ap (λ c. c && has_nul v) is ∙ has))
-        (subst (λ n. IsNulOf n e) (sym (chars-key (string_bytes pair.0) (IsUtf8-string_bytes pair.0) key)) (nul h))
+    at : (said : Result (Unit {0}) Failure) → (run_on l names t.remembered (outcome_entries outcome)).answer ≡ said →
+        IsAnswer said (Err e) → TakesText t.dialect (ahead_of k.left l.ahead.fault) t.lines.input text outcome m →
+        Ends l new (Err e)
+    at (Ok done) stops is line = absurd is
+    at (Err failure) stops is line =
+        ends_line l names new t m.input line.next (outcome_entries outcome) failure (Err e) k line.takes line.gives
+        stops leaves
 
 -- a load begins behind the mark
-pub came_start : (A : Type 0) (mode : Mode) (s t : IterState) (old : Texts) → t.lines.stage ≡ s.lines.stage → t.remembered ≡ s.remembered → t.dialect ≡ s.dialect → ((a : Ahead) → s.lines.stage ≡ Open → IsTold s.lines.input.left a → DropsMark {A = A} a s.lines.input (Ok tt) t.lines.input) → CameTo mode s old old t
+pub came_start : (A : Type 0) (mode : Mode) (s t : IterState) (old : Texts) → t.lines.stage ≡ s.lines.stage →
+    t.remembered ≡ s.remembered → t.dialect ≡ s.dialect →
+    ((a : Ahead) → s.lines.stage ≡ Open → IsTold s.lines.input.left a →
+    DropsMark {A = A} a s.lines.input (Ok tt) t.lines.input) → CameTo mode s old old t
 came_start A mode s t old stage recall dialect drops opened a told entries has =
     let d = drops a opened told in
     let m = marked a.bytes in
     let l = load_of mode s old a entries in
     record {
-      loaded = record { done = []; later = entries; split = refl; same = λ more. subst (λ r. SameLoad (run_all l more) (run_on l old r more)) (sym recall) (same-as _ _ refl) };
+      loaded = record {
+        done = [];
+        later = entries;
+        split = refl;
+        same = λ more.
+            subst (λ r. SameLoad (run_all l more) (run_on l old r more)) (sym recall)
+            (record { env = λ n. refl; answer = refl });
+      };
       used = m.used;
       left = without_mark a.bytes;
       joins = m.joins;
-      stays = inr (λ more rest decided cut has'. subst (λ bytes. HasDecided s.dialect bytes decided) (sym (m.stays more rest cut)) (subst (λ e. HasDecided e more decided) dialect has'));
+      stays = inr (λ more rest decided cut has'.
+          subst (λ bytes. HasDecided s.dialect bytes decided) (sym (m.stays more rest cut))
+          (subst (λ e. HasDecided e more decided) dialect has'));
       is_told = (d.0, told.1);
       has_left = subst (λ e. HasLeft e a.fault (without_mark a.bytes) entries) (sym dialect) has;
       goes_on = inl (stage ∙ opened);
@@ -326,10 +436,14 @@ came_start A mode s t old stage recall dialect drops opened a told entries has =
     }
 
 -- a fault before the mark is decided ends a load
-ends_mark : {A : Type 0} (mode : Mode) (s : IterState) (v : InputState) (old : Texts) (a : Ahead) (entries : List Entry) (e : Error A) → HasLeft s.dialect a.fault (without_mark a.bytes) entries → DropsMark a s.lines.input (Err e) v → Ends (load_of mode s old a entries) old (Err e)
+ends_mark : {A : Type 0} (mode : Mode) (s : IterState) (v : InputState) (old : Texts) (a : Ahead)
+    (entries : List Entry) (e : Error A) → HasLeft s.dialect a.fault (without_mark a.bytes) entries →
+    DropsMark a s.lines.input (Err e) v → Ends (load_of mode s old a entries) old (Err e)
 ends_mark mode s v old a entries e has drops =
-    ends_final (load_of mode s old a entries) a s.lines.input v (λ bytes. begins_mark bytes ≡ true) old s.remembered e (none_done mode s old a entries) refl
-    (λ kind told begins. left-fault s.dialect a.fault kind (without_mark a.bytes) entries told has (mark_decides s.dialect a.bytes begins))
+    ends_final (load_of mode s old a entries) a s.lines.input v
+    (λ bytes. begins_mark bytes ≡ true) old s.remembered e (none_done mode s old a entries) refl
+    (λ kind told begins. left-fault s.dialect a.fault kind (without_mark a.bytes) entries told has
+    (mark_decides s.dialect a.bytes begins))
     (λ met. record {
       bytes = met.front;
       later = met.later;
@@ -341,50 +455,85 @@ ends_mark mode s v old a entries e has drops =
     })
     drops
 
--- a load of what s has left, which came to t: the next pair is set
-pub came_set : {A : Type 0} (mode : Mode) (s t u : IterState) (old names : Texts) (key value : String A) (item : Result (String A × String A) (Error A)) → CameTo mode s old names t → NextItem names t (Some item) u → item ≡ Ok (key, value) → sets mode (values_of names) (chars (string_bytes key)) ≡ true → (value_ok (string_bytes value) ≡ false → ⊥) → CameTo mode s old (insert names (string_bytes key) (string_bytes value)) u
-came_set {A = A} mode s t u old names key value item came next is set good opened a told entries has =
-    came_on {A = A} (load_of mode s old a entries) names (insert names (string_bytes key) (string_bytes value)) t u (key, value) true (came opened a told entries has)
-    (subst (λ r. NextItem names t (Some r) u) is next) set (no_nul (value_ok (string_bytes value)) (has_nul (chars (string_bytes value))) (value_ok-chars (string_bytes value) (IsUtf8-string_bytes value)) good)
-    (values_of-insert names (string_bytes key) (string_bytes value) (IsUtf8-string_bytes key))
-  where
-    no_nul : (b c : Bool) → b ≡ not c → (b ≡ false → ⊥) → c ≡ false
-    no_nul b false h k = refl
-    no_nul b true h k = absurd (k h)
+-- a load of what s has left, which came to t: the next line is loaded
+pub came_line : {A : Type 0} (mode : Mode) (s t u : IterState) (old names new : Texts)
+    (line : Result (Unit {0}) (Error A)) (text : List ℕ) → CameTo mode s old names t → line ≡ Ok tt →
+    (t.lines.stage ≢ Open → ◌≡◌ {A = Option (Result (Unit {0}) (Error A))} (Some line) None) →
+    ((a : Ahead) → t.lines.stage ≡ Open → IsTold t.lines.input.left a → AdvanceIs a t.lines.input (Some line) text u.lines) →
+    LoadsLine {A = A} mode t.dialect t.remembered (chars text) names (Ok tt) new →
+    u.remembered ≡ t.remembered → u.dialect ≡ t.dialect → CameTo mode s old new u
+came_line {A = A} mode s t u old names new line text came is shut next loads recall dialect opened a told entries has =
+    let l = load_of mode s old a entries in
+    let k = came opened a told entries has in
+    let given = next (ahead_of k.left a.fault) (came_open l names t line k shut) k.is_told in
+    line_leads l names new t u text k
+    (subst (λ r. AdvanceIs {A = A} (ahead_of k.left a.fault) t.lines.input (Some r) text u.lines) is given) loads recall dialect
 
--- it is passed by
-pub came_passed : {A : Type 0} (mode : Mode) (s t u : IterState) (old names : Texts) (key value : String A) (item : Result (String A × String A) (Error A)) → CameTo mode s old names t → NextItem names t (Some item) u → item ≡ Ok (key, value) → sets mode (values_of names) (chars (string_bytes key)) ≡ false → CameTo mode s old names u
-came_passed {A = A} mode s t u old names key value item came next is passed opened a told entries has =
-    came_on {A = A} (load_of mode s old a entries) names names t u (key, value) false (came opened a told entries has) (subst (λ r. NextItem names t (Some r) u) is next) passed refl (λ n. refl)
+-- it is a fault, or its value is one
+pub loads_line : {A : Type 0} (mode : Mode) (s t : IterState) (m : LinesState) (old names new : Texts)
+    (line : Result (Unit {0}) (Error A)) (text : List ℕ) (e : Error A) → s.lines.stage ≡ Open →
+    CameTo mode s old names t → line ≡ Ok tt →
+    (t.lines.stage ≢ Open → ◌≡◌ {A = Option (Result (Unit {0}) (Error A))} (Some line) None) →
+    ((a : Ahead) → t.lines.stage ≡ Open → IsTold t.lines.input.left a → AdvanceIs a t.lines.input (Some line) text m) →
+    LoadsLine mode t.dialect t.remembered (chars text) names (Err e) new →
+    LoadsLeft (run mode) s old (Err e) new
+loads_line {A = A} mode s t m old names new line text e opened came is shut next loads = λ a told entries has.
+    let l = load_of mode s old a entries in
+    let k = came opened a told entries has in
+    let given = next (ahead_of k.left a.fault) (came_open l names t line k shut) k.is_told in
+    line_ends l names new t m text e k
+    (subst (λ r. AdvanceIs {A = A} (ahead_of k.left a.fault) t.lines.input (Some r) text m) is given) loads
+
+-- there is a fault in its place
+pub loads_fault : {A : Type 0} (mode : Mode) (s t : IterState) (m : LinesState) (old names : Texts)
+    (line : Result (Unit {0}) (Error A)) (text : List ℕ) (e : Error A) → s.lines.stage ≡ Open → CameTo mode s old names t →
+    line ≡ Err e →
+    (t.lines.stage ≢ Open → ◌≡◌ {A = Option (Result (Unit {0}) (Error A))} (Some line) None) →
+    ((a : Ahead) → t.lines.stage ≡ Open → IsTold t.lines.input.left a → AdvanceIs a t.lines.input (Some line) text m) →
+    LoadsLeft (run mode) s old (Err e) names
+loads_fault {A = A} mode s t m old names line text e opened came is shut next = λ a told entries has.
+    let l = load_of mode s old a entries in
+    let k = came opened a told entries has in
+    let given = next (ahead_of k.left a.fault) (came_open l names t line k shut) k.is_told in
+    ends_fault l names t m text e k (subst (λ r. AdvanceIs {A = A} (ahead_of k.left a.fault) t.lines.input (Some r) text m) is given)
 
 -- there is none
-pub loads_none : {A : Type 0} (mode : Mode) (s t u : IterState) (old names : Texts) → s.lines.stage ≡ Open → CameTo mode s old names t → NextItem {A = A} names t None u → LoadsLeft {A = A} (run mode) s old (Ok tt) names
-loads_none {A = A} mode s t u old names opened came next = λ a told entries has. ends_none {A = A} (load_of mode s old a entries) names t u (came opened a told entries has) next
-
--- there is a fault
-pub loads_fault : {A : Type 0} (mode : Mode) (s t u : IterState) (old names : Texts) (e : Error A) (item : Result (String A × String A) (Error A)) → s.lines.stage ≡ Open → CameTo mode s old names t → NextItem names t (Some item) u → item ≡ Err e → LoadsLeft (run mode) s old (Err e) names
-loads_fault mode s t u old names e item opened came next is = λ a told entries has. ends_fault (load_of mode s old a entries) names t u e (came opened a told entries has) (subst (λ r. NextItem names t (Some r) u) is next)
-
--- the next pair is not set, as memory is refused or its value has a NUL
-pub loads_unset : {A : Type 0} (mode : Mode) (s t u : IterState) (old names : Texts) (key value : String A) (item : Result (String A × String A) (Error A)) (e : Error A) → s.lines.stage ≡ Open → CameTo mode s old names t → NextItem names t (Some item) u → item ≡ Ok (key, value) → sets mode (values_of names) (chars (string_bytes key)) ≡ true → is_key (chars (string_bytes key)) ≡ true →
-    (value_ok (string_bytes value) ≡ true → IsMemory e) → (value_ok (string_bytes value) ≡ false → IsNulOf (string_bytes key) e) → LoadsLeft (run mode) s old (Err e) names
-loads_unset mode s t u old names key value item e opened came next is set is_key good nul = λ a told entries has.
-    ends_set (load_of mode s old a entries) names t u (key, value) e (came opened a told entries has) (subst (λ r. NextItem names t (Some r) u) is next) set is_key good nul
+pub loads_none : {A : Type 0} (mode : Mode) (s t : IterState) (m : LinesState) (old names : Texts) (text : List ℕ) →
+    s.lines.stage ≡ Open → CameTo mode s old names t →
+    ((a : Ahead) → t.lines.stage ≡ Open → IsTold t.lines.input.left a → AdvanceIs {A = A} a t.lines.input None text m) →
+    LoadsLeft {A = A} (run mode) s old (Ok tt) names
+loads_none {A = A} mode s t m old names text opened came next =
+    λ a told entries has.
+    ends_none {A = A} (load_of mode s old a entries) names t m text (came opened a told entries has) next
 
 -- a fault comes before the mark is decided
-pub loads_mark : {A : Type 0} (mode : Mode) (s : IterState) (v : InputState) (old : Texts) (e : Error A) → ((a : Ahead) → IsTold s.lines.input.left a → DropsMark a s.lines.input (Err e) v) → LoadsLeft (run mode) s old (Err e) old
+pub loads_mark : {A : Type 0} (mode : Mode) (s : IterState) (v : InputState) (old : Texts) (e : Error A) →
+    ((a : Ahead) → IsTold s.lines.input.left a → DropsMark a s.lines.input (Err e) v) →
+    LoadsLeft (run mode) s old (Err e) old
 loads_mark mode s v old e drops = λ a told entries has. ends_mark mode s v old a entries e has (drops a told)
 
 -- memory is refused at the start
-pub loads_refused : {A : Type 0} (mode : Mode) (s : IterState) (old : Texts) (e : Error A) → IsMemory e → LoadsLeft (run mode) s old (Err e) old
-loads_refused mode s old e is = λ a told entries has. ends_memory (load_of mode s old a entries) old s.remembered e (none_done mode s old a entries) is
+pub loads_refused : {A : Type 0} (mode : Mode) (s : IterState) (old : Texts) (e : Error A) → IsMemory e →
+    LoadsLeft (run mode) s old (Err e) old
+loads_refused mode s old e is =
+    λ a told entries has.
+    ends_memory (load_of mode s old a entries) old s.remembered e (none_done mode s old a entries) is
 
 pub same-back : (x y : Loaded) → SameLoad x y → SameLoad y x
 same-back x y h = record { env = λ n. sym (h.env n); answer = sym h.answer }
 
 -- rules that say the same allow the same loads
-pub loads_by : {A : Type 0} (f g : Rule) (s : IterState) (old new : Texts) (answer : Result (Unit {0}) (Error A)) → ((env remembered : LookUp) (entries : List Entry) → SameLoad (f env remembered entries) (g env remembered entries)) → LoadsLeft f s old answer new → LoadsLeft g s old answer new
+pub loads_by : {A : Type 0} (f g : Rule) (s : IterState) (old new : Texts) (answer : Result (Unit {0}) (Error A)) →
+    ((env remembered : LookUp) (entries : List Entry) →
+    SameLoad (f env remembered entries) (g env remembered entries)) →
+    LoadsLeft f s old answer new → LoadsLeft g s old answer new
 loads_by f g s old new answer same loads = λ a told entries has.
     let l = loads a told entries has in
-    let k = same (values_of old) (recalled_of s.remembered) l.0 in
-    (l.0, l.1, record { values = λ n. l.2.values n ∙ k.env n; is_answer = subst (λ r. IsAnswer r answer) k.answer l.2.is_answer })
+    let k = same (values_of old) (recalled_of s.remembered) l.0 in (
+      l.0,
+      l.1,
+      record {
+        values = λ n. l.2.values n ∙ k.env n;
+        is_answer = subst (λ r. IsAnswer r answer) k.answer l.2.is_answer;
+      },
+    )

@@ -1,8 +1,11 @@
--- Characters that are no name characters, under either dialect.
-use Rattle.std.proofs.Common.{◌≡◌, false, refl}
+-- Characters that are no name characters, under either dialect, and the ASCII characters that are.
+use Rattle.std.proofs.Common.{◌≡◌, ℕ, ◌<◌, Bool, true, false, not, refl}
+use Rattle.std.specs.Prelude.{◌||◌}
+use Rattle.dotenvy.proofs.ByteTables.{all_below, at_each}
 use Rattle.dotenvy.specs.declared.dialect.Dialect.{Dialect}
 use Rattle.dotenvy.specs.declared.dialect.Dialect.TheVariants.{V15, Next}
 use Rattle.dotenvy.specs.Characters.{is_name_character, dollar, left_brace, double_quote, space}
+use Rattle.dotenvy.specs.Slices.{is_name_byte}
 use Rattle.unicode.proofs.DerivedComputing.{ucd_derived}
 use Rattle.unicode.proofs.CategoryComputing.{ucd_category}
 
@@ -25,3 +28,22 @@ pub space_no_name : (dialect : Dialect) → is_name_character dialect space ≡ 
 unfolding is_name_character ucd_derived ucd_category
 space_no_name V15 = refl
 space_no_name Next = refl
+
+-- each ASCII letter and digit
+named : Dialect → ℕ → Bool
+named dialect c = not (is_name_byte dialect c) || is_name_character dialect c
+
+named_below : (dialect : Dialect) → all_below (named dialect) 128 ≡ true
+unfolding all_below named is_name_character ucd_derived ucd_category
+named_below V15 = refl
+named_below Next = refl
+
+pub ascii_name : (dialect : Dialect) (c : ℕ) → c < 128 → is_name_byte dialect c ≡ true
+    → is_name_character dialect c ≡ true
+unfolding named
+ascii_name dialect c small h = at (is_name_byte dialect c) (is_name_character dialect c) h
+    (at_each (named dialect) 128 (named_below dialect) c small)
+  where
+    at : (byte character : Bool) → byte ≡ true → (not byte || character) ≡ true → character ≡ true
+    at true character h k = k
+    at false character h k = cc

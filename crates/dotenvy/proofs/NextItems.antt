@@ -14,19 +14,20 @@ use Rattle.dotenvy.specs.declared.lines.Stage.TheVariants.{Open, Ended, Failed}
 use Rattle.dotenvy.specs.LogicalLine.{Logical, Skip, Text, Open as OpenEnd, Broken, IsNext}
 use Rattle.dotenvy.specs.Line.{Outcome, Nothing, Says}
 use Rattle.dotenvy.specs.Entries.{Entry, Fails, LineParse as FailsLine, Io as FailsIo, outcome_entries, Gives, GiveAll}
-use Rattle.dotenvy.specs.PhysicalLines.{physical_lines, line_texts}
+use Rattle.dotenvy.specs.PhysicalLines.{physical_lines}
 use Rattle.dotenvy.specs.Decided.{HasDecided}
 use Rattle.dotenvy.specs.Environment.{Texts}
 use Rattle.dotenvy.specs.Source.{Ahead}
 use Rattle.dotenvy.specs.Input.{InputState, IsTold, ReadsFit, IsFinal, end_reads}
-use Rattle.dotenvy.specs.Lines.{LinesState, whole_lines, lines_so_far, IsOpen, IsAtEnd, IsNextAlways, TakesNext, TakesAnswer, IsUndecided, GoesOn, FailsFor, NextIs}
+use Rattle.dotenvy.specs.Lines.{LinesState, whole_lines, IsOpen, IsAtEnd, IsNextAlways, TakesNext, TakesFault, IsUndecided, GoesOn, FailsFor}
+use Rattle.dotenvy.specs.Splitter.{AdvanceIs}
 use Rattle.dotenvy.specs.Reading.{HasLeft}
 use Rattle.dotenvy.specs.Names.{recalled_of}
 use Rattle.dotenvy.specs.Iter.{IterState}
 use Rattle.dotenvy.specs.NextItem.{text_of, DecideFirst, UsesLines, ItemIs}
 use Rattle.dotenvy.specs.LineItem.{lines_after, AddsEntries, IsRefused, AddsLine}
 use Rattle.dotenvy.proofs.Inputs.{ahead_of, fits_more, final_before}
-use Rattle.dotenvy.proofs.LineEntries.{left_once, left_exists, left-none, left-next, decided-next, decided-none}
+use Rattle.dotenvy.proofs.LineEntries.{left_once, left-none, took, no_lines, decided-next, decided-none}
 use Rattle.dotenvy.proofs.Outcomes.{one_outcome}
 use Rattle.dotenvy.proofs.FirstLines.{first_lines_more, give_more}
 use Rattle.std.proofs.lemmas.List.{drop-drop}
@@ -88,12 +89,6 @@ passed_all a s t u entries p shut told = at p.goes_on
         let not_open : t.lines.stage ≢ Open = λ h. (let f : Ended ≡ Open = sym ended ∙ h in cc) in
         (no_entries s.dialect a.fault p.left entries p.has_left (ap (λ b. b.bytes) same) (ap (λ b. b.fault) same), ap (λ b. b.fault) same, ap (λ l. l.stage) (shut not_open) ∙ ended)
 
--- a logical line was taken: the entries left are its own, and then those of what it leaves
-took : (dialect : Dialect) (fault : Option ErrorKind) (bytes : List ℕ) (entries : List Entry) (s t : InputState) (next : Logical) (front : List Entry) → (k : TakesNext (record { bytes = bytes; fault = fault }) s next t) → Gives dialect next front → HasLeft dialect fault bytes entries → (later : List Entry) × HasLeft dialect fault k.left later × (entries ≡ front ++ later)
-took dialect fault bytes entries s t next front k gives has =
-    let l = left_exists dialect fault k.left in
-    (l.0, l.1, left_once dialect fault bytes entries (front ++ l.0) has (left-next dialect fault bytes s t next front l.0 k gives l.1))
-
 -- what one more line leads to: an item, or all that was passed
 abbrev pub LeadsTo : {A : Type 0} → Texts → Ahead → IterState → List Entry → Option (Result (String A × String A) (Error A)) → IterState → Type 0
 LeadsTo names a s entries None v = Passed a s entries v
@@ -103,10 +98,6 @@ LeadsTo names a s entries (Some item) v = ItemIs names a s entries (Some item) v
 decide_more : (dialect : Dialect) (used bytes : List ℕ) (count : ℕ) (next : Logical) (front : List Entry) → DecideFirst dialect used [] → (IsOpen next → ⊥) → IsNextAlways bytes count next → Gives dialect next front → DecideFirst dialect (used ++ bytes) front
 decide_more dialect used bytes count next front first no_open always gives more decided has =
     subst (λ all. HasDecided dialect all (front ++ decided)) (sym (append_assoc used bytes more)) (first (bytes ++ more) (front ++ decided) (decided-next dialect bytes more count next front decided no_open always gives has))
-
-no_lines : (fault : Option ErrorKind) (left : List ℕ) → left ≡ [] → whole_lines (ahead_of left fault) ≡ []
-no_lines None left empty = ap line_texts empty
-no_lines (Some kind) left empty = ap lines_so_far empty
 
 -- the bytes before which a line was taken decide what was passed
 passed_stays : (a : Ahead) (s t : IterState) (entries : List Entry) (next : Logical) (m : InputState) → (p : Passed a s entries t) → TakesNext (record { bytes = p.left; fault = a.fault }) t.lines.input next m → DecideFirst s.dialect p.used []
@@ -186,12 +177,12 @@ added names a s t v m entries (entry ∷ later) next (Some item) p k goes_on giv
     )
 
 -- a text was taken, and adds what it says
-text_added : {A : Type 0} (names : Texts) (a : Ahead) (s t v : IterState) (m : LinesState) (entries : List Entry) (text : String A) (outcome : Outcome) (item : Option (Result (String A × String A) (Error A))) → (p : Passed a s entries t) → NextIs (record { bytes = p.left; fault = a.fault }) t.lines.input (Some (Ok text)) m → Says s.dialect (chars (string_bytes text)) outcome → AddsEntries names s.remembered (outcome_entries outcome) item v.remembered → v.lines ≡ m → v.dialect ≡ s.dialect → LeadsTo names a s entries item v
-text_added names a s t v m entries text outcome item p (inl (inl (empty, k), goes_on)) says adds lines dialect =
+text_added : {A : Type 0} (names : Texts) (a : Ahead) (s t v : IterState) (m : LinesState) (entries : List Entry) (u : Unit {0}) (text : List ℕ) (outcome : Outcome) (item : Option (Result (String A × String A) (Error A))) → (p : Passed a s entries t) → AdvanceIs {A = A} (record { bytes = p.left; fault = a.fault }) t.lines.input (Some (Ok u)) text m → Says s.dialect (chars text) outcome → AddsEntries names s.remembered (outcome_entries outcome) item v.remembered → v.lines ≡ m → v.dialect ≡ s.dialect → LeadsTo names a s entries item v
+text_added names a s t v m entries u text outcome item p (inl (inl (empty, k), goes_on)) says adds lines dialect =
     let nothing : outcome ≡ Nothing = one_outcome s.dialect [] outcome Nothing (subst (λ cs. Says s.dialect cs outcome) (ap chars empty ∙ chars-nil) says) refl in
     added names a s t v m entries (outcome_entries outcome) Skip item p k goes_on (ap outcome_entries nothing) adds lines dialect
-text_added names a s t v m entries text outcome item p (inl (inr k, goes_on)) says adds lines dialect = added names a s t v m entries (outcome_entries outcome) (Text (chars (string_bytes text))) item p k goes_on (outcome, says, refl) adds lines dialect
-text_added names a s t v m entries text outcome item p (inr fails) says adds lines dialect = absurd fails
+text_added names a s t v m entries u text outcome item p (inl (inr k, goes_on)) says adds lines dialect = added names a s t v m entries (outcome_entries outcome) (Text (chars text)) item p k goes_on (outcome, says, refl) adds lines dialect
+text_added names a s t v m entries u text outcome item p (inr fails) says adds lines dialect = absurd fails
 
 -- refused memory is a final fault
 refused_leads : {A : Type 0} (names : Texts) (a : Ahead) (s v : IterState) (entries : List Entry) (item : Option (Result (String A × String A) (Error A))) → IsRefused item v.lines → LeadsTo names a s entries item v
@@ -200,7 +191,7 @@ refused_leads names a s v entries (Some (Ok pair)) is = absurd is.0
 refused_leads names a s v entries (Some (Err e)) is = inr (is.1, inl is.0)
 
 -- a fault of the grammar was taken, and adds itself
-fault_added : {A : Type 0} (names : Texts) (a : Ahead) (s t v : IterState) (m : LinesState) (entries : List Entry) (e : Error A) → (p : Passed a s entries t) → TakesAnswer {A = A} (record { bytes = p.left; fault = a.fault }) t.lines.input (Err e) m.input → GoesOn m → v.remembered ≡ s.remembered → v.lines ≡ lines_after e m → v.dialect ≡ s.dialect → LeadsTo names a s entries (Some (Err e)) v
+fault_added : {A : Type 0} (names : Texts) (a : Ahead) (s t v : IterState) (m : LinesState) (entries : List Entry) (e : Error A) → (p : Passed a s entries t) → TakesFault (record { bytes = p.left; fault = a.fault }) t.lines.input e m.input → GoesOn m → v.remembered ≡ s.remembered → v.lines ≡ lines_after e m → v.dialect ≡ s.dialect → LeadsTo names a s entries (Some (Err e)) v
 fault_added names a s t v m entries (LineParse text index) p k goes_on remembered lines dialect = added names a s t v m entries (Fails (FailsLine (chars (string_bytes text)) index) ∷ []) (OpenEnd (chars (string_bytes text)) index) (Some (Err (LineParse text index))) p k goes_on refl (refl, (refl, refl), λ name. ap (λ r. text_of (recalled_of r) name) remembered) lines dialect
 fault_added names a s t v m entries (Io e) p k goes_on remembered lines dialect = added names a s t v m entries (Fails (FailsIo InvalidData) ∷ []) Broken (Some (Err (Io e))) p k.1 goes_on refl (refl, k.0, λ name. ap (λ r. text_of (recalled_of r) name) remembered) lines dialect
 fault_added names a s t v m entries (EnvVar e) p k goes_on remembered lines dialect = absurd k
@@ -231,7 +222,7 @@ none_decided dialect fault kind t used left front later cut (inr each) (inl ende
     absurd (omega (arith, each, read, empty, length-append front later))
 
 -- a final fault adds itself, and the bytes before it decide no entry
-final_added : {A : Type 0} (names : Texts) (a : Ahead) (s t v : IterState) (m : LinesState) (entries : List Entry) (e : Error A) → (p : Passed a s entries t) → FailsFor {T = String A} (record { bytes = p.left; fault = a.fault }) t.lines.input (Err e) IsUndecided m → v.lines ≡ lines_after e m → LeadsTo names a s entries (Some (Err e)) v
+final_added : {A : Type 0} (names : Texts) (a : Ahead) (s t v : IterState) (m : LinesState) (entries : List Entry) (e : Error A) → (p : Passed a s entries t) → FailsFor {T = Unit {0}} (record { bytes = p.left; fault = a.fault }) t.lines.input (Err e) IsUndecided m → v.lines ≡ lines_after e m → LeadsTo names a s entries (Some (Err e)) v
 final_added names a s t v m entries e p (failed, final) lines =
     let b = ahead_of p.left a.fault in
     inr (
@@ -243,22 +234,22 @@ final_added names a s t v m entries e p (failed, final) lines =
     )
 
 -- one more line
-pub line_leads : {A : Type 0} (names : Texts) (a : Ahead) (s t v : IterState) (m : LinesState) (entries : List Entry) (line : Result (String A) (Error A)) (item : Option (Result (String A × String A) (Error A))) → (p : Passed a s entries t) → NextIs (record { bytes = p.left; fault = a.fault }) t.lines.input (Some line) m → AddsLine names (record { lines = m; remembered = s.remembered; dialect = s.dialect }) line item v → v.dialect ≡ s.dialect → LeadsTo names a s entries item v
-line_leads names a s t v m entries (Ok text) item p next (inl refused) dialect = refused_leads names a s v entries item refused
-line_leads names a s t v m entries (Ok text) item p next (inr (outcome, says, adds, lines)) dialect = text_added names a s t v m entries text outcome item p next says adds lines dialect
-line_leads names a s t v m entries (Err e) item p (inl (takes, goes_on)) (is, remembered, lines) dialect = subst (λ i. LeadsTo names a s entries i v) (sym is) (fault_added names a s t v m entries e p takes goes_on remembered lines dialect)
-line_leads names a s t v m entries (Err e) item p (inr fails) (is, remembered, lines) dialect = subst (λ i. LeadsTo names a s entries i v) (sym is) (final_added names a s t v m entries e p fails lines)
+pub line_leads : {A : Type 0} (names : Texts) (a : Ahead) (s t v : IterState) (m : LinesState) (entries : List Entry) (line : Result (Unit {0}) (Error A)) (text : List ℕ) (item : Option (Result (String A × String A) (Error A))) → (p : Passed a s entries t) → AdvanceIs (record { bytes = p.left; fault = a.fault }) t.lines.input (Some line) text m → AddsLine names (record { lines = m; remembered = s.remembered; dialect = s.dialect }) line text item v → v.dialect ≡ s.dialect → LeadsTo names a s entries item v
+line_leads names a s t v m entries (Ok u) text item p next (inl refused) dialect = refused_leads names a s v entries item refused
+line_leads names a s t v m entries (Ok u) text item p next (inr (outcome, says, adds, lines)) dialect = text_added names a s t v m entries u text outcome item p next says adds lines dialect
+line_leads names a s t v m entries (Err e) text item p (inl (takes, goes_on)) (is, remembered, lines) dialect = subst (λ i. LeadsTo names a s entries i v) (sym is) (fault_added names a s t v m entries e p takes goes_on remembered lines dialect)
+line_leads names a s t v m entries (Err e) text item p (inr fails) (is, remembered, lines) dialect = subst (λ i. LeadsTo names a s entries i v) (sym is) (final_added names a s t v m entries e p fails lines)
 
 -- one more line of the code, whose splitter has what is left
-pub next_leads : {A : Type 0} (names : Texts) (s t v : IterState) (m : LinesState) (line : Result (String A) (Error A)) (item : Option (Result (String A × String A) (Error A))) →
-    (t.lines.stage ≢ Open → ◌≡◌ {A = Option (Result (String A) (Error A))} (Some line) None) →
-    ((b : Ahead) → t.lines.stage ≡ Open → IsTold t.lines.input.left b → NextIs b t.lines.input (Some line) m) →
-    AddsLine names (record { lines = m; remembered = t.remembered; dialect = t.dialect }) line item v →
+pub next_leads : {A : Type 0} (names : Texts) (s t v : IterState) (m : LinesState) (line : Result (Unit {0}) (Error A)) (text : List ℕ) (item : Option (Result (String A × String A) (Error A))) →
+    (t.lines.stage ≢ Open → ◌≡◌ {A = Option (Result (Unit {0}) (Error A))} (Some line) None) →
+    ((b : Ahead) → t.lines.stage ≡ Open → IsTold t.lines.input.left b → AdvanceIs b t.lines.input (Some line) text m) →
+    AddsLine names (record { lines = m; remembered = t.remembered; dialect = t.dialect }) line text item v →
     v.dialect ≡ t.dialect → (a : Ahead) → IsTold s.lines.input.left a → (entries : List Entry) → Passed a s entries t → LeadsTo names a s entries item v
-next_leads names s t v m line item shut next adds dialect a told entries p =
+next_leads names s t v m line text item shut next adds dialect a told entries p =
     let from_s : IterState = record { lines = m; remembered = s.remembered; dialect = s.dialect } in
     let same : from_s ≡ record { lines = m; remembered = t.remembered; dialect = t.dialect } = sym (ap (λ r. record { lines = m; remembered = r; dialect = t.dialect }) p.remembered ∙ ap (λ d. record { lines = m; remembered = s.remembered; dialect = d }) p.dialect) in
-    line_leads names a s t v m entries line item p (next (ahead_of p.left a.fault) (goes p.goes_on) (p.is_left, told.1)) (subst (λ f. AddsLine names f line item v) (sym same) adds) (dialect ∙ p.dialect)
+    line_leads names a s t v m entries line text item p (next (ahead_of p.left a.fault) (goes p.goes_on) (p.is_left, told.1)) (subst (λ f. AddsLine names f line text item v) (sym same) adds) (dialect ∙ p.dialect)
   where
     goes : GoesOn t.lines → t.lines.stage ≡ Open
     goes (inl is_open) = is_open

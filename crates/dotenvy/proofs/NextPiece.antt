@@ -1,8 +1,9 @@
 -- How the pieces that the code reads follow from the reader of values.
-use Rattle.std.proofs.Common.{◌≡◌, ℕ, ◌+◌, ◌<◌, Bool, true, false, not, ◌&&◌, ◌||◌, List, [], ◌∷◌, ◌++◌, Option, Some, None, refl, sym, ◌∙◌, ap, subst, arith, length, length-append, append_assoc, unwrap_or}
+use Rattle.std.proofs.Common.{◌≡◌, ◌≢◌, ℕ, zero, suc, ◌+◌, ◌/◌, ◌%◌, ◌<◌, Bool, true, false, not, ◌&&◌, ◌||◌, List, [], ◌∷◌, ◌++◌, Option, Some, None, refl, sym, ◌∙◌, ap, subst, arith, length, length-append, append_assoc, unwrap_or}
 use Rattle.std.specs.Prelude.{◌==◌, if◌then◌else◌}
 use Rattle.std.specs.List.{list_all}
 use denote.Ref.{Bor}
+use Rattle.std.proofs.Math.Utf8.{encode}
 use Rattle.std.specs.Char.{encode_utf8}
 use Rattle.std.specs.Str.{chars, encode_utf8_all, IsUtf8}
 use Rattle.std.proofs.lemmas.List.{append-nil}
@@ -305,6 +306,91 @@ no_brace_after dialect text (c ∷ name) rest is h = refl
 -- a brace begins a braced name
 pub brace_read : (dialect : Dialect) (q : Quoting) (text cs : List ℕ) → text ≡ left_brace ∷ cs → IsReadTo dialect (naming q []) text [] (bracing q []) cs
 brace_read dialect q text cs e = subst (λ t. IsReadTo dialect (naming q []) t [] (bracing q []) cs) (sym e) (one dialect (naming q []) (bracing q []) left_brace cs [] (when_false _ _ (is_name_character dialect left_brace) (brace_no_name dialect) ∙ when_false _ _ (is_left_by_name dialect q left_brace) (brace_not_left dialect q)))
+
+-- double quotes in a row
+pub after_quotes : List ℕ → Quoting → Quoting
+after_quotes [] q = q
+after_quotes (c ∷ cs) q = after_quotes cs (other_quoting q)
+
+quote_goes : (dialect : Dialect) (q : Quoting) (c : ℕ) → (c == double_quote) ≡ true
+    → goes dialect (base q) c ≡ Some (base (other_quoting q), [])
+quote_goes dialect q c h = subst (λ d. goes dialect (base q) d ≡ Some (base (other_quoting q), []))
+    (sym (same_from c double_quote h)) (at q)
+  where
+    at : (q : Quoting) → goes dialect (base q) double_quote ≡ Some (base (other_quoting q), [])
+    at unquoted = refl
+    at double_quoted = refl
+
+quotes_read : (dialect : Dialect) (q : Quoting) (quotes rest : List ℕ)
+    → list_all (λ c. c == double_quote) quotes ≡ true
+    → IsReadTo dialect (base q) (quotes ++ rest) [] (base (after_quotes quotes q)) rest
+unfolding after_quotes
+quotes_read dialect q [] rest h = none_read dialect (base q) rest
+quotes_read dialect q (c ∷ cs) rest h =
+    read_on dialect (base q) (base (other_quoting q)) (base (after_quotes cs (other_quoting q))) (c ∷ (cs ++ rest))
+    (cs ++ rest) rest [] []
+    (one dialect (base q) (base (other_quoting q)) c (cs ++ rest) []
+    (quote_goes dialect q c (and_left (c == double_quote) (list_all (λ d. d == double_quote) cs) h)))
+    (quotes_read dialect (other_quoting q) cs rest
+    (and_right (c == double_quote) (list_all (λ d. d == double_quote) cs) h))
+
+other_twice : (q : Quoting) → other_quoting (other_quoting q) ≡ q
+other_twice unquoted = refl
+other_twice double_quoted = refl
+
+after_even : (quotes : List ℕ) (q : Quoting) (half : ℕ) → length quotes ≡ half + half → after_quotes quotes q ≡ q
+unfolding after_quotes
+after_even [] q half h = refl
+after_even (c ∷ []) q half h = absurd (omega (arith, h))
+after_even (c ∷ d ∷ cs) q zero h = absurd (omega (arith, h))
+after_even (c ∷ d ∷ cs) q (suc half) h = after_even cs (other_quoting (other_quoting q)) half (omega (arith, h))
+    ∙ other_twice q
+
+after_odd : (quotes : List ℕ) (q : Quoting) (half : ℕ) → length quotes ≡ half + half + 1
+    → after_quotes quotes q ≡ other_quoting q
+unfolding after_quotes
+after_odd [] q half h = absurd (omega (arith, h))
+after_odd (c ∷ cs) q half h = after_even cs (other_quoting q) half (omega (arith, h))
+
+-- an empty text, after double quotes in a row
+pub gives_quotes : (dialect : Dialect) (q : Quoting) (to : CodeQuoting) (text : List ℕ)
+    (quotes rest nothing : Bor (List ℕ)) → IsUtf8 rest.now
+    → IsSpan (λ c. c == double_quote) (chars text) (chars quotes.now) (chars rest.now)
+    → after_quotes (chars quotes.now) q ≡ quoting_of to → nothing.now ≡ []
+    → GivesPiece dialect (base q) (chars text) (record { piece = CodeText nothing; rest = rest; quoting = to })
+gives_quotes dialect q to text quotes rest nothing u is e none = record {
+  pieces = [];
+  is_read = subst (λ t. IsReadTo dialect (base q) t [] (base (quoting_of to)) (chars rest.now)) (sym is.spelled)
+      (subst (λ k. IsReadTo dialect (base q) (chars quotes.now ++ chars rest.now) [] (base k) (chars rest.now)) e
+      (quotes_read dialect q (chars quotes.now) (chars rest.now) is.pass));
+  follows = u;
+  means = λ look_up. none;
+}
+
+quotes_len : (cs : List ℕ) → list_all (λ c. c == double_quote) cs ≡ true → length (encode_utf8_all cs) ≡ length cs
+unfolding encode
+quotes_len [] h = refl
+quotes_len (c ∷ cs) h =
+    let one = ap (λ d. length (encode_utf8 d ++ encode_utf8_all cs))
+    (same_from c double_quote (and_left (c == double_quote) (list_all (λ d. d == double_quote) cs) h)) in
+    let more = quotes_len cs (and_right (c == double_quote) (list_all (λ d. d == double_quote) cs) h) in
+    omega (arith, one, more)
+
+pub even_quotes : (text : List ℕ) (quotes rest : List ℕ) (q : Quoting) → IsUtf8 quotes
+    → IsSpan (λ c. c == double_quote) (chars text) (chars quotes) (chars rest) → length quotes % 2 ≡ 0
+    → after_quotes (chars quotes) q ≡ q
+even_quotes text quotes rest q u is h =
+    let n = quotes_len (chars quotes) is.pass in
+    let m = ap length (encodes-chars quotes u) in
+    after_even (chars quotes) q (length quotes / 2) (omega (arith, h, n, m))
+
+pub odd_quotes : (text : List ℕ) (quotes rest : List ℕ) (q : Quoting) → IsUtf8 quotes
+    → IsSpan (λ c. c == double_quote) (chars text) (chars quotes) (chars rest) → length quotes % 2 ≢ 0
+    → after_quotes (chars quotes) (other_quoting q) ≡ q
+odd_quotes text quotes rest q u is h =
+    let n = quotes_len (chars quotes) is.pass in
+    let m = ap length (encodes-chars quotes u) in
+    after_odd (chars quotes) (other_quoting q) (length quotes / 2) (omega (arith, h, n, m)) ∙ other_twice q
 
 -- what the first character begins
 pub first_read : (dialect : Dialect) (q : CodeQuoting) (n : Mode) (text cs : List ℕ) (c : ℕ) → text ≡ c ∷ cs → goes dialect (base (quoting_of q)) c ≡ Some (n, []) → IsReadTo dialect (base (quoting_of q)) text [] n cs

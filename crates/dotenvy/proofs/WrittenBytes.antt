@@ -2,17 +2,25 @@
 use Rattle.std.proofs.Common.{◌≡◌, ℕ, ◌+◌, Bool, true, false, cond, List, [], ◌∷◌, ◌++◌, ◌≤◌, map, filter, refl, sym, ◌∙◌, ap, arith, length, length-append, append_assoc}
 use lib.Utf8.{encode}
 use Rattle.std.specs.Prelude.{encode_utf8, encode_utf8_all, Result, Ok, is_ok, ◌-◌, ◌^◌}
-use Rattle.std.specs.List.{flat_map}
+use Rattle.std.specs.List.{flat_map, list_all}
 use Rattle.std.specs.Str.{chars, IsUtf8}
 use Rattle.std.proofs.lemmas.List.{append-nil}
 use Rattle.std.proofs.lemmas.Str.{encodes-chars, encodes-append, chars_past_char}
 use Rattle.dotenvy.specs.Characters.{double_quote, backslash, equals_sign, line_feed, byte_len}
+use Rattle.std.proofs.lemmas.Bool.Decides.{nat_tests}
 use Rattle.dotenvy.specs.Names.{saturated}
+use Rattle.dotenvy.specs.Slices.{IsSpan}
+use Rattle.dotenvy.specs.Value.{is_plain_inside}
+use Rattle.dotenvy.proofs.Basics.{and_left, and_right, not_is}
 use Rattle.dotenvy.specs.Written.{needs_backslash, written_character, written_pair, written_text, written_bytes}
 
 -- the bytes of a value's last characters, and of the end of its line
 abbrev pub left_bytes : List ℕ → List ℕ
 left_bytes cs = encode_utf8_all (flat_map written_character cs ++ double_quote ∷ line_feed ∷ [])
+
+-- only ASCII characters are written after a backslash
+pub ascii_backslash : (b : ℕ) → 128 ≤ b → needs_backslash b ≡ false
+ascii_backslash b h = grind (arith, nat_tests, h)
 
 -- a pair is its key, an equals sign, a quote, and the rest
 pub pair_bytes : (key text : List ℕ) → IsUtf8 key → written_bytes ((chars key, chars text) ∷ []) ≡ key ++ equals_sign ∷ double_quote ∷ left_bytes (chars text)
@@ -92,6 +100,41 @@ pub next_len : (rest more : List ℕ) (c : ℕ) → IsUtf8 rest → rest ≡ enc
 next_len rest more c utf8 spelled =
     let h = ap length (left_next rest more c utf8 spelled) in
     let k = length-append (encode_utf8_all (written_character c)) (left_bytes (chars more)) in
+    omega (arith, h, k)
+
+left_plain : (cs ds : List ℕ) → list_all is_plain_inside cs ≡ true
+    → left_bytes (cs ++ ds) ≡ encode_utf8_all cs ++ left_bytes ds
+left_plain [] ds h = refl
+left_plain (c ∷ cs) ds h =
+    left_one c (cs ++ ds)
+    ∙ ap (λ bs. bs ++ left_bytes (cs ++ ds))
+    (unescaped_bytes c (not_is (needs_backslash c)
+    (and_left (is_plain_inside c) (list_all is_plain_inside cs) h)))
+    ∙ ap (λ bs. encode_utf8 c ++ bs) (left_plain cs ds (and_right (is_plain_inside c) (list_all is_plain_inside cs) h))
+    ∙ sym (append_assoc (encode_utf8 c) (encode_utf8_all cs) (left_bytes ds))
+
+left_run : (rest plain after : List ℕ) → IsUtf8 plain
+    → IsSpan is_plain_inside (chars rest) (chars plain) (chars after)
+    → left_bytes (chars rest) ≡ plain ++ left_bytes (chars after)
+left_run rest plain after utf8 span = ap left_bytes span.spelled ∙ left_plain (chars plain) (chars after) span.pass
+    ∙ ap (λ bs. bs ++ left_bytes (chars after)) (encodes-chars plain utf8)
+
+-- a run of characters that are written as they are leaves the others
+pub run_bytes : (out new whole rest plain after : List ℕ) → IsUtf8 plain
+    → IsSpan is_plain_inside (chars rest) (chars plain) (chars after) → new ≡ out ++ plain
+    → out ++ left_bytes (chars rest) ≡ whole → new ++ left_bytes (chars after) ≡ whole
+run_bytes out new whole rest plain after utf8 span h left =
+    ap (λ bs. bs ++ left_bytes (chars after)) h
+    ∙ append_assoc out plain (left_bytes (chars after))
+    ∙ ap (λ bs. out ++ bs) (sym (left_run rest plain after utf8 span)) ∙ left
+
+-- and takes no more bytes than were left
+pub run_bytes_len : (rest plain after : List ℕ) → IsUtf8 plain
+    → IsSpan is_plain_inside (chars rest) (chars plain) (chars after)
+    → length plain ≤ length (left_bytes (chars rest))
+run_bytes_len rest plain after utf8 span =
+    let h = ap length (left_run rest plain after utf8 span) in
+    let k = length-append plain (left_bytes (chars after)) in
     omega (arith, h, k)
 
 -- with the end of the line it is whole

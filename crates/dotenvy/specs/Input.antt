@@ -1,5 +1,5 @@
 -- What an input has left, and what a read gives it.
-use Rattle.std.specs.Prelude.{ℕ, ◌≡◌, ◌≢◌, ◌+◌, ◌-◌, ◌*◌, ◌≤◌, ◌⊎◌, Bool, true, false, ◌&&◌, nat_eq, nat_lt, List, [], ◌∷◌, ◌++◌, length, drop, Option, Some, None, Result, Ok, Err, MatchBool, refl, if◌then◌else◌}
+use Rattle.std.specs.Prelude.{ℕ, ◌≡◌, ◌≢◌, ◌+◌, ◌-◌, ◌*◌, ◌≤◌, ◌<◌, ◌⊎◌, Bool, true, false, ◌&&◌, nat_eq, nat_lt, List, [], ◌∷◌, ◌++◌, length, take, drop, Option, Some, None, Result, Ok, Err, MatchBool, refl, if◌then◌else◌}
 use Rattle.std.specs.List.{starts_with}
 use Rattle.std.specs.IoError.{error_kind}
 use Rattle.std.specs.declared.io.Error.{Error as IoError}
@@ -112,11 +112,23 @@ abbrev pub ReadsMore : {A : Type 0} → Ahead → InputState → Result (Unit {0
 ReadsMore a s (Ok _) t = (t.left ≡ Some a) × ReadsFit a s a t
 ReadsMore a s (Err e) t = IsFinal a s (λ bytes. length bytes ≡ s.unread) e t
 
--- the first bytes of what is left were moved to a line: up to a line feed, or all that were read
-pub record MovesLine (a : Ahead) (s : InputState) (old : List ℕ) (whole : Bool) (new : List ℕ) (t : InputState) : Type 0 where
+-- of the unread bytes those up to the first line feed, and that one, or all where there is none
+pub record IsLinePiece (s : InputState) (piece : List ℕ) (whole : Bool) : Type 0 where
+  pub within : length piece ≤ s.unread
+  pub is_line : MatchBool whole (is_whole_line piece ≡ true) ((no_line_feed piece ≡ true) × (length piece ≡ s.unread))
+  pub told : (a : Ahead) → s.left ≡ Some a → piece ≡ take (length piece) a.bytes
+
+-- something is left to use, and some of it was read; or nothing, and the end was read; or a fault came before a byte
+abbrev pub FindsMore : {A : Type 0} → Ahead → InputState → Result Bool (Error A) → InputState → Type 0
+FindsMore a s (Ok more) t =
+    (t.left ≡ Some a) × ReadsFit a s a t
+    × MatchBool more (0 < t.unread) ((a.bytes ≡ []) × (a.fault ≡ None) × (t.at_end ≡ true))
+FindsMore a s (Err e) t = IsFinal a s (λ bytes. bytes ≡ []) e t
+
+-- the first bytes of what is left were used: up to a line feed, or all that were read
+pub record MovesLine (a : Ahead) (s : InputState) (whole : Bool) (t : InputState) : Type 0 where
   pub some : List ℕ
   pub left : List ℕ
-  pub appends : new ≡ old ++ some
   pub joins : a.bytes ≡ some ++ left
   pub is_left : t.left ≡ Some (record { bytes = left; fault = a.fault })
   pub is_line : MatchBool whole (is_whole_line some ≡ true) ((no_line_feed some ≡ true) × (t.unread ≡ 0))
@@ -132,10 +144,10 @@ pub record TakesLine (a : Ahead) (s : InputState) (line : List ℕ) (t : InputSt
   pub is_line : (is_whole_line line ≡ true) ⊎ ((no_line_feed line ≡ true) × (left ≡ []) × (a.fault ≡ None) × (t.at_end ≡ true))
   pub reads : ReadsFit a s (record { bytes = left; fault = a.fault }) t
 
--- a physical line was read, or a fault that is told came before a line feed
-abbrev pub ReadsLine : {A : Type 0} → Ahead → InputState → Result (Unit {0}) (Error A) → List ℕ → InputState → Type 0
-ReadsLine a s (Ok _) line t = TakesLine a s line t
-ReadsLine a s (Err e) line t = IsFinal a s (λ bytes. no_line_feed bytes ≡ true) e t
+-- a physical line was passed by, or a fault that is told came before a line feed
+abbrev pub SkipsLine : {A : Type 0} → Ahead → InputState → Result (Unit {0}) (Error A) → InputState → Type 0
+SkipsLine a s (Ok _) t = (line : List ℕ) × TakesLine a s line t
+SkipsLine a s (Err e) t = IsFinal a s (λ bytes. no_line_feed bytes ≡ true) e t
 
 -- the front of a byte order mark, and not all of it
 abbrev pub begins_mark : List ℕ → Bool

@@ -18,6 +18,7 @@ pub mod Errors
 pub mod Find
 pub mod Calls
 pub mod Source
+pub mod Buffer
 pub mod Sent
 pub mod Environment
 pub mod Remembered
@@ -41,8 +42,11 @@ pub mod WorkedSearches
 -- what contracts inside the crate cite beside these
 pub mod Slices
 pub mod LineModes
+pub mod TakenLine
 pub mod JoinedLines
+pub mod Splitter
 pub mod ParseStatement
 pub mod ReadValue
 pub mod NextPiece
 pub mod ScanLine
+pub mod LoadedLine

@@ -1,9 +1,10 @@
 -- What the answer to one logical line adds to the items.
-use Rattle.std.specs.Prelude.{◌≡◌, ◌⊎◌, List, [], ◌∷◌, Option, Some, None, Result, Ok, Err, string_bytes}
+use Rattle.std.specs.Prelude.{ℕ, ◌≡◌, ◌⊎◌, List, [], ◌∷◌, Option, Some, None, Result, Ok, Err}
 use Rattle.std.specs.Str.{chars}
 use Rattle.std.specs.declared.string.String.{String}
 use Rattle.dotenvy.specs.declared.errors.Error.{Error}
 use Rattle.dotenvy.specs.declared.errors.Error.TheVariants.{LineParse, Io, EnvVar, Nul, Memory}
+use Rattle.dotenvy.specs.declared.dialect.Dialect.{Dialect}
 use Rattle.dotenvy.specs.declared.lines.Stage.TheVariants.{Failed}
 use Rattle.dotenvy.specs.Errors.{IsMemoryErr}
 use Rattle.dotenvy.specs.Line.{Outcome, Says}
@@ -35,9 +36,13 @@ abbrev pub IsRefused : {A : Type 0} → Option (Result (String A × String A) (E
 IsRefused None t = ⊥
 IsRefused (Some item) t = IsMemoryErr item × (t.stage ≡ Failed)
 
+-- an iterator's state, from its parts
+abbrev pub state_of : LinesState → Remembered → Dialect → IterState
+state_of lines remembered dialect = record { lines = lines; remembered = remembered; dialect = dialect }
+
 -- a text adds what it says, unless memory is refused; a fault adds itself
-abbrev pub AddsLine : {A : Type 0} → Texts → IterState → Result (String A) (Error A) → Option (Result (String A × String A) (Error A)) → IterState → Type 0
-AddsLine names s (Ok text) item t =
+abbrev pub AddsLine : {A : Type 0} → Texts → IterState → Result (Unit {0}) (Error A) → List ℕ → Option (Result (String A × String A) (Error A)) → IterState → Type 0
+AddsLine names s (Ok _) text item t =
     IsRefused item t.lines
-    ⊎ ((outcome : Outcome) × Says s.dialect (chars (string_bytes text)) outcome × AddsEntries names s.remembered (outcome_entries outcome) item t.remembered × (t.lines ≡ s.lines))
-AddsLine names s (Err e) item t = (item ≡ Some (Err e)) × (t.remembered ≡ s.remembered) × (t.lines ≡ lines_after e s.lines)
+    ⊎ ((outcome : Outcome) × Says s.dialect (chars text) outcome × AddsEntries names s.remembered (outcome_entries outcome) item t.remembered × (t.lines ≡ s.lines))
+AddsLine names s (Err e) text item t = (item ≡ Some (Err e)) × (t.remembered ≡ s.remembered) × (t.lines ≡ lines_after e s.lines)

@@ -1,7 +1,10 @@
 -- The splitter as a machine over characters. The contracts of private functions cite it, and proofs/Splitting leads from it to logical lines.
-use Rattle.std.specs.Prelude.{ℕ, ◌==◌, List, [], ◌∷◌, ◌++◌, Option, Some, None, if◌then◌else◌}
-use Rattle.dotenvy.specs.declared.lines.LineMode.{LineMode}
-use Rattle.dotenvy.specs.declared.lines.LineMode.TheVariants.{Outside, Escaping, Inside, InsideEscaping, AfterBlank}
+use Rattle.std.specs.Prelude.{ℕ, ◌≡◌, ◌≤◌, ◌==◌, List, [], ◌∷◌, ◌++◌, length, take, Option, Some, None, if◌then◌else◌}
+use Rattle.dotenvy.specs.declared.walk.LineMode.{LineMode}
+use Rattle.dotenvy.specs.declared.walk.LineMode.TheVariants.{Outside, Escaping, Inside, InsideEscaping, AfterBlank}
+use Rattle.std.specs.Str.{chars, IsCharBoundary, IsUtf8}
+use Rattle.dotenvy.specs.declared.walk.Walked.{Walked}
+use Rattle.dotenvy.specs.declared.walk.Walked.TheVariants.{Going, EndedAt}
 use Rattle.dotenvy.specs.Characters.{is_blank, is_quote, line_feed, backslash, hash}
 use Rattle.dotenvy.specs.Tokens.{stands_for_itself}
 use Rattle.dotenvy.specs.LogicalLine.{without_carriage_return}
@@ -35,3 +38,16 @@ walked (Some m) c seen next = next m
 abbrev pub walk : LineMode → List ℕ → List ℕ → Walk
 walk m seen [] = going m
 walk m seen (c ∷ cs) = walked (leads m c) c seen (λ n. walk n (seen ++ c ∷ []) cs)
+
+-- a walk over the characters of a text's bytes
+abbrev pub WalksText : LineMode → List ℕ → Walked → Type 0
+WalksText m text (Going n) = (seen : List ℕ) → walk m seen (chars text) ≡ going n
+WalksText m text (EndedAt at c) = (at ≤ length text) × IsCharBoundary text at × ((seen : List ℕ) → walk m seen (chars text) ≡ ended (kept c (seen ++ chars (take at text))))
+
+-- the characters at the front of a text leave the mode as it is, and the rest follows them
+pub record PassesRun (m : LineMode) (text rest : List ℕ) : Type 0 where
+  pub front : List ℕ
+  pub splits : text ≡ front ++ rest
+  pub front_text : IsUtf8 front
+  pub rest_text : IsUtf8 rest
+  pub stays : (seen : List ℕ) → walk m seen (chars front) ≡ going m

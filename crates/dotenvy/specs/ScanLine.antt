@@ -1,6 +1,7 @@
 -- What the first pass over a line says, in the words of the format.
 use Rattle.std.specs.Prelude.{ℕ, ◌≡◌, not, List, [], IsTrue, Option, Some, None, is_some, option_map, Result, Ok, Err, string_bytes, if◌then◌else◌}
 use Rattle.std.specs.Str.{chars, encode_utf8_all}
+use Rattle.std.specs.declared.string.String.{String}
 use Rattle.dotenvy.specs.declared.dialect.Dialect.{Dialect}
 use Rattle.dotenvy.specs.declared.parse.Declaration.{Declaration}
 use Rattle.dotenvy.specs.declared.parse.Value.{Value}
@@ -45,6 +46,12 @@ abbrev pub Scans : (dialect : Dialect) → LookUp → List ℕ → Result (Optio
 Scans dialect look_up line (Ok None) = Says dialect line Nothing
 Scans dialect look_up line (Ok (Some declaration)) = IsDeclared dialect look_up line declaration
 Scans dialect look_up line (Err fault) = Says dialect line (SaysFault (chars fault.text.now) fault.index)
+
+-- the key, and the meaning of the pieces
+pub record IsPairOf {A : Type 0} (look_up : LookUp) (declaration : Declaration) (pieces : List Piece)
+    (pair : String A × String A) : Type 0 where
+  pub key : string_bytes pair.0 ≡ declaration.key.now
+  pub value : string_bytes pair.1 ≡ encode_utf8_all (meaning look_up pieces)
 
 -- the key, the meaning of the pieces, and the same to be remembered; no value where none is assigned
 pub record AreCopiesOf {A : Type 0} (look_up : LookUp) (declaration : Declaration) (pieces : List Piece) (copies : Copies A) : Type 0 where

@@ -2,21 +2,20 @@
 ghost use Rattle.std.specs.Prelude.{[], ◌≡◌, ◌≤◌, ◌<◌, ◌+◌, ◌==◌, ◌⊎◌, true, false, Some, None, IfOk, IfErr, IsOk, IsTrue, ◌↔◌, OnOk, MatchOption, MatchBool, position, nat_eq, length, take, drop, vec_len};
 ghost use Rattle.std.specs.IoError.{error_kind};
 ghost use Rattle.dotenvy.specs.Source.{Ahead};
-ghost use Rattle.dotenvy.specs.Input.{IsTold, ReadsOnce, IsAllRead, used_up, supply, ReadsMore, MovesLine, ReadsLine, begins_mark, DropsMark, AsksOnce, AsksReads};
+ghost use Rattle.dotenvy.specs.Input.{IsTold, ReadsOnce, IsAllRead, used_up, supply, IsLinePiece, ReadsMore, FindsMore, MovesLine, SkipsLine, begins_mark, DropsMark, AsksOnce, AsksReads};
 ghost use Rattle.std.specs.List.{starts_with};
 ghost use Rattle.dotenvy.specs.PhysicalLines.{is_whole_line, no_line_feed};
 ghost use Rattle.dotenvy.specs.Marks.{byte_order_mark};
 ghost use Rattle.dotenvy.specs.Errors.{IsMemory, IsIoOf};
 
+use crate::buffer::Buffer;
 use crate::errors::{Error, Result};
 use crate::source::Source;
+use memchr::memchr;
 use std::alloc::Allocator;
 use std::io;
 use std::io::ErrorKind;
 use std::marker::Model;
-
-// The most bytes that one read asks for.
-const READ_SIZE: usize = 8192;
 
 const BYTE_ORDER_MARK: [u8; 3] = [0xEF, 0xBB, 0xBF];
 
@@ -24,40 +23,47 @@ const BYTE_ORDER_MARK: [u8; 3] = [0xEF, 0xBB, 0xBF];
 #[derive(Drop)]
 pub(crate) struct Input<R: Source, A: Allocator> {
     reader: R,
-    held: Vec<u8, A>,
-    used: usize,
+    buffer: Buffer<A>,
     reads_left: u64,
     at_end: bool,
 }
 
+// A part of a physical line, from its front, and whether its LF is the last byte of it.
+#[derive(Clone, Copy)]
+pub(crate) struct LinePiece<'a> {
+    pub(crate) bytes: &'a [u8],
+    pub(crate) is_whole: bool,
+}
+
 impl<R: Source, A: Allocator> Model for Input<R, A> {
-    ghost use Rattle.std.specs.Prelude.{◌≤◌, ◌-◌, drop, vec_len};
+    ghost use Rattle.std.specs.Prelude.{length};
     ghost use Rattle.dotenvy.specs.Input.{InputState, input_code, left_of};
 
     ghost Value = { InputState };
 
     ghost coded = { input_code };
 
-    ghost view = { λ s. record { left = left_of s.at_end (R.ahead s.reader) (drop s.used s.held.items); unread = vec_len s.held - s.used; reads = s.reads_left; at_end = s.at_end; calls = R.calls s.reader } };
-
-    ghost invariant = { λ s. s.used ≤ vec_len s.held };
+    ghost view = { λ s. record { left = left_of s.at_end (R.ahead s.reader) s.buffer; unread = length s.buffer; reads = s.reads_left; at_end = s.at_end; calls = R.calls s.reader } };
 }
 
 impl<R: Source, A: Allocator> Input<R, A> {
-    pub(crate) fn new(alloc: A, reader: R, reads_left: u64) -> Input<R, A>
-        ensures { result ≡ record { left = R.ahead reader; unread = 0; reads = reads_left; at_end = false; calls = R.calls reader } }
+    // Nothing is read. The memory of the buffer is taken.
+    pub(crate) fn new(alloc: A, reader: R, reads_left: u64) -> Result<Input<R, A>, A>
+    where
+        R: Drop,
+        ensures ok { IfOk result (λ s. s ≡ record { left = R.ahead reader; unread = 0; reads = reads_left; at_end = false; calls = R.calls reader }) }
+        ensures memory { IfErr result IsMemory }
     {
-        Input {
+        Ok(Input {
+            buffer: Buffer::new(alloc)?,
             reader,
-            held: Vec::new(alloc),
-            used: 0,
             reads_left,
             at_end: false,
-        }
+        })
     }
 
     pub(crate) fn allocator(&self) -> &A {
-        self.held.allocator()
+        self.buffer.allocator()
     }
 
     // Nothing is left, and the end was read.
@@ -65,10 +71,10 @@ impl<R: Source, A: Allocator> Input<R, A> {
         ensures value { IsTrue result ↔ ((self.now.at_end ≡ true) × (self.now.unread ≡ 0)) }
         ensures told { (a : Ahead) → self.now.left ≡ Some a → result ≡ true → (a.bytes ≡ []) × (a.fault ≡ None) }
     {
-        self.at_end && self.used == self.held.len()
+        self.at_end && self.buffer.is_empty()
     }
 
-    fn is_at_end(&self) -> bool
+    pub(crate) fn is_at_end(&self) -> bool
         ensures value { result ≡ self.now.at_end }
         ensures told { (a : Ahead) → self.now.left ≡ Some a → result ≡ true → IsAllRead a self.now.unread }
     {
@@ -79,14 +85,31 @@ impl<R: Source, A: Allocator> Input<R, A> {
         ensures len { length result.now ≡ self.now.unread }
         ensures told { (a : Ahead) → self.now.left ≡ Some a → result.now ≡ take self.now.unread a.bytes }
     {
-        &self.held[self.used..]
+        self.buffer.unread()
     }
 
-    fn use_up(&mut self, n: usize)
+    pub(crate) fn use_up(&mut self, n: usize)
         requires { n ≤ self.old.unread }
         ensures { self.new ≡ used_up n self.old }
     {
-        self.used += n;
+        self.buffer.use_up(n);
+    }
+
+    // The unread bytes of the physical line that stands next: up to its LF, or all where it has none.
+    pub(crate) fn line_piece(&self) -> LinePiece<'_>
+        ensures { IsLinePiece self.now result.bytes.now result.is_whole }
+    {
+        let unread = self.unread();
+        match whole_line_len(unread) {
+            Some(len) => LinePiece {
+                bytes: &unread[..len],
+                is_whole: true,
+            },
+            None => LinePiece {
+                bytes: unread,
+                is_whole: false,
+            },
+        }
     }
 }
 
@@ -99,7 +122,7 @@ fn too_many_reads<A: Allocator>() -> Error<A>
 fn line_feed_place(bytes: &[u8]) -> Option<usize>
     ensures { result ≡ position (λ b. b == 10) bytes.now }
 {
-    bytes.iter().position(|b| *b == b'\n')
+    memchr(b'\n', bytes)
 }
 
 // The length of the first line of the bytes, its LF included.
@@ -112,34 +135,16 @@ fn whole_line_len(bytes: &[u8]) -> Option<usize>
     }
 }
 
-// Forgets the bytes where all of them are used, and answers how many of those that stay are used.
-fn forget_used<A: Allocator>(held: &mut Vec<u8, A>, used: usize) -> usize
-    requires { used ≤ vec_len held.old }
-    ensures within { result ≤ vec_len held.new }
-    ensures unread { drop result held.new.items ≡ drop used held.old.items }
-    ensures size { vec_len held.new + used ≡ vec_len held.old + result }
-    ensures forgets { used ≡ vec_len held.old → vec_len held.new ≡ 0 }
-{
-    if used < held.len() {
-        return used;
-    }
-    held.clear();
-    0
-}
-
 // One read: appends what it gives, and answers whether it met the end. An interrupted read gives nothing.
-fn read_once<R: Source, A: Allocator>(reader: &mut R, held: &mut Vec<u8, A>) -> Result<bool, A>
-    ensures grows { vec_len held.old ≤ vec_len held.new }
-    ensures bound { vec_len held.new ≤ vec_len held.old + 8192 }
-    ensures told { (a : Ahead) → IsTold (R.ahead reader.old) a → ReadsOnce a held.old.items result (R.ahead reader.new) held.new.items }
+fn read_once<R: Source, A: Allocator>(reader: &mut R, buffer: &mut Buffer<A>) -> Result<bool, A>
+    requires { length buffer.old < 8192 }
+    ensures bound { length buffer.new ≤ 8192 }
+    ensures grows { length buffer.old ≤ length buffer.new }
+    ensures told { (a : Ahead) → IsTold (R.ahead reader.old) a → ReadsOnce a buffer.old result (R.ahead reader.new) buffer.new }
     ensures asks { AsksOnce (R.calls reader.old) result (R.calls reader.new) }
 {
-    let mut buf = [0u8; READ_SIZE];
-    match reader.read_some(&mut buf) {
-        Ok(n) => {
-            held.extend_from_slice(&buf[..n])?;
-            Ok(n == 0)
-        }
+    match buffer.read_from(reader) {
+        Ok(n) => Ok(n == 0),
         Err(e) => {
             if e.kind() == ErrorKind::Interrupted {
                 Ok(false)
@@ -152,9 +157,11 @@ fn read_once<R: Source, A: Allocator>(reader: &mut R, held: &mut Vec<u8, A>) -> 
 
 impl<R: Source, A: Allocator> Input<R, A> {
     // One read, which counts as one where it is interrupted too.
-    fn read_more(&mut self) -> Result<(), A>
-        requires { self.old.at_end ≡ false }
+    pub(crate) fn read_more(&mut self) -> Result<(), A>
+        requires unread { self.old.unread < 8192 }
+        requires unended { self.old.at_end ≡ false }
         ensures falls { OnOk result (supply self.new < supply self.old) }
+        ensures grows { self.old.unread ≤ self.new.unread }
         ensures told { (a : Ahead) → IsTold self.old.left a → ReadsMore a self.old result self.new }
         ensures asks { AsksReads (IsOk result) self.old self.new }
     {
@@ -162,36 +169,55 @@ impl<R: Source, A: Allocator> Input<R, A> {
             return Err(too_many_reads());
         }
         self.reads_left -= 1;
-        self.used = forget_used(&mut self.held, self.used);
-        self.at_end = read_once(&mut self.reader, &mut self.held)?;
+        self.at_end = read_once(&mut self.reader, &mut self.buffer)?;
         Ok(())
     }
 
-    // Moves the unread bytes to the line, as far as the first LF, and answers whether there is one.
-    fn move_to_line(&mut self, line: &mut Vec<u8, A>) -> Result<bool, A>
-        ensures falls { OnOk result (supply self.new + vec_len line.new ≤ supply self.old + vec_len line.old) }
-        ensures supply { supply self.new ≤ supply self.old }
-        ensures memory { IfErr result IsMemory }
-        ensures told { (a : Ahead) → self.old.left ≡ Some a → IfOk result (λ whole. MovesLine a self.old line.old.items whole line.new.items self.new) }
-        ensures asks { AsksReads (Unit {0}) self.old self.new }
+    // Nothing is unread, and more may come.
+    fn is_waiting(&self) -> bool
+        ensures waits { result ≡ true → (self.now.unread ≡ 0) × (self.now.at_end ≡ false) }
+        ensures told { (a : Ahead) → self.now.left ≡ Some a → result ≡ false → self.now.unread ≡ 0 → (a.bytes ≡ []) × (a.fault ≡ None) × (self.now.at_end ≡ true) }
     {
-        let unread = self.unread();
-        let whole = whole_line_len(unread);
-        let n = whole.unwrap_or(unread.len());
-        line.extend_from_slice(&unread[..n])?;
-        self.use_up(n);
-        Ok(whole.is_some())
+        self.buffer.is_empty() && !self.at_end
     }
 
-    // Reads the next physical line with its LF, or what is left where no LF follows, which may be nothing.
-    pub(crate) fn read_line(&mut self, line: &mut Vec<u8, A>) -> Result<(), A>
-        ensures falls { OnOk result (supply self.new + vec_len line.new ≤ supply self.old) }
-        ensures told { (a : Ahead) → IsTold self.old.left a → ReadsLine a self.old result line.new.items self.new }
+    // Whether there is something to use: reads until a byte is unread, or the end.
+    pub(crate) fn has_more(&mut self) -> Result<bool, A>
+        ensures falls { OnOk result (supply self.new ≤ supply self.old) }
+        ensures some { IfOk result (λ more. more ≡ true → 0 < self.new.unread) }
+        ensures ended { self.old.at_end ≡ true → self.new ≡ self.old }
+        ensures told { (a : Ahead) → IsTold self.old.left a → FindsMore a self.old result self.new }
         ensures asks { AsksReads (IsOk result) self.old self.new }
     {
-        line.clear();
-        'reading: loop {
-            if self.move_to_line(line)? {
+        'waiting: while self.is_waiting() {
+            self.read_more()?;
+        }
+        Ok(!self.buffer.is_empty())
+    }
+
+    // Uses the unread bytes of the physical line that stands next, and answers whether its LF is among them.
+    fn use_piece(&mut self) -> bool
+        ensures supply { supply self.new ≤ supply self.old }
+        ensures some { 0 < self.old.unread → supply self.new < supply self.old }
+        ensures spent { result ≡ false → self.new.unread ≡ 0 }
+        ensures told { (a : Ahead) → self.old.left ≡ Some a → MovesLine a self.old result self.new }
+        ensures asks { AsksReads (Unit {0}) self.old self.new }
+    {
+        let piece = self.line_piece();
+        let (len, is_whole) = (piece.bytes.len(), piece.is_whole);
+        self.use_up(len);
+        is_whole
+    }
+
+    // Passes by what is left of the physical line that stands next, and keeps none of it.
+    pub(crate) fn skip_line(&mut self) -> Result<(), A>
+        ensures falls { OnOk result (supply self.new ≤ supply self.old) }
+        ensures some { 0 < self.old.unread → OnOk result (supply self.new < supply self.old) }
+        ensures told { (a : Ahead) → IsTold self.old.left a → SkipsLine a self.old result self.new }
+        ensures asks { AsksReads (IsOk result) self.old self.new }
+    {
+        'skipping: loop {
+            if self.use_piece() {
                 return Ok(());
             }
             if self.is_at_end() {
@@ -204,7 +230,8 @@ impl<R: Source, A: Allocator> Input<R, A> {
     // Whether a byte order mark may stand next, and more has to be read to know.
     fn is_undecided(&self) -> bool
         ensures told { (a : Ahead) → self.now.left ≡ Some a → MatchBool result ((self.now.at_end ≡ false) × (begins_mark (take self.now.unread a.bytes) ≡ true)) (IsAllRead a self.now.unread ⊎ (begins_mark (take self.now.unread a.bytes) ≡ false)) }
-        ensures open { result ≡ true → self.now.at_end ≡ false }
+        ensures unended { result ≡ true → self.now.at_end ≡ false }
+        ensures short { result ≡ true → self.now.unread < 3 }
     {
         let unread = self.unread();
         !self.is_at_end()

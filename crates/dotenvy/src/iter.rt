@@ -1,6 +1,6 @@
 //! The pairs of an environment file, one at a time, and the two loads.
 
-ghost use Rattle.std.specs.Prelude.{◌≡◌, ◌≢◌, ◌<◌, ◌≤◌, ◌↔◌, ◌⊎◌, Err, IfErr, IfOk, IfSome, IsSome, IsTrue, None, Ok, chars, string_bytes};
+ghost use Rattle.std.specs.Prelude.{◌≡◌, ◌≢◌, ◌<◌, ◌≤◌, ◌↔◌, ◌⊎◌, Err, IfErr, IfOk, IfSome, IsSome, IsTrue, None, Ok, OnOk, chars, string_bytes};
 ghost use Rattle.std.specs.Iterator.{at_most};
 ghost use Rattle.dotenvy.specs.declared.lines.Stage.TheVariants.{Failed, Open};
 ghost use Rattle.dotenvy.specs.Errors.{IsMemory, IsMemoryErr};
@@ -13,14 +13,18 @@ ghost use Rattle.dotenvy.specs.Loads.{load_result, override_result};
 ghost use Rattle.dotenvy.specs.Line.{Outcome, Says};
 ghost use Rattle.dotenvy.specs.Names.{names_of};
 ghost use Rattle.dotenvy.specs.ParsedLine.{IsLineAnswer, Remembers, HasKey};
-ghost use Rattle.dotenvy.specs.LineItem.{AddsLine};
+ghost use Rattle.dotenvy.specs.Lines.{fuel_of};
+ghost use Rattle.dotenvy.specs.Remembered.{remembered_of};
+ghost use Rattle.dotenvy.specs.LineItem.{AddsLine, state_of};
 ghost use Rattle.dotenvy.specs.NextItem.{GivesName, NextItem};
 ghost use Rattle.dotenvy.specs.LoadsLeft.{ChangesKeys, LoadsLeft};
+ghost use Rattle.dotenvy.specs.LoadedLine.{mode_of};
 
 use crate::dialect::Dialect;
 use crate::environment::Environment;
 use crate::errors::{Error, Result};
-use crate::lines::QuotedLines;
+use crate::lines::Splitter;
+use crate::loads::{Mode, load_line};
 use crate::parse::{Pair, ParsedLine, parse_line};
 use crate::remembered::Remembered;
 use crate::source::Source;
@@ -42,20 +46,21 @@ use std::marker::Model;
 /// ```
 #[derive(Drop)]
 pub struct Iter<R: Source, A: Allocator = Global> {
-    lines: QuotedLines<R, A>,
+    lines: Splitter<R, A>,
     remembered: Remembered<A>,
     dialect: Dialect,
 }
 
 impl<R: Source, A: Allocator> Model for Iter<R, A> {
     ghost use Rattle.dotenvy.specs.Iter.{IterState, iter_code};
+    ghost use Rattle.dotenvy.specs.LineItem.{state_of};
     ghost use Rattle.dotenvy.specs.Remembered.{remembered_of};
 
     ghost Value = { IterState };
 
     ghost coded = { iter_code };
 
-    ghost view = { λ s. record { lines = s.lines; remembered = remembered_of s.remembered.entries; dialect = s.dialect } };
+    ghost view = { λ s. state_of s.lines.lines (remembered_of s.remembered.entries) s.dialect };
 }
 
 // Whether memory was refused.
@@ -85,7 +90,7 @@ impl<R: Source, A: Allocator + Clone> Iter<R, A> {
     {
         let remembered = HashMap::new(alloc.clone()?);
         Ok(Iter {
-            lines: QuotedLines::new(alloc, reader),
+            lines: Splitter::new(alloc, reader)?,
             remembered,
             dialect,
         })
@@ -103,13 +108,7 @@ impl<R: Source, A: Allocator + Clone> Iter<R, A> {
         // Which reads it asks for, over every reader that tells its calls.
         ensures asks { AsksReads (self.new.lines.stage ≡ Open) self.old.lines.input self.new.lines.input }
     {
-        'lines: while let Some(line) = self.lines.next_line() {
-            let item = self.item_of(line, env);
-            if item.is_some() {
-                return item;
-            }
-        }
-        None
+        next_of(&mut self.lines, &mut self.remembered, env, self.dialect)
     }
 
     /// What `next_item` gives under this one environment, as an iterator.
@@ -125,46 +124,68 @@ impl<R: Source, A: Allocator + Clone> Iter<R, A> {
     {
         Items { file: self, env }
     }
+}
 
-    // What a logical line adds to the items, if anything. Refused memory is the last item.
-    fn item_of(
-        &mut self,
-        line: Result<String<A>, A>,
-        env: &Environment<A>,
-    ) -> Option<Result<Pair<A>, A>>
-        ensures adds { AddsLine env.now.names self.old line result self.new }
-        ensures dialect { self.new.dialect ≡ self.old.dialect }
-        ensures falls { item_fuel self.new ≤ item_fuel self.old }
-        ensures input { self.new.lines.input ≡ self.old.lines.input }
-        ensures stage { self.new.lines.stage ≡ Open → self.old.lines.stage ≡ Open }
-        ensures memory { IfSome result (λ item. IsMemoryErr item → self.new.lines.stage ≡ Failed) }
-        ensures key { IfSome result (λ item. IfOk item (λ pair. IsTrue (is_key (chars (string_bytes pair.0))))) }
-    {
-        let said = self.said_by(line, env);
-        if is_refused(&said) {
-            self.lines.fail();
+// The next item of these logical lines.
+fn next_of<R: Source, A: Allocator + Clone>(
+    lines: &mut Splitter<R, A>,
+    remembered: &mut Remembered<A>,
+    env: &Environment<A>,
+    dialect: Dialect,
+) -> Option<Result<Pair<A>, A>>
+    ensures next { NextItem env.now.names (state_of lines.old.lines (remembered_of remembered.old.entries) dialect) result (state_of lines.new.lines (remembered_of remembered.new.entries) dialect) }
+    ensures falls { IsSome result → fuel_of lines.new.lines < fuel_of lines.old.lines }
+    ensures memory { IfSome result (λ item. IsMemoryErr item → lines.new.lines.stage ≡ Failed) }
+    ensures key { IfSome result (λ item. IfOk item (λ pair. IsTrue (is_key (chars (string_bytes pair.0))))) }
+    ensures asks { AsksReads (lines.new.lines.stage ≡ Open) lines.old.lines.input lines.new.lines.input }
+{
+    'lines: while let Some(outcome) = lines.advance() {
+        let item = item_of(lines, outcome, remembered, env, dialect);
+        if item.is_some() {
+            return item;
         }
-        said.transpose()
     }
+    None
+}
 
-    // What a logical line says. Its own fault stays as it is.
-    fn said_by(&mut self, line: Result<String<A>, A>, env: &Environment<A>) -> ParsedLine<A>
-        ensures says { IfOk line (λ text. IsMemoryErr result ⊎ ((outcome : Outcome) × Says self.old.dialect (chars (string_bytes text)) outcome × IsLineAnswer (names_of env.now.names self.old.remembered) outcome result)) }
-        ensures remembers { IfOk line (λ text. Remembers (chars (string_bytes text)) self.old.remembered self.new.remembered result) }
-        ensures fault { IfErr line (λ e. (result ≡ Err e) × (self.new.remembered ≡ self.old.remembered)) }
-        ensures same { (self.new.lines ≡ self.old.lines) × (self.new.dialect ≡ self.old.dialect) }
-        ensures key { IfOk result HasKey }
-    {
-        let text = line?;
-        let alloc = self.lines.allocator().clone()?;
-        parse_line(
-            alloc,
-            text.as_str(),
-            &mut self.remembered,
-            env,
-            self.dialect,
-        )
+// What the last logical line adds to the items, if anything. Refused memory is the last item.
+fn item_of<R: Source, A: Allocator + Clone>(
+    lines: &mut Splitter<R, A>,
+    outcome: Result<(), A>,
+    remembered: &mut Remembered<A>,
+    env: &Environment<A>,
+    dialect: Dialect,
+) -> Option<Result<Pair<A>, A>>
+    ensures adds { AddsLine env.now.names (state_of lines.old.lines (remembered_of remembered.old.entries) dialect) outcome lines.old.line result (state_of lines.new.lines (remembered_of remembered.new.entries) dialect) }
+    ensures falls { fuel_of lines.new.lines ≤ fuel_of lines.old.lines }
+    ensures input { lines.new.lines.input ≡ lines.old.lines.input }
+    ensures stage { lines.new.lines.stage ≡ Open → lines.old.lines.stage ≡ Open }
+    ensures memory { IfSome result (λ item. IsMemoryErr item → lines.new.lines.stage ≡ Failed) }
+    ensures key { IfSome result (λ item. IfOk item (λ pair. IsTrue (is_key (chars (string_bytes pair.0))))) }
+{
+    let said = said_by(lines, outcome, remembered, env, dialect);
+    if is_refused(&said) {
+        lines.fail();
     }
+    said.transpose()
+}
+
+// What the last logical line says. Its own fault stays as it is.
+fn said_by<R: Source, A: Allocator + Clone>(
+    lines: &Splitter<R, A>,
+    outcome: Result<(), A>,
+    remembered: &mut Remembered<A>,
+    env: &Environment<A>,
+    dialect: Dialect,
+) -> ParsedLine<A>
+    ensures says { OnOk outcome (IsMemoryErr result ⊎ ((said : Outcome) × Says dialect (chars lines.now.line) said × IsLineAnswer (names_of env.now.names (remembered_of remembered.old.entries)) said result)) }
+    ensures remembers { OnOk outcome (Remembers (chars lines.now.line) (remembered_of remembered.old.entries) (remembered_of remembered.new.entries) result) }
+    ensures fault { IfErr outcome (λ e. (result ≡ Err e) × (remembered_of remembered.new.entries ≡ remembered_of remembered.old.entries)) }
+    ensures key { IfOk result HasKey }
+{
+    outcome?;
+    let alloc = lines.allocator().clone()?;
+    parse_line(alloc, lines.line(), remembered, env, dialect)
 }
 
 impl<R: Source + Drop, A: Allocator + Clone> Iter<R, A> {
@@ -177,21 +198,14 @@ impl<R: Source + Drop, A: Allocator + Clone> Iter<R, A> {
     /// ```text
     /// Iter::new(alloc, Bytes::new(b"A=1\nA=2\n"))?.load(&mut env)?;    // A is 1, or what it was before
     /// ```
-    pub fn load(mut self, env: &mut Environment<A>) -> Result<(), A>
+    pub fn load(self, env: &mut Environment<A>) -> Result<(), A>
         ensures shut { self.lines.stage ≢ Open → (result ≡ Ok tt) × (env.new ≡ env.old) }
         ensures told { self.lines.stage ≡ Open → LoadsLeft load_result self env.old.names result env.new.names }
         ensures keeps { KeepsNames env.old.names env.new.names }
         ensures keys { ChangesKeys env.old.names env.new.names }
         ensures mark { env.new.loaded ≡ env.old.loaded }
     {
-        self.lines.drop_mark()?;
-        'keeping: while let Some(item) = self.next_item(env) {
-            let (key, value) = item?;
-            if !env.contains(key.as_str()) {
-                env.set(key, value)?;
-            }
-        }
-        Ok(())
+        self.load_lines(Mode::Keep, env)
     }
 
     /// As `load`, but each name is set, whether it is there or not.
@@ -199,16 +213,36 @@ impl<R: Source + Drop, A: Allocator + Clone> Iter<R, A> {
     /// ```text
     /// Iter::new(alloc, Bytes::new(b"A=1\nA=2\n"))?.load_override(&mut env)?;    // A is 2
     /// ```
-    pub fn load_override(mut self, env: &mut Environment<A>) -> Result<(), A>
+    pub fn load_override(self, env: &mut Environment<A>) -> Result<(), A>
         ensures shut { self.lines.stage ≢ Open → (result ≡ Ok tt) × (env.new ≡ env.old) }
         ensures told { self.lines.stage ≡ Open → LoadsLeft override_result self env.old.names result env.new.names }
         ensures keys { ChangesKeys env.old.names env.new.names }
         ensures mark { env.new.loaded ≡ env.old.loaded }
     {
+        self.load_lines(Mode::Replace, env)
+    }
+
+    // Drops a byte order mark at the present place, then loads line after line. The values that were remembered before
+    // stay as they are.
+    fn load_lines(mut self, mode: Mode, env: &mut Environment<A>) -> Result<(), A>
+        ensures shut { self.lines.stage ≢ Open → (result ≡ Ok tt) × (env.new ≡ env.old) }
+        ensures told { self.lines.stage ≡ Open →
+            LoadsLeft (run (mode_of mode)) self env.old.names result env.new.names }
+        ensures keeps { mode_of mode ≡ Keep → KeepsNames env.old.names env.new.names }
+        ensures keys { ChangesKeys env.old.names env.new.names }
+        ensures mark { env.new.loaded ≡ env.old.loaded }
+    {
         self.lines.drop_mark()?;
-        'replacing: while let Some(item) = self.next_item(env) {
-            let (key, value) = item?;
-            env.set(key, value)?;
+        'loading: while let Some(outcome) = self.lines.advance() {
+            outcome?;
+            load_line(
+                self.lines.allocator(),
+                self.lines.line(),
+                &self.remembered,
+                env,
+                mode,
+                self.dialect,
+            )?;
         }
         Ok(())
     }

@@ -1,6 +1,7 @@
 //! Reads environment files: names and their values, as services and start scripts keep them.
 #![tactic(auto)]
 
+mod buffer;
 mod dialect;
 pub mod environment;
 mod errors;
@@ -11,8 +12,10 @@ mod input;
 mod iter;
 pub mod laws;
 mod lines;
+mod loads;
 mod names;
 mod parse;
+mod physical_line;
 mod process;
 mod remembered;
 pub mod search;
@@ -20,6 +23,7 @@ mod source;
 mod statement;
 mod text;
 mod value;
+mod walk;
 mod written;
 
 pub use dialect::Dialect;

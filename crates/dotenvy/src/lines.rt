@@ -1,20 +1,20 @@
 // The logical lines of a source: physical lines, joined where quotes stand open.
-ghost use Rattle.std.specs.Prelude.{◌≡◌, ◌≢◌, ◌≤◌, ◌<◌, ◌++◌, [], None, Ok, IfOk, IfErr, IsOk, OnOk, OnErr, IfSome, IsSome, false, IsTrue, ◌↔◌, ◌^◌, string_bytes};
-ghost use Rattle.std.specs.Str.{chars, skip_leading_whitespace};
-ghost use Rattle.dotenvy.specs.Source.{Ahead};
-ghost use Rattle.dotenvy.specs.Characters.{begins_with, hash};
-ghost use Rattle.dotenvy.specs.Tokens.{stands_for_itself};
-ghost use Rattle.dotenvy.specs.LogicalLine.{without_carriage_return};
-ghost use Rattle.dotenvy.specs.LineModes.{leads_outside, leads, kept};
+ghost use Rattle.std.specs.Prelude.{◌≡◌, ◌≢◌, ◌≤◌, ◌<◌, ◌^◌, ◌⊎◌, None, Ok, IfOk, IfErr, IsOk, OnOk, OnErr, IfSome, IsSome, IsTrue, ◌↔◌, length, string_bytes};
+ghost use Rattle.std.specs.Str.{chars};
 ghost use Rattle.std.specs.IoError.{error_kind};
-ghost use Rattle.dotenvy.specs.Errors.{IsIoOf, IsMemory, IsMemoryErr};
+ghost use Rattle.dotenvy.specs.Source.{Ahead};
+ghost use Rattle.dotenvy.specs.Errors.{IsIoOf, IsLineParseOf, IsMemory, IsMemoryErr};
 ghost use Rattle.dotenvy.specs.Input.{AsksReads, IsTold, DropsMark};
 ghost use Rattle.dotenvy.specs.Lines.{fuel_of, NextIs};
-ghost use Rattle.dotenvy.specs.JoinedLines.{WalksLine, joined_at_end, JoinsNext, UsesSome, stage_after, Answers};
+ghost use Rattle.dotenvy.specs.JoinedLines.{joined_at_end, JoinsNext, UsesSome, stage_after, is_refused, IsOutcome};
+ghost use Rattle.dotenvy.specs.Splitter.{fresh_lines, AdvanceIs};
 
 use crate::errors::{Error, Result};
 use crate::input::Input;
+use crate::parse::fault_error;
+use crate::physical_line::{Taken, take_line};
 use crate::source::Source;
+use crate::walk::LineMode;
 use std::alloc::Allocator;
 use std::io;
 use std::io::ErrorKind;
@@ -23,169 +23,51 @@ use std::marker::Model;
 // The most reads that an iterator makes.
 const READ_LIMIT: u64 = 4_294_967_296;
 
-// What was read last: a token, a backslash, part of a quoted part, a backslash in it, or a blank.
+// What the next physical lines make; the text is in the line buffer.
 #[derive(Clone, Copy, Drop)]
-pub(crate) enum LineMode {
-    Outside,
-    Escaping,
-    Inside(char),
-    InsideEscaping(char),
-    AfterBlank,
-}
-
-fn stands_for_itself(c: char) -> bool
-    ensures { result ≡ stands_for_itself c }
-{
-    matches!(c, '\\' | '\'' | '"' | '\n')
-}
-
-fn mode_after_token(c: char) -> Option<LineMode>
-    ensures { result ≡ leads_outside c }
-{
-    match c {
-        '\n' => None,
-        '\\' => Some(LineMode::Escaping),
-        '\'' | '"' => Some(LineMode::Inside(c)),
-        _ if c.is_whitespace() && c != '\r' => Some(LineMode::AfterBlank),
-        _ => Some(LineMode::Outside),
-    }
-}
-
-// Where a character leads, and `None` where it ends the logical line.
-fn next_mode(mode: LineMode, c: char) -> Option<LineMode>
-    ensures { result ≡ leads mode c }
-{
-    match mode {
-        LineMode::Outside => mode_after_token(c),
-        LineMode::Escaping => {
-            if c == '\n' {
-                None
-            } else {
-                Some(LineMode::Outside)
-            }
-        }
-        LineMode::Inside(quote) => {
-            if c == quote {
-                Some(LineMode::Outside)
-            } else if c == '\\' {
-                Some(LineMode::InsideEscaping(quote))
-            } else {
-                Some(LineMode::Inside(quote))
-            }
-        }
-        LineMode::InsideEscaping(quote) => Some(LineMode::Inside(quote)),
-        LineMode::AfterBlank => {
-            if c == '#' {
-                None
-            } else if stands_for_itself(c) {
-                mode_after_token(c)
-            } else {
-                Some(LineMode::Outside)
-            }
-        }
-    }
-}
-
-// How far one physical line leads.
-#[derive(Clone, Copy, Drop)]
-pub(crate) enum Walked {
-    Going(LineMode),
-    // The character at this byte ends the logical line.
-    EndedAt(usize, char),
-}
-
-fn walk_line(line: &str, start: LineMode) -> Walked
-    ensures { WalksLine start line.now result }
-{
-    let mut mode = start;
-    let mut at = 0;
-    for c in line.chars() {
-        mode = match next_mode(mode, c) {
-            Some(next) => next,
-            None => return Walked::EndedAt(at, c),
-        };
-        at += c.len_utf8();
-    }
-    Walked::Going(mode)
-}
-
-fn is_comment(line: &str) -> bool
-    ensures { result ≡ begins_with hash (skip_leading_whitespace (chars line.now)) }
-{
-    line.trim_start().starts_with('#')
-}
-
-fn drop_carriage_return<A: Allocator>(text: &mut String<A>)
-    ensures { chars (string_bytes text.new) ≡ without_carriage_return (chars (string_bytes text.old)) }
-{
-    if text.as_str().ends_with('\r') {
-        let _ = text.pop();
-    }
-}
-
-// Adds to a logical line what it keeps of its last physical line, where `end` ends it.
-fn keep_front<A: Allocator>(text: &mut String<A>, front: &str, end: char) -> Result<(), A>
-    ensures kept { OnOk result (chars (string_bytes text.new) ≡ kept end (chars (string_bytes text.old) ++ chars front.now)) }
-    ensures memory { IfErr result IsMemory }
-{
-    text.push_str(front)?;
-    if end == '\n' {
-        drop_carriage_return(text);
-    }
-    Ok(())
-}
-
-// What the next physical lines make. The text of `Whole` is empty where a line is skipped.
-#[derive(Drop)]
-pub(crate) enum Joined<A: Allocator> {
+pub(crate) enum Joined {
     Nothing,
-    Whole(String<A>),
-    OpenEnd(String<A>),
+    Skipped,
+    Whole,
+    OpenEnd,
     BrokenLine,
 }
 
-fn at_input_end<A: Allocator>(text: String<A>, mode: LineMode) -> Joined<A>
-    ensures empty { string_bytes text ≡ [] → result ≡ Joined.Nothing }
-    ensures begun { string_bytes text ≢ [] → result ≡ joined_at_end mode text }
+fn at_input_end(text: &str, mode: LineMode) -> Joined
+    ensures { result ≡ joined_at_end text.now mode }
 {
     if text.is_empty() {
         return Joined::Nothing;
     }
     match mode {
-        LineMode::Outside => Joined::Whole(text),
-        _ => Joined::OpenEnd(text),
+        LineMode::Outside => Joined::Whole,
+        _ => Joined::OpenEnd,
     }
 }
 
-// Reads physical lines until they make a logical line. What was joined before a fault is dropped.
-fn join_lines<R: Source, A: Allocator + Clone>(input: &mut Input<R, A>) -> Result<Joined<A>, A>
+// Takes physical lines until they make a logical line, whose text is left in the line buffer.
+fn join_lines<R: Source, A: Allocator>(
+    input: &mut Input<R, A>,
+    text: &mut String<A>,
+) -> Result<Joined, A>
     ensures falls { IfOk result (λ joined. UsesSome input.old joined input.new) }
-    ensures told { (a : Ahead) → IsTold input.old.left a → JoinsNext a input.old result input.new }
+    ensures told { (a : Ahead) → IsTold input.old.left a → JoinsNext a input.old result (string_bytes text.new) input.new }
     ensures asks { AsksReads (IsOk result) input.old input.new }
 {
-    let mut text = String::new(input.allocator().clone()?);
-    let mut bytes = Vec::new(input.allocator().clone()?);
+    text.clear();
     let mut mode = LineMode::Outside;
     'joining: loop {
-        input.read_line(&mut bytes)?;
-        if bytes.is_empty() {
-            return Ok(at_input_end(text, mode));
+        if !input.has_more()? {
+            return Ok(at_input_end(text.as_str(), mode));
         }
-        let Ok(line) = str::from_utf8(&bytes) else {
-            return Ok(Joined::BrokenLine);
-        };
-        if text.is_empty() && is_comment(line) {
-            return Ok(Joined::Whole(text));
-        }
-        match walk_line(line, mode) {
-            Walked::Going(next) => {
-                text.push_str(line)?;
-                mode = next;
+        match take_line(input, text, mode)? {
+            Taken::Going(next) => mode = next,
+            Taken::Ended => return Ok(Joined::Whole),
+            Taken::Comment => {
+                text.clear();
+                return Ok(Joined::Skipped);
             }
-            Walked::EndedAt(at, end) => {
-                keep_front(&mut text, &line[..at], end)?;
-                return Ok(Joined::Whole(text));
-            }
+            Taken::Broken => return Ok(Joined::BrokenLine),
         }
     }
 }
@@ -197,38 +79,48 @@ pub(crate) enum Stage {
     Failed,
 }
 
-// Reads logical lines, until the end or a fault that is final.
+// Reads logical lines into one line buffer, until the end or a fault that is final.
 #[derive(Drop)]
-pub(crate) struct QuotedLines<R: Source, A: Allocator> {
+pub(crate) struct Splitter<R: Source, A: Allocator> {
     input: Input<R, A>,
     stage: Stage,
+    line: String<A>,
 }
 
-impl<R: Source, A: Allocator> Model for QuotedLines<R, A> {
-    ghost use Rattle.dotenvy.specs.Lines.{LinesState, lines_code};
+impl<R: Source, A: Allocator> Model for Splitter<R, A> {
+    ghost use Rattle.std.specs.Prelude.{string_bytes};
+    ghost use Rattle.dotenvy.specs.Splitter.{SplitterState, splitter_code};
 
-    ghost Value = { LinesState };
+    ghost Value = { SplitterState };
 
-    ghost coded = { lines_code };
+    ghost coded = { splitter_code };
 
-    ghost view = { λ s. record { input = s.input; stage = s.stage } };
+    ghost view = { λ s. record { lines = record { input = s.input; stage = s.stage }; line = string_bytes s.line } };
 }
 
-impl<R: Source, A: Allocator + Clone> QuotedLines<R, A> {
-    // Nothing is read.
-    pub(crate) fn new(alloc: A, reader: R) -> QuotedLines<R, A>
-        ensures { result ≡ record { input = record { left = R.ahead reader; unread = 0; reads = 2 ^ 32; at_end = false; calls = R.calls reader }; stage = Stage.Open } }
+impl<R: Source, A: Allocator + Clone> Splitter<R, A> {
+    // Nothing is read. The memory for reading is taken; that of the line grows with the lines.
+    pub(crate) fn new(alloc: A, reader: R) -> Result<Splitter<R, A>, A>
+    where
+        R: Drop,
+        ensures ok { IfOk result (λ s. s.lines ≡ fresh_lines (R.ahead reader) (R.calls reader) (2 ^ 32)) }
+        ensures memory { IfErr result IsMemory }
     {
-        QuotedLines::with_limit(alloc, reader, READ_LIMIT)
+        Splitter::with_limit(alloc, reader, READ_LIMIT)
     }
 
-    fn with_limit(alloc: A, reader: R, reads: u64) -> QuotedLines<R, A>
-        ensures { result ≡ record { input = record { left = R.ahead reader; unread = 0; reads = reads; at_end = false; calls = R.calls reader }; stage = Stage.Open } }
+    fn with_limit(alloc: A, reader: R, reads: u64) -> Result<Splitter<R, A>, A>
+    where
+        R: Drop,
+        ensures ok { IfOk result (λ s. s.lines ≡ fresh_lines (R.ahead reader) (R.calls reader) reads) }
+        ensures memory { IfErr result IsMemory }
     {
-        QuotedLines {
-            input: Input::new(alloc, reader, reads),
+        let line = String::new(alloc.clone()?);
+        Ok(Splitter {
+            input: Input::new(alloc, reader, reads)?,
             stage: Stage::Open,
-        }
+            line,
+        })
     }
 
     pub(crate) fn allocator(&self) -> &A {
@@ -237,21 +129,32 @@ impl<R: Source, A: Allocator + Clone> QuotedLines<R, A> {
 
     // From now on `None` is the answer.
     pub(crate) fn fail(&mut self)
-        ensures { self.new ≡ record self.old { stage = Stage.Failed } }
+        ensures lines { self.new.lines ≡ record self.old.lines { stage = Stage.Failed } }
+        ensures line { self.new.line ≡ self.old.line }
     {
         self.stage = Stage::Failed;
     }
 
     fn is_open(&self) -> bool
-        ensures { IsTrue result ↔ (self.now.stage ≡ Stage.Open) }
+        ensures { IsTrue result ↔ (self.now.lines.stage ≡ Stage.Open) }
     {
         matches!(self.stage, Stage::Open)
     }
+
+    // The text that `advance` left: that of the last logical line, and the empty one for a line that is skipped.
+    pub(crate) fn line(&self) -> &str
+        ensures { result.now ≡ self.now.line }
+    {
+        self.line.as_str()
+    }
 }
 
-fn stage_after<A: Allocator>(joined: &Joined<A>, is_used_up: bool) -> Stage
-    ensures { result ≡ stage_after joined.now is_used_up }
+fn stage_after(joined: Joined, is_used_up: bool, is_refused: bool) -> Stage
+    ensures { result ≡ stage_after joined is_used_up is_refused }
 {
+    if is_refused {
+        return Stage::Failed;
+    }
     match joined {
         Joined::Nothing => Stage::Ended,
         _ => {
@@ -270,52 +173,67 @@ fn broken_line<A: Allocator>() -> Error<A>
     Error::Io(io::Error::new(ErrorKind::InvalidData, "the line is not UTF-8"))
 }
 
-fn answer<A: Allocator>(joined: Joined<A>) -> Option<Result<String<A>, A>>
-    ensures { Answers joined result }
+// The fault of a line that stays open: all of its text, and the length of that in bytes.
+fn open_end<A: Allocator + Clone>(alloc: &A, line: &str) -> Error<A>
+    ensures { IsMemory result ⊎ IsLineParseOf (chars line.now) (length line.now) result }
+{
+    match alloc.clone() {
+        Ok(alloc) => fault_error(alloc, line, line.len()),
+        Err(refused) => Error::Memory(refused),
+    }
+}
+
+fn outcome<A: Allocator + Clone>(alloc: &A, joined: Joined, line: &str) -> Option<Result<(), A>>
+    ensures { IsOutcome joined line.now result }
 {
     match joined {
         Joined::Nothing => None,
-        Joined::Whole(text) => Some(Ok(text)),
-        Joined::OpenEnd(text) => {
-            let len = text.len();
-            Some(Err(Error::LineParse(text, len)))
-        }
+        Joined::Skipped | Joined::Whole => Some(Ok(())),
+        Joined::OpenEnd => Some(Err(open_end(alloc, line))),
         Joined::BrokenLine => Some(Err(broken_line())),
     }
 }
 
-impl<R: Source, A: Allocator + Clone> QuotedLines<R, A> {
-    // The text of the next logical line, or its fault: empty for a line that is skipped, and `None` at the end and after a final fault.
-    pub(crate) fn next_line(&mut self) -> Option<Result<String<A>, A>>
-        ensures shut { self.old.stage ≢ Stage.Open → (result ≡ None) × (self.new ≡ self.old) }
-        ensures falls { IsSome result → fuel_of self.new < fuel_of self.old }
-        ensures none { result ≡ None → self.new.stage ≢ Stage.Open }
-        ensures memory { IfSome result (λ r. IsMemoryErr r → self.new.stage ≡ Stage.Failed) }
-        ensures told { (a : Ahead) → self.old.stage ≡ Stage.Open → IsTold self.old.input.left a → NextIs a self.old.input result self.new }
-        ensures asks { AsksReads (self.new.stage ≡ Stage.Open) self.old.input self.new.input }
+fn is_refused<A: Allocator>(outcome: &Option<Result<(), A>>) -> bool
+    ensures { result ≡ is_refused outcome.now }
+{
+    matches!(outcome, Some(Err(Error::Memory(_))))
+}
+
+impl<R: Source, A: Allocator + Clone> Splitter<R, A> {
+    // Takes the next logical line: its text is left in the line buffer, empty for a line that is skipped. Answers its
+    // fault, and `None` at the end and after a final fault.
+    pub(crate) fn advance(&mut self) -> Option<Result<(), A>>
+        ensures shut { self.old.lines.stage ≢ Stage.Open → (result ≡ None) × (self.new ≡ self.old) }
+        ensures falls { IsSome result → fuel_of self.new.lines < fuel_of self.old.lines }
+        ensures none { result ≡ None → self.new.lines.stage ≢ Stage.Open }
+        ensures memory { IfSome result (λ r. IsMemoryErr r → self.new.lines.stage ≡ Stage.Failed) }
+        ensures told { (a : Ahead) → self.old.lines.stage ≡ Stage.Open → IsTold self.old.lines.input.left a → AdvanceIs a self.old.lines.input result self.new.line self.new.lines }
+        ensures asks { AsksReads (self.new.lines.stage ≡ Stage.Open) self.old.lines.input self.new.lines.input }
     {
         if !self.is_open() {
             return None;
         }
-        let joined = match join_lines(&mut self.input) {
+        let joined = match join_lines(&mut self.input, &mut self.line) {
             Ok(joined) => joined,
             Err(e) => {
                 self.stage = Stage::Failed;
                 return Some(Err(e));
             }
         };
-        self.stage = stage_after(&joined, self.input.is_used_up());
-        answer(joined)
+        let outcome = outcome(self.input.allocator(), joined, self.line.as_str());
+        self.stage = stage_after(joined, self.input.is_used_up(), is_refused(&outcome));
+        outcome
     }
 
     // Drops a byte order mark that stands next. Does nothing after the end or a final fault.
     pub(crate) fn drop_mark(&mut self) -> Result<(), A>
-        ensures shut { self.old.stage ≢ Stage.Open → (result ≡ Ok tt) × (self.new ≡ self.old) }
-        ensures falls { fuel_of self.new ≤ fuel_of self.old }
-        ensures ok { OnOk result (self.new.stage ≡ self.old.stage) }
-        ensures err { OnErr result (self.new.stage ≡ Stage.Failed) }
-        ensures told { (a : Ahead) → self.old.stage ≡ Stage.Open → IsTold self.old.input.left a → DropsMark a self.old.input result self.new.input }
-        ensures asks { AsksReads (self.new.stage ≡ Stage.Open) self.old.input self.new.input }
+        ensures shut { self.old.lines.stage ≢ Stage.Open → (result ≡ Ok tt) × (self.new ≡ self.old) }
+        ensures falls { fuel_of self.new.lines ≤ fuel_of self.old.lines }
+        ensures ok { OnOk result (self.new.lines.stage ≡ self.old.lines.stage) }
+        ensures err { OnErr result (self.new.lines.stage ≡ Stage.Failed) }
+        ensures told { (a : Ahead) → self.old.lines.stage ≡ Stage.Open → IsTold self.old.lines.input.left a → DropsMark a self.old.lines.input result self.new.lines.input }
+        ensures asks { AsksReads (self.new.lines.stage ≡ Stage.Open) self.old.lines.input self.new.lines.input }
     {
         if !self.is_open() {
             return Ok(());
@@ -326,6 +244,58 @@ impl<R: Source, A: Allocator + Clone> QuotedLines<R, A> {
                 self.stage = Stage::Failed;
                 Err(e)
             }
+        }
+    }
+}
+
+fn copy_of<A: Allocator + Clone>(alloc: &A, line: &str) -> Result<String<A>, A>
+    ensures text { IfOk result (λ text. string_bytes text ≡ line.now) }
+    ensures memory { IfErr result IsMemory }
+{
+    Ok(String::from_str(alloc.clone()?, line)?)
+}
+
+// The logical lines as texts of their own.
+#[derive(Drop)]
+pub(crate) struct QuotedLines<R: Source, A: Allocator> {
+    splitter: Splitter<R, A>,
+}
+
+impl<R: Source, A: Allocator> Model for QuotedLines<R, A> {
+    ghost use Rattle.dotenvy.specs.Lines.{LinesState, lines_code};
+
+    ghost Value = { LinesState };
+
+    ghost coded = { lines_code };
+
+    ghost view = { λ s. s.splitter.lines };
+}
+
+impl<R: Source, A: Allocator + Clone> QuotedLines<R, A> {
+    pub(crate) fn new(splitter: Splitter<R, A>) -> QuotedLines<R, A>
+        ensures { result ≡ splitter.lines }
+    {
+        QuotedLines { splitter }
+    }
+
+    // The text of the next logical line, or its fault: empty for a line that is skipped, and `None` at the end and after a final fault.
+    pub(crate) fn next_line(&mut self) -> Option<Result<String<A>, A>>
+        ensures shut { self.old.stage ≢ Stage.Open → (result ≡ None) × (self.new ≡ self.old) }
+        ensures falls { IsSome result → fuel_of self.new < fuel_of self.old }
+        ensures none { result ≡ None → self.new.stage ≢ Stage.Open }
+        ensures memory { IfSome result (λ r. IsMemoryErr r → self.new.stage ≡ Stage.Failed) }
+        ensures told { (a : Ahead) → self.old.stage ≡ Stage.Open → IsTold self.old.input.left a → NextIs a self.old.input result self.new }
+        ensures asks { AsksReads (self.new.stage ≡ Stage.Open) self.old.input self.new.input }
+    {
+        match self.splitter.advance()? {
+            Ok(()) => match copy_of(self.splitter.allocator(), self.splitter.line()) {
+                Ok(text) => Some(Ok(text)),
+                Err(refused) => {
+                    self.splitter.fail();
+                    Some(Err(refused))
+                }
+            },
+            Err(fault) => Some(Err(fault)),
         }
     }
 }

@@ -33,6 +33,7 @@ impl<'a, A: Allocator> Names<'a, A> {
         found.unwrap_or("")
     }
 
+    #[inline(always)]
     fn piece_len(&self, piece: Piece<'_>) -> usize
         ensures { result ≡ saturated (length (piece_bytes (look_up_of self.now) piece.entry)) }
     {
@@ -67,6 +68,7 @@ impl<'a, A: Allocator> Names<'a, A> {
         }
     }
 
+    #[inline(always)]
     fn push_piece(&self, text: &mut String<A>, piece: Piece<'_>)
         requires { string_len text.old + length (piece_bytes (look_up_of self.now) piece) ≤ string_capacity text.old }
         ensures bytes { string_bytes text.new ≡ string_bytes text.old ++ piece_bytes (look_up_of self.now) piece.entry }

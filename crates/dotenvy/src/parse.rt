@@ -7,7 +7,7 @@ ghost use Rattle.dotenvy.specs.Errors.{IsMemory, IsMemoryErr, IsLineParseOf};
 ghost use Rattle.dotenvy.specs.Remembered.{remembered_of};
 ghost use Rattle.dotenvy.specs.Names.{look_up_of, names_of};
 ghost use Rattle.dotenvy.specs.Value.{Piece};
-ghost use Rattle.dotenvy.specs.ScanLine.{IsAssigned, ScansAssigned, Scans, AreCopiesOf};
+ghost use Rattle.dotenvy.specs.ScanLine.{IsAssigned, ScansAssigned, Scans, IsPairOf, AreCopiesOf};
 ghost use Rattle.dotenvy.specs.ParsedLine.{IsLineAnswer, Remembers, HasKey};
 
 use crate::dialect::Dialect;
@@ -25,23 +25,23 @@ pub(crate) type ParsedLine<A> = Result<Option<Pair<A>>, A>;
 
 // A value as it is written, and how many bytes it means.
 #[derive(Clone, Copy)]
-struct Value<'a> {
+pub(crate) struct Value<'a> {
     text: &'a str,
     len: usize,
 }
 
 // A key and its value, or `None` where nothing or a comment is assigned.
 #[derive(Clone, Copy)]
-struct Declaration<'a> {
-    key: &'a str,
+pub(crate) struct Declaration<'a> {
+    pub(crate) key: &'a str,
     value: Option<Value<'a>>,
 }
 
 // A text that is no statement or no value, and the index of its fault.
 #[derive(Clone, Copy)]
-struct Fault<'a> {
-    text: &'a str,
-    index: usize,
+pub(crate) struct Fault<'a> {
+    pub(crate) text: &'a str,
+    pub(crate) index: usize,
 }
 
 // The texts of a declaration: those that are answered, and those that are remembered.
@@ -53,7 +53,7 @@ struct Copies<A: Allocator> {
     remembered_value: Option<String<A>>,
 }
 
-fn fault_error<A: Allocator>(alloc: A, text: &str, index: usize) -> Error<A>
+pub(crate) fn fault_error<A: Allocator>(alloc: A, text: &str, index: usize) -> Error<A>
     ensures { IsMemory result ⊎ IsLineParseOf (chars text.now) index result }
 {
     match String::from_str(alloc, text) {
@@ -107,8 +107,8 @@ fn scan_assigned<'a, A: Allocator>(
     }
 }
 
-// The first pass, which takes no memory: nothing, a declaration with the length of its value's meaning, or the fault.
-fn scan_line<'a, A: Allocator>(
+/// The first pass, which takes no memory: nothing, a declaration with the length of its value's meaning, or the fault.
+pub(crate) fn scan_line<'a, A: Allocator>(
     line: &'a str,
     names: &Names<'_, A>,
     dialect: Dialect,
@@ -131,37 +131,56 @@ fn scan_line<'a, A: Allocator>(
     }
 }
 
-// The second pass: all memory that a declaration takes but for that of the map.
+/// The second pass: the key of a declaration, and what its value means.
+pub(crate) fn pair_of<A: Allocator + Clone>(
+    alloc: A,
+    declaration: Declaration<'_>,
+    names: &Names<'_, A>,
+    dialect: Dialect,
+) -> Result<Pair<A>, A>
+    requires { (rest : List ℕ) × (pieces : List Piece)
+        × IsAssigned dialect (look_up_of names.now) rest pieces declaration.value }
+    ensures pair { (rest : List ℕ) (pieces : List Piece) →
+        IsAssigned dialect (look_up_of names.now) rest pieces declaration.entry.value →
+        IfOk result (IsPairOf (look_up_of names.now) declaration.entry pieces) }
+    ensures refused { IfErr result IsMemory }
+{
+    let key = String::from_str(alloc.clone()?, declaration.key)?;
+    match declaration.value {
+        None => Ok((key, String::new(alloc))),
+        Some(written) => {
+            let value = names.expand(alloc, written.text, written.len, dialect)?;
+            Ok((key, value))
+        }
+    }
+}
+
+// The memory for a declaration that is remembered, all but that of the map.
 fn copies_of<A: Allocator + Clone>(
     alloc: A,
     declaration: Declaration<'_>,
     names: &Names<'_, A>,
     dialect: Dialect,
 ) -> Result<Copies<A>, A>
-    requires { (rest : List ℕ) × (pieces : List Piece) × IsAssigned dialect (look_up_of names.now) rest pieces declaration.value }
-    ensures copies { (rest : List ℕ) (pieces : List Piece) → IsAssigned dialect (look_up_of names.now) rest pieces declaration.entry.value → IfOk result (AreCopiesOf (look_up_of names.now) declaration.entry pieces) }
+    requires { (rest : List ℕ) × (pieces : List Piece)
+        × IsAssigned dialect (look_up_of names.now) rest pieces declaration.value }
+    ensures copies { (rest : List ℕ) (pieces : List Piece) →
+        IsAssigned dialect (look_up_of names.now) rest pieces declaration.entry.value →
+        IfOk result (AreCopiesOf (look_up_of names.now) declaration.entry pieces) }
     ensures refused { IfErr result IsMemory }
 {
-    let key = String::from_str(alloc.clone()?, declaration.key)?;
+    let (key, value) = pair_of(alloc.clone()?, declaration, names, dialect)?;
     let remembered_key = String::from_str(alloc.clone()?, declaration.key)?;
-    match declaration.value {
-        None => Ok(Copies {
-            key,
-            value: String::new(alloc),
-            remembered_key,
-            remembered_value: None,
-        }),
-        Some(written) => {
-            let value = names.expand(alloc.clone()?, written.text, written.len, dialect)?;
-            let remembered_value = Some(String::from_str(alloc, value.as_str())?);
-            Ok(Copies {
-                key,
-                value,
-                remembered_key,
-                remembered_value,
-            })
-        }
-    }
+    let remembered_value = match declaration.value {
+        None => None,
+        Some(_) => Some(String::from_str(alloc, value.as_str())?),
+    };
+    Ok(Copies {
+        key,
+        value,
+        remembered_key,
+        remembered_value,
+    })
 }
 
 /// What one logical line says: nothing, a key and its value, or a fault. A pair is remembered.

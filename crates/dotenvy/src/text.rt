@@ -1,12 +1,15 @@
 // Texts cut at characters, and the classes of characters.
-ghost use Rattle.std.specs.Prelude.{◌≡◌, ◌++◌, [], length, MatchOption};
+ghost use Rattle.std.specs.Prelude.{◌≡◌, ◌==◌, ◌++◌, [], not, length, unwrap_or, MatchOption};
 ghost use Rattle.std.specs.Str.{chars, IsUtf8};
 ghost use Rattle.unicode.specs.GeneralCategory.{general_category, general_category_number};
-ghost use Rattle.dotenvy.specs.Characters.{is_number_category, allows_underscore, is_name_character, is_empty_or_comment};
-ghost use Rattle.dotenvy.specs.Slices.{BeginsWith, IsSpan, has_character};
+ghost use Rattle.dotenvy.specs.Characters.{double_quote, is_blank, is_space_or_tab, continues_key, is_number_category, allows_underscore, is_name_character, is_empty_or_comment};
+ghost use Rattle.std.specs.List.{prefix_len, position_from};
+ghost use Rattle.dotenvy.specs.Value.{is_plain_outside};
+ghost use Rattle.dotenvy.specs.Slices.{BeginsWith, IsSpan, PassesTo, has_character, is_name_byte, is_token_byte, in_run};
 
 use crate::dialect::Dialect;
 use crate::environment::continues_key;
+use memchr::{memchr2, memchr3};
 use unicode::properties::{GeneralCategory, is_alphabetic};
 
 /// Where a part of a value stands.
@@ -26,11 +29,23 @@ pub(crate) enum Class {
     /// A character of a value that means itself.
     Plain(Quoting),
     SpaceOrTab,
+    DoubleQuote,
+    /// A character that changes nothing outside quotes: no white space, quote or backslash.
+    Token,
+    /// A character between these quotes that neither ends them nor escapes another.
+    Quoted(char),
+}
+
+fn is_blank(c: char) -> bool
+    ensures { result ≡ is_blank c }
+{
+    c.is_whitespace() && c != '\n' && c != '\r'
 }
 
 impl Class {
     ghost use Rattle.dotenvy.specs.Slices.{has_character};
 
+    #[inline(always)]
     pub(crate) fn contains(self, c: char) -> bool
         ensures { result ≡ has_character self c }
     {
@@ -40,6 +55,9 @@ impl Class {
             Class::Plain(Quoting::Unquoted) => !matches!(c, '\\' | '\'' | '"' | '$' | ' ' | '\t'),
             Class::Plain(Quoting::DoubleQuoted) => !matches!(c, '\\' | '"' | '$'),
             Class::SpaceOrTab => matches!(c, ' ' | '\t'),
+            Class::DoubleQuote => c == '"',
+            Class::Token => !(is_blank(c) || matches!(c, '\\' | '\'' | '"' | '\n')),
+            Class::Quoted(quote) => c != quote && c != '\\',
         }
     }
 }
@@ -72,6 +90,7 @@ fn is_name_character(dialect: Dialect, c: char) -> bool
 }
 
 /// The first character, and what follows it.
+#[inline(always)]
 pub(crate) fn split_first(text: &str) -> Option<(char, &str)>
     ensures { MatchOption result (text.now ≡ []) (λ p. BeginsWith text.now p.0 p.1.now) }
 {
@@ -95,14 +114,122 @@ pub(crate) fn is_empty_or_comment(text: &str) -> bool
     }
 }
 
+// An ASCII character of a name.
+fn is_name_byte(dialect: Dialect, byte: u8) -> bool
+    ensures { result ≡ is_name_byte dialect byte }
+{
+    byte.is_ascii_alphanumeric() || (allows_underscore(dialect) && byte == b'_')
+}
+
+// The byte is a character of a value that means itself outside quotes, or a part of one.
+const PLAIN: u8 = 1;
+
+// The byte is a character of a token, or a part of one, and begins no blank: those that are not ASCII begin with 0xC2 and
+// with 0xE1 to 0xE3.
+const TOKEN: u8 = 2;
+
+// What each byte is, of these.
+static KINDS: [u8; 256] = [
+    3, 3, 3, 3, 3, 3, 3, 3, 3, 0, 1, 1, 1, 3, 3, 3, 3, 3, 3, 3, 3, 3, 3, 3, 3, 3, 3, 3, 3, 3, 3, 3,
+    0, 3, 0, 3, 2, 3, 3, 0, 3, 3, 3, 3, 3, 3, 3, 3, 3, 3, 3, 3, 3, 3, 3, 3, 3, 3, 3, 3, 3, 3, 3, 3,
+    3, 3, 3, 3, 3, 3, 3, 3, 3, 3, 3, 3, 3, 3, 3, 3, 3, 3, 3, 3, 3, 3, 3, 3, 3, 3, 3, 3, 0, 3, 3, 3,
+    3, 3, 3, 3, 3, 3, 3, 3, 3, 3, 3, 3, 3, 3, 3, 3, 3, 3, 3, 3, 3, 3, 3, 3, 3, 3, 3, 3, 3, 3, 3, 3,
+    3, 3, 3, 3, 3, 3, 3, 3, 3, 3, 3, 3, 3, 3, 3, 3, 3, 3, 3, 3, 3, 3, 3, 3, 3, 3, 3, 3, 3, 3, 3, 3,
+    3, 3, 3, 3, 3, 3, 3, 3, 3, 3, 3, 3, 3, 3, 3, 3, 3, 3, 3, 3, 3, 3, 3, 3, 3, 3, 3, 3, 3, 3, 3, 3,
+    3, 3, 1, 3, 3, 3, 3, 3, 3, 3, 3, 3, 3, 3, 3, 3, 3, 3, 3, 3, 3, 3, 3, 3, 3, 3, 3, 3, 3, 3, 3, 3,
+    3, 1, 1, 1, 3, 3, 3, 3, 3, 3, 3, 3, 3, 3, 3, 3, 3, 3, 3, 3, 3, 3, 3, 3, 3, 3, 3, 3, 3, 3, 3, 3,
+];
+
+#[inline(always)]
+fn is_plain_byte(byte: u8) -> bool
+    ensures { result ≡ is_plain_outside byte }
+{
+    KINDS[byte as usize] & PLAIN != 0
+}
+
+#[inline(always)]
+fn is_token_byte(byte: u8) -> bool
+    ensures { result ≡ is_token_byte byte }
+{
+    KINDS[byte as usize] & TOKEN != 0
+}
+
+fn key_end(bytes: &[u8]) -> Option<usize>
+    ensures { result ≡ position_from (λ b. not (continues_key b)) 0 bytes.now }
+{
+    bytes.iter().position(|b| !continues_key(char::from(*b)))
+}
+
+fn name_end(bytes: &[u8], dialect: Dialect) -> Option<usize>
+    ensures { result ≡ position_from (λ b. not (is_name_byte dialect b)) 0 bytes.now }
+{
+    bytes.iter().position(|b| !is_name_byte(dialect, *b))
+}
+
+fn plain_end(bytes: &[u8]) -> Option<usize>
+    ensures { result ≡ position_from (λ b. not (is_plain_outside b)) 0 bytes.now }
+{
+    bytes.iter().position(|b| !is_plain_byte(*b))
+}
+
+fn blanks_end(bytes: &[u8]) -> Option<usize>
+    ensures { result ≡ position_from (λ b. not (is_space_or_tab b)) 0 bytes.now }
+{
+    bytes.iter().position(|b| !matches!(*b, b' ' | b'\t'))
+}
+
+fn quotes_end(bytes: &[u8]) -> Option<usize>
+    ensures { result ≡ position_from (λ b. not (b == double_quote)) 0 bytes.now }
+{
+    bytes.iter().position(|b| *b != b'"')
+}
+
+fn token_end(bytes: &[u8]) -> Option<usize>
+    ensures { result ≡ position_from (λ b. not (is_token_byte b)) 0 bytes.now }
+{
+    bytes.iter().position(|b| !is_token_byte(*b))
+}
+
+// Where the bytes end that are passed over without a look at their characters.
+#[inline(always)]
+fn run_end(bytes: &[u8], class: Class) -> Option<usize>
+    ensures { unwrap_or result (length bytes.now) ≡ prefix_len (in_run class) bytes.now }
+{
+    match class {
+        Class::Key => key_end(bytes),
+        Class::Name(dialect) => name_end(bytes, dialect),
+        Class::Plain(Quoting::Unquoted) => plain_end(bytes),
+        Class::Plain(Quoting::DoubleQuoted) => memchr3(b'\\', b'"', b'$', bytes),
+        Class::SpaceOrTab => blanks_end(bytes),
+        Class::DoubleQuote => quotes_end(bytes),
+        Class::Token => token_end(bytes),
+        Class::Quoted(quote) if quote.is_ascii() => memchr2(quote as u8, b'\\', bytes),
+        Class::Quoted(_) => Some(0),
+    }
+}
+
+// How many bytes at the front are passed over without a look at their characters, which are all of the class.
+#[inline(always)]
+fn run_len(text: &str, class: Class) -> usize
+    ensures { PassesTo (has_character class) text.now result }
+{
+    let bytes = text.as_bytes();
+    run_end(bytes, class).unwrap_or(bytes.len())
+}
+
 /// The longest front of characters of the class, and what follows it.
+#[inline(always)]
 pub(crate) fn split_while(text: &str, class: Class) -> (&str, &str)
     ensures bytes { text.now ≡ result.0.now ++ result.1.now }
     ensures texts { IsUtf8 result.0.now × IsUtf8 result.1.now }
     ensures span { IsSpan (has_character class) (chars text.now) (chars result.0.now) (chars result.1.now) }
 {
-    match text.find(|c| !class.contains(c)) {
-        Some(end) => text.split_at(end),
-        None => (text, ""),
+    let mut rest = text;
+    'runs: loop {
+        let (_, after) = rest.split_at(run_len(rest, class));
+        match split_first(after) {
+            Some((first, next)) if class.contains(first) => rest = next,
+            _ => return text.split_at(text.len() - after.len()),
+        }
     }
 }

@@ -46,6 +46,7 @@ enum Kind {
     Plain,
 }
 
+#[inline(always)]
 fn kind_of(quoting: Quoting, c: char) -> Kind
     ensures { result ≡ kind_of quoting c }
 {
@@ -78,6 +79,7 @@ fn is_left_by_name(dialect: Dialect, quoting: Quoting, c: char) -> bool
 }
 
 // What a backslash and this character mean.
+#[inline(always)]
 fn escaped(c: char) -> Option<&'static str>
     ensures { Escapes c result }
 {
@@ -93,6 +95,7 @@ fn escaped(c: char) -> Option<&'static str>
 }
 
 // Nothing follows, which is a value's end outside double quotes alone.
+#[inline(always)]
 fn at_end(text: &str, quoting: Quoting) -> NextPiece<'_>
     requires { text.now ≡ [] }
     ensures after_part { (dialect : _) → NextIs dialect (base (quoting_of quoting)) (chars text.now) result }
@@ -106,6 +109,7 @@ fn at_end(text: &str, quoting: Quoting) -> NextPiece<'_>
 }
 
 // What follows a backslash.
+#[inline(always)]
 fn escape(left: &str, quoting: Quoting) -> NextPiece<'_>
     ensures { (dialect : _) → NextIs dialect (escaping (quoting_of quoting)) (chars left.now) result }
 {
@@ -229,13 +233,25 @@ fn plain(text: &str, quoting: Quoting) -> NextPiece<'_>
     })
 }
 
-// What follows a double quote.
-fn double_quote(rest: &str, quoting: Quoting) -> NextPiece<'_>
-    ensures { (dialect : _) → NextIs dialect (base (other_quoting (quoting_of quoting))) (chars rest.now) result }
+fn other_quoting(quoting: Quoting) -> Quoting
+    ensures { quoting_of result ≡ other_quoting (quoting_of quoting) }
 {
-    let quoting = match quoting {
+    match quoting {
         Quoting::Unquoted => Quoting::DoubleQuoted,
         Quoting::DoubleQuoted => Quoting::Unquoted,
+    }
+}
+
+// What follows a double quote. More of them right after it begin and end parts with no text, so they are taken at once.
+#[inline(always)]
+fn double_quote(left: &str, quoting: Quoting) -> NextPiece<'_>
+    ensures { (dialect : _) → NextIs dialect (base (other_quoting (quoting_of quoting))) (chars left.now) result }
+{
+    let (more, rest) = split_while(left, Class::DoubleQuote);
+    let quoting = if more.len() % 2 == 0 {
+        other_quoting(quoting)
+    } else {
+        quoting
     };
     NextPiece::Piece(Given {
         piece: Piece::Text(""),
@@ -245,6 +261,7 @@ fn double_quote(rest: &str, quoting: Quoting) -> NextPiece<'_>
 }
 
 /// The next piece of a value at this place.
+#[inline(always)]
 pub(crate) fn next_piece(text: &str, quoting: Quoting, dialect: Dialect) -> NextPiece<'_>
     ensures next { NextIs dialect (base (quoting_of quoting)) (chars text.now) result }
     ensures shorter { IsShorter (chars text.now) result }

@@ -1,6 +1,6 @@
 //! The written form of pairs, and the listing of a file.
 
-ghost use Rattle.std.specs.Prelude.{◌≡◌, ◌≤◌, ◌+◌, ◌++◌, ◌∷◌, [], length, IfOk, IfErr, IsTrue, chars, encode_utf8_all, string_bytes, string_len};
+ghost use Rattle.std.specs.Prelude.{◌≡◌, ◌≤◌, ◌+◌, ◌++◌, ◌∷◌, [], length, filter, IfOk, IfErr, IsTrue, chars, encode_utf8_all, string_bytes, string_len};
 ghost use Rattle.std.specs.String.{string_capacity};
 ghost use Rattle.dotenvy.specs.Statement.{is_key};
 ghost use Rattle.dotenvy.specs.Characters.{byte_len};
@@ -16,6 +16,7 @@ use crate::environment::Environment;
 use crate::errors::{Error, Result};
 use crate::iter::Iter;
 use crate::source::{Sink, Source};
+use crate::text::{Class, Quoting, split_first, split_while};
 use std::alloc::{AllocError, Allocator};
 use std::io;
 use std::io::ErrorKind;
@@ -29,15 +30,27 @@ fn needs_backslash(c: char) -> bool
     matches!(c, '\\' | '"' | '$')
 }
 
+// How many characters are written after a backslash. Each of them is a byte, so bytes are counted.
+fn backslash_count(text: &str) -> usize
+    ensures { result ≡ length (filter needs_backslash (chars text.now)) }
+{
+    let mut count = 0;
+    'bytes: for byte in text.as_bytes() {
+        if needs_backslash(char::from(*byte)) {
+            count += 1;
+        }
+    }
+    count
+}
+
 // How many bytes the written form of a pair takes, or the greatest number where that is more.
 fn written_len(key: &str, text: &str) -> usize
     ensures { result ≡ saturated (byte_len (written_text ((chars key.now, chars text.now) ∷ []))) }
 {
-    let escaped = text.chars().filter(|c| needs_backslash(*c)).count();
     let around = "=\"\"\n".len();
     key.len()
         .saturating_add(text.len())
-        .saturating_add(escaped)
+        .saturating_add(backslash_count(text))
         .saturating_add(around)
 }
 
@@ -61,8 +74,16 @@ fn push_written<A: Allocator>(out: &mut String<A>, key: &str, text: &str)
 {
     out.push_str(key).unwrap();
     out.push_str("=\"").unwrap();
-    'characters: for c in text.chars() {
-        push_character(out, c);
+    let mut rest = text;
+    'parts: while let Some((first, after_first)) = split_first(rest) {
+        if needs_backslash(first) {
+            push_character(out, first);
+            rest = after_first;
+        } else {
+            let (plain, after) = split_while(rest, Class::Plain(Quoting::DoubleQuoted));
+            out.push_str(plain).unwrap();
+            rest = after;
+        }
     }
     out.push_str("\"\n").unwrap();
 }

@@ -7,6 +7,8 @@ mod calls;
 #[cfg(test)]
 mod current_directory;
 #[cfg(test)]
+mod cuts;
+#[cfg(test)]
 mod dialects;
 #[cfg(test)]
 mod environments;

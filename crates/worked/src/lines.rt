@@ -1,6 +1,6 @@
 //! Which bytes make a logical line.
 
-use crate::shown::{items, items_under};
+use crate::shown::{items, items_under, loads_over};
 use dotenvy::{Bytes, Dialect, Environment, from_read_iter};
 use std::test::Fail;
 
@@ -206,5 +206,42 @@ fn long_lines(rt: HostRuntime) -> Result<(), Fail> {
     let open = format!(in alloc; "A=\"{lines}")?;
     let want = format!(in alloc; "fault at 2003: {open}")?;
     assert!(rt; items(alloc, open.as_bytes())?.as_str() == want.as_str());
+    Ok(())
+}
+
+#[test]
+fn long_lines_of_several_reads(rt: HostRuntime) -> Result<(), Fail> {
+    let alloc = rt.alloc();
+    let letters = "a".repeat(alloc, 9_990)?;
+    let letters = letters.as_str();
+    let text = format!(in alloc; "K=\"{letters}\né{letters}\n# {letters}\"\nB=2\n")?;
+    let want = format!(in alloc; "K={letters}\né{letters}\n# {letters}; B=2")?;
+    assert!(rt; items(alloc, text.as_bytes())?.as_str() == want.as_str());
+
+    // A line that is no text is read to its end, wherever its broken byte stands.
+    for (front, before, after) in [
+        ("#", letters, "b"),
+        ("# é\"", "", letters),
+        ("K=", letters, letters),
+        ("K='", letters, "b'"),
+        ("K=1 # ", letters, ""),
+        ("K=\"x\n", "", letters),
+    ] {
+        let mut file = Vec::new(alloc);
+        file.extend_from_slice(front.as_bytes())?;
+        file.extend_from_slice(before.as_bytes())?;
+        file.extend_from_slice(before.as_bytes())?;
+        file.push(0xff)?;
+        file.extend_from_slice(after.as_bytes())?;
+        file.extend_from_slice(b"\nB=2\n")?;
+        assert_eq!(rt;
+            items(alloc, file.as_slice())?.as_str(),
+            "io InvalidData; B=2",
+            "behind {front:?} and {} letters",
+            before.len().saturating_mul(2)
+        );
+        let load = loads_over(alloc, &[], || Ok(Bytes::new(file.as_slice())))?;
+        assert_eq!(rt; load.as_str(), "io InvalidData:  | io InvalidData: ");
+    }
     Ok(())
 }

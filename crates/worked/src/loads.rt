@@ -127,6 +127,87 @@ fn a_nul_in_a_value(rt: HostRuntime) -> Result<(), Fail> {
 }
 
 #[test]
+fn a_fault_in_the_value_of_a_name_that_was_there(rt: HostRuntime) -> Result<(), Fail> {
+    for (input, want) in [
+        (
+            "A=x y\nB=2\n",
+            "fault at 2: x y: A=9 | fault at 2: x y: A=9",
+        ),
+        (
+            "A=1\nA=${B\nC=3\n",
+            "fault at 2: ${B: A=9 | fault at 2: ${B: A=1",
+        ),
+        ("A\nC=3\n", "fault at 1: A: A=9 | fault at 1: A: A=9"),
+    ] {
+        assert_eq!(rt;
+            loads(rt.alloc(), &[("A", "9")], input.as_bytes())?.as_str(),
+            want,
+            "at {input:?}"
+        );
+    }
+    Ok(())
+}
+
+#[test]
+fn names_that_are_declared_with_nothing(rt: HostRuntime) -> Result<(), Fail> {
+    let alloc = rt.alloc();
+    for input in ["A=\nB=$A-\n", "A=  # c\nB=$A-\n", "A=''\nB=$A-\n"] {
+        let shown = loads(alloc, &[], input.as_bytes())?;
+        assert_eq!(rt; shown.as_str(), "ok: A=, B=- | ok: A=, B=-", "at {input:?}");
+        let shown = loads(alloc, &[("A", "9")], input.as_bytes())?;
+        assert_eq!(rt;
+            shown.as_str(),
+            "ok: A=9, B=9- | ok: A=, B=-",
+            "at {input:?}"
+        );
+    }
+    Ok(())
+}
+
+// The first item declares `A` as 1, so that is remembered. Where the environment has `A` it is not asked for.
+#[test]
+fn values_that_were_remembered_before_a_load(rt: HostRuntime) -> Result<(), Fail> {
+    let alloc = rt.alloc();
+    let absent: &[(&str, &str)] = &[];
+    let rows: [(&[(&str, &str)], &str, &str, &str); 6] = [
+        (absent, "B=$A\n", "B=1", "B=1"),
+        (
+            absent,
+            "B=$A\nA=2\nC=$A\n",
+            "A=2, B=1, C=2",
+            "A=2, B=1, C=2",
+        ),
+        (absent, "A=\nB=$A-\n", "A=, B=-", "A=, B=-"),
+        (&[("A", "9")], "B=$A\n", "A=9, B=9", "A=9, B=9"),
+        (
+            &[("A", "9")],
+            "B=$A\nA=2\nC=$A\n",
+            "A=9, B=9, C=9",
+            "A=2, B=9, C=2",
+        ),
+        (&[("B", "9")], "B=x\nC=$A$B\n", "B=9, C=19", "B=x, C=1x"),
+    ];
+    for (before, left, kept, replaced) in rows {
+        let file = format!(in alloc; "A=1\n{left}")?;
+        for (is_override, want) in [(false, kept), (true, replaced)] {
+            let mut entries = Iter::new(alloc, Bytes::new(file.as_bytes()))?;
+            let (key, value) = entries
+                .next_item(&Environment::new(alloc))
+                .ok_or("no item")??;
+            assert!(rt; (key.as_str(), value.as_str()) == ("A", "1"));
+            let mut environment = environment(alloc, before)?;
+            if is_override {
+                entries.load_override(&mut environment)?;
+            } else {
+                entries.load(&mut environment)?;
+            }
+            assert_eq!(rt; pairs(alloc, &environment)?.as_str(), want, "at {left:?}");
+        }
+    }
+    Ok(())
+}
+
+#[test]
 fn loads_of_what_is_left(rt: HostRuntime) -> Result<(), Fail> {
     let alloc = rt.alloc();
     let rows = [

@@ -34,21 +34,56 @@ impl<'a> Source for Pieces<'a> {
     }
 }
 
-// Each answer in brackets, or its fault, until `None`.
-fn listed<R: Source>(alloc: Global, lines: &mut QuotedLines<R, Global>) -> super::Result<String> {
+// Adds a line in brackets, or its fault.
+fn list(all: &mut String, answer: super::Result<&str>) -> super::Result<()> {
+    match answer {
+        Ok(text) => write!(all, "[{text}]")?,
+        Err(Error::Io(e)) => {
+            let kind = e.kind();
+            write!(all, "<{kind:?}>")?;
+        }
+        Err(e) => write!(all, "<{e}>")?,
+    }
+    Ok(())
+}
+
+// Each line until `None`, as a text of its own.
+fn listed<R: Source + Drop>(alloc: Global, splitter: Splitter<R, Global>) -> super::Result<String> {
     let mut all = String::new(alloc);
+    let mut lines = QuotedLines::new(splitter);
     for _ in 0..1000 {
         match lines.next_line() {
             None => break,
-            Some(Ok(text)) => write!(all, "[{text}]")?,
-            Some(Err(Error::Io(e))) => {
-                let kind = e.kind();
-                write!(all, "<{kind:?}>")?;
-            }
-            Some(Err(e)) => write!(all, "<{e}>")?,
+            Some(Ok(text)) => list(&mut all, Ok(text.as_str()))?,
+            Some(Err(e)) => list(&mut all, Err(e))?,
         }
     }
     Ok(all)
+}
+
+// Each line until `None`, as the splitter holds it.
+fn listed_in_place<R: Source>(
+    alloc: Global,
+    splitter: &mut Splitter<R, Global>,
+) -> super::Result<String> {
+    let mut all = String::new(alloc);
+    for _ in 0..1000 {
+        match splitter.advance() {
+            None => break,
+            Some(Ok(())) => list(&mut all, Ok(splitter.line()))?,
+            Some(Err(e)) => list(&mut all, Err(e))?,
+        }
+    }
+    Ok(all)
+}
+
+fn one_byte_a_read(bytes: &[u8]) -> Pieces<'_> {
+    Pieces {
+        rest: bytes,
+        size: 1,
+        is_interrupted: false,
+        fault: None,
+    }
 }
 
 fn listed_both_ways(
@@ -56,21 +91,13 @@ fn listed_both_ways(
     bytes: &[u8],
     has_mark: bool,
 ) -> super::Result<(String, String)> {
-    let mut whole = QuotedLines::new(alloc, Bytes::new(bytes));
-    let mut cut = QuotedLines::new(
-        alloc,
-        Pieces {
-            rest: bytes,
-            size: 1,
-            is_interrupted: false,
-            fault: None,
-        },
-    );
+    let mut whole = Splitter::new(alloc, Bytes::new(bytes))?;
+    let mut cut = Splitter::new(alloc, one_byte_a_read(bytes))?;
     if has_mark {
         whole.drop_mark()?;
         cut.drop_mark()?;
     }
-    Ok((listed(alloc, &mut whole)?, listed(alloc, &mut cut)?))
+    Ok((listed(alloc, whole)?, listed(alloc, cut)?))
 }
 
 #[test]
@@ -146,25 +173,54 @@ fn faults_and_bound(rt: HostRuntime) -> std::result::Result<(), Fail> {
         is_interrupted: false,
         fault: Some(ErrorKind::InvalidData),
     };
-    let mut lines = QuotedLines::new(alloc, failing);
-    assert_eq!(rt; listed(alloc, &mut lines)?.as_str(), "[A=1]<InvalidData>");
+    let mut lines = Splitter::new(alloc, failing)?;
+    assert_eq!(rt;
+        listed_in_place(alloc, &mut lines)?.as_str(),
+        "[A=1]<InvalidData>"
+    );
     assert_eq!(rt; lines.drop_mark().is_ok(), true);
 
-    let mut bounded = QuotedLines::with_limit(alloc, Bytes::new(b"A\nB"), 1);
-    assert_eq!(rt; listed(alloc, &mut bounded)?.as_str(), "[A]<Other>");
-    let mut enough = QuotedLines::with_limit(alloc, Bytes::new(b"A\nB"), 2);
-    assert_eq!(rt; listed(alloc, &mut enough)?.as_str(), "[A][B]");
+    let bounded = Splitter::with_limit(alloc, Bytes::new(b"A\nB"), 1)?;
+    assert_eq!(rt; listed(alloc, bounded)?.as_str(), "[A]<Other>");
+    let enough = Splitter::with_limit(alloc, Bytes::new(b"A\nB"), 2)?;
+    assert_eq!(rt; listed(alloc, enough)?.as_str(), "[A][B]");
     let interrupted = Pieces {
         rest: b"A\n",
         size: 4,
         is_interrupted: false,
         fault: Some(ErrorKind::Interrupted),
     };
-    let mut waiting = QuotedLines::with_limit(alloc, interrupted, 1_000);
-    assert_eq!(rt; listed(alloc, &mut waiting)?.as_str(), "[A]<Other>");
+    let waiting = Splitter::with_limit(alloc, interrupted, 1_000)?;
+    assert_eq!(rt; listed(alloc, waiting)?.as_str(), "[A]<Other>");
 
-    let mut failed = QuotedLines::new(alloc, Bytes::new(b"A"));
+    let mut failed = Splitter::new(alloc, Bytes::new(b"A"))?;
     failed.fail();
-    assert_eq!(rt; listed(alloc, &mut failed)?.as_str(), "");
+    assert_eq!(rt; listed(alloc, failed)?.as_str(), "");
+    Ok(())
+}
+
+#[test]
+fn the_line_buffer_holds_the_last_line(rt: HostRuntime) -> std::result::Result<(), Fail> {
+    let alloc = rt.alloc();
+    // A comment is skipped, also one that is read in pieces, and leaves none of the long line before
+    // it; the lines behind it are shorter, and each is there alone.
+    let bytes =
+        b"A='long\nquoted'\n# c\nB=1\n\n  # d\nC # e\nK=\xC3\nD\n\xFF 'x\nE='\n\xEF\xBB\xBF";
+    let wanted = "[A='long\nquoted'][][B=1][][][C ]<InvalidData>[D]<InvalidData>\
+        <Error parsing line: 'E='\n\u{FEFF}', error at line index: 7>";
+    let mut whole = Splitter::new(alloc, Bytes::new(bytes))?;
+    assert_eq!(rt;
+        listed_in_place(alloc, &mut whole)?.as_str(),
+        wanted,
+        "whole"
+    );
+    let mut cut = Splitter::new(alloc, one_byte_a_read(bytes))?;
+    assert_eq!(rt;
+        listed_in_place(alloc, &mut cut)?.as_str(),
+        wanted,
+        "in pieces"
+    );
+    assert!(rt; whole.advance().is_none());
+    assert!(rt; cut.advance().is_none());
     Ok(())
 }

@@ -1,16 +1,17 @@
-use Rattle.std.proofs.Common.{◌∙◌, ap, sym, Some, None}
-use Rattle.std.specs.Prelude.{string_bytes, is_some, if◌then◌else◌}
-use Rattle.dotenvy.specs.Names.{look_up_of}
-use Rattle.dotenvy.proofs.LinePasses.{assigned_bytes, assigned_meaning}
+use Rattle.std.proofs.Common.{◌∙◌, ap, refl, Some}
 use Rattle.dotenvy.proofs.parse.copies_of.Goals as goal
+use Rattle.dotenvy.proofs.parse.copies_of.Goals.{in-None, in-Some+in_ok-from_str-in-Some}
 
-pub expand-requires : goal.expand-requires
-expand-requires g c = assigned_bytes c.args.dialect (look_up_of c.args.names.now) c.requires.0 c.requires.1 c.args.declaration.value c.in-Some.written c.in-Some.is c.requires.2
-
-pub returns-in_ok-from_str-in-Some-clause-copies : goal.returns-in_ok-from_str-in-Some-clause-copies
-returns-in_ok-from_str-in-Some-clause-copies g c = λ rest pieces is. record {
-  key = c.in_ok-key.ensures.ok;
-  value = assigned_meaning c.args.dialect (look_up_of c.args.names.now) rest pieces c.args.declaration.value c.in-Some.written (string_bytes c.in_ok-value-in-Some.value) c.in-Some.is is c.in_ok-value-in-Some.ensures;
-  remembered_key = c.in_ok-remembered_key.ensures.ok;
-  remembered_value = ap Some (c.in_ok-from_str-in-Some.ensures.ok ∙ c.as_str.ensures.value) ∙ sym (ap (λ v. if is_some v then Some (string_bytes c.in_ok-value-in-Some.value) else None) c.in-Some.is);
-}
+pub returns-clause-copies : goal.returns-clause-copies
+returns-clause-copies g c = λ rest pieces is.
+    let pair = c.in_ok-key.ensures.pair rest pieces is in
+    record {
+      key = pair.key;
+      value = pair.value;
+      remembered_key = c.in_ok-remembered_key.ensures.ok;
+      remembered_value = elim c.match-declaration.branch [
+        | in-None w ↦ rw (w.remembered_value-is, w.in-None.is) refl
+        | in-Some+in_ok-from_str-in-Some w ↦ rw (w.remembered_value-is, w.in-Some.is)
+            (ap Some (w.in_ok-from_str-in-Some.ensures.ok ∙ w.as_str.ensures.value))
+      ];
+    }

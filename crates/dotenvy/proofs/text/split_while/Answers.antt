@@ -1,23 +1,40 @@
-use Rattle.std.proofs.Common.{rules, not, sym, refl, Some, subst}
+use Rattle.std.proofs.Common.{refl, sym, subst, ◌∙◌}
 use Rattle.std.specs.Str.{IsUtf8}
-use Rattle.std.specs.Str.Pattern.{FindsBy}
-use Rattle.std.proofs.lemmas.Str.{IsUtf8-take, IsUtf8-drop, IsUtf8-nil}
-use Rattle.std.proofs.lemmas.Fn.{always_returns_same}
+use Rattle.std.proofs.lemmas.Str.{IsUtf8-drop}
 use Rattle.dotenvy.specs.Slices.{has_character}
-use Rattle.dotenvy.proofs.Slices.{whole_span, found_span}
+use Rattle.dotenvy.proofs.ByteRuns.{passed_none, passed_run, passed_first, passed_all, none_next, fails_next, fewer}
 use Rattle.dotenvy.proofs.text.split_while.Goals as goal
+use Rattle.dotenvy.proofs.text.split_while.Goals.{in_default-via-in-Some+else-contains, in_default-via-in_default}
 
-pub returns-in-Some-clause-span : goal.returns-in-Some-clause-span
-returns-in-Some-clause-span c =
-    let m = c.in-Some.ensures.cases in
-    let found : FindsBy (λ x. not (has_character c.args.class x)) c.args.text.now (Some (c.in-Some.end, m.0)) = m.1 (λ x. not (has_character c.args.class x)) (always_returns_same _ _ _ (λ a r f' called. search rules)) in
-    found_span (has_character c.args.class) c.args.text.now _ _ c.in-Some.end m.0 c.utf8.text m.3 c.split_at.ensures.front c.split_at.ensures.back found.0 found.1
+pub runs-init : goal.runs-init
+runs-init c = (c.utf8.text, passed_none (has_character c.args.class) c.args.text.now)
 
-pub returns-in-None-clause-span : goal.returns-in-None-clause-span
-returns-in-None-clause-span c = whole_span (has_character c.args.class) c.args.text.now _ c.utf8.text refl (c.in-None.ensures.cases (λ x. not (has_character c.args.class x)) (always_returns_same _ _ _ (λ a r f' called. search rules)))
+pub runs-smaller : goal.runs-smaller
+runs-smaller c = fewer c.runs.rest.now c.split_at.result.1.now c.in-Some.next.now c.run_len.result c.in-Some.first
+    c.split_at.ensures.back c.in-Some.ensures
 
-pub returns-in-Some-clause-texts : goal.returns-in-Some-clause-texts
-returns-in-Some-clause-texts c = let m = c.in-Some.ensures.cases in (subst IsUtf8 (sym c.split_at.ensures.front) (IsUtf8-take c.args.text.now c.in-Some.end c.utf8.text m.3), subst IsUtf8 (sym c.split_at.ensures.back) (IsUtf8-drop c.args.text.now c.in-Some.end c.utf8.text m.3))
+pub runs-preserved : goal.runs-preserved
+runs-preserved c =
+    let passed = passed_run (has_character c.args.class) c.args.text.now c.runs.rest.now c.split_at.result.1.now
+    c.run_len.result c.runs.invariant.1 c.runs.invariant.0 c.run_len.ensures c.split_at.ensures.back in (
+      c.in-Some.ensures.follows,
+      passed_first (has_character c.args.class) c.args.text.now c.split_at.result.1.now
+          c.in-Some.next.now c.in-Some.first passed
+          (subst IsUtf8 (sym c.split_at.ensures.back)
+          (IsUtf8-drop c.runs.rest.now c.run_len.result c.runs.invariant.0 c.run_len.ensures.boundary))
+          c.in-Some.ensures (sym c.contains.ensures ∙ c.if-contains.true),
+    )
 
-pub returns-in-None-clause-texts : goal.returns-in-None-clause-texts
-returns-in-None-clause-texts c = (c.utf8.text, IsUtf8-nil)
+pub returns-in_default-clause-span : goal.returns-in_default-clause-span
+returns-in_default-clause-span c =
+    let passed = passed_run (has_character c.args.class) c.args.text.now c.runs.rest.now c.split_at.result.1.now
+    c.run_len.result c.runs.invariant.1 c.runs.invariant.0 c.run_len.ensures c.split_at.ensures.back in
+    passed_all (has_character c.args.class) c.args.text.now c.split_at.result.1.now
+    c.split_at-in_default.result.0.now c.split_at-in_default.result.1.now _ passed refl
+    c.split_at-in_default.ensures.front c.split_at-in_default.ensures.back
+    (elim c.in_default.branch [
+      | in_default-via-in-Some+else-contains w ↦ fails_next (has_character c.args.class) c.split_at.result.1.now
+          w.in-Some.next.now w.in-Some.first w.in-Some.ensures (sym w.contains.ensures ∙ w.if-contains.false)
+      | in_default-via-in_default w ↦ none_next (has_character c.args.class) c.split_at.result.1.now
+          w.in_default.ensures
+    ])

@@ -1,16 +1,27 @@
-use Rattle.std.proofs.Common.{◌∙◌, ap, refl, subst}
+use Rattle.std.proofs.Common.{◌∙◌, ap, subst, Some}
+use Rattle.std.specs.Prelude.{Ok, Err}
 use Rattle.dotenvy.specs.Input.{InputState}
 use Rattle.dotenvy.specs.Lines.{LinesState, NextIs}
-use Rattle.dotenvy.proofs.AskedReads.{asks_none}
-use Rattle.dotenvy.proofs.LineJoins.{answered}
+use Rattle.dotenvy.proofs.LineJoins.{copied, fault-stays}
 use Rattle.dotenvy.proofs.lines.QuotedLines.next_line.Goals as goal
 
-pub returns-clause-told : goal.returns-clause-told
-returns-clause-told g c = λ a is_open told.
-    let input = ap (λ (s : LinesState). s.input) c.self.view_is in
-    let after : LinesState = record { input = c.join_lines.new.input; stage = c.stage_after-self-inside.result } in
-    subst (λ (s : InputState). NextIs a s c.answer.result after) input
-    (answered a c.self.inside.input c.join_lines.new.input c.in-Ok.joined c.answer.result c.stage_after-self-inside.result c.is_used_up.result (c.in-Ok.ensures.told a (ap (λ (s : InputState). s.left) input ∙ told.0, told.1)) c.answer.ensures c.stage_after-self-inside.ensures c.is_used_up.ensures.told)
+pub returns-in-Ok-copy_of-clause-told : goal.returns-in-Ok-copy_of-clause-told
+returns-in-Ok-copy_of-clause-told g c = λ a is_open told.
+    let view = c.self.view_is in
+    let input = ap (λ (s : LinesState). s.input) view in
+    let after = c.advance.new.self in
+    let takes = c.in_ok-advance.ensures.told a (ap (λ (s : LinesState). s.stage) view ∙ is_open)
+    (ap (λ (s : InputState). s.left) input ∙ told.0, told.1) in
+    subst (λ (s : InputState). NextIs {A = g.row.A.Denot} a s (Some (Ok c.in-Ok-copy_of.text)) after.lines) input
+    (copied a c.self.inside.splitter.lines.input _ after.line c.in-Ok-copy_of.text after.lines (rw c.in-Ok.is at takes)
+    (c.in-Ok-copy_of.ensures.text ∙ c.line.ensures))
 
-pub returns-then-not-is_open-clause-asks : goal.returns-then-not-is_open-clause-asks
-returns-then-not-is_open-clause-asks g c = asks_none _ c.args.self.now.input c.args.self.now.input refl refl refl
+pub returns-in-Err-clause-told : goal.returns-in-Err-clause-told
+returns-in-Err-clause-told g c = λ a is_open told.
+    let view = c.self.view_is in
+    let input = ap (λ (s : LinesState). s.input) view in
+    let after = c.advance.new.self in
+    let takes = c.in_ok-advance.ensures.told a (ap (λ (s : LinesState). s.stage) view ∙ is_open)
+    (ap (λ (s : InputState). s.left) input ∙ told.0, told.1) in
+    subst (λ (s : InputState). NextIs {A = g.row.A.Denot} a s (Some (Err c.in-Err.fault)) after.lines) input
+    (fault-stays a c.self.inside.splitter.lines.input c.in-Err.fault after.line after.lines (rw c.in-Err.is at takes))

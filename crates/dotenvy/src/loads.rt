@@ -1,0 +1,71 @@
+// What one logical line of a load sets.
+ghost use Rattle.std.specs.Prelude.{◌≡◌};
+ghost use Rattle.std.specs.Str.{chars};
+ghost use Rattle.dotenvy.specs.Remembered.{remembered_of};
+ghost use Rattle.dotenvy.specs.Names.{values_of};
+ghost use Rattle.dotenvy.specs.Environment.{KeepsNames};
+ghost use Rattle.dotenvy.specs.Run.{Keep, sets};
+ghost use Rattle.dotenvy.specs.LoadsLeft.{ChangesKeys};
+ghost use Rattle.dotenvy.specs.LoadedLine.{mode_of, LoadsLine};
+
+use crate::dialect::Dialect;
+use crate::environment::Environment;
+use crate::errors::Result;
+use crate::names::Names;
+use crate::parse::{fault_error, pair_of, scan_line};
+use crate::remembered::Remembered;
+use std::alloc::Allocator;
+
+/// Whether a load keeps the values of names that are there, or replaces them.
+#[derive(Clone, Copy)]
+pub(crate) enum Mode {
+    Keep,
+    Replace,
+}
+
+impl Mode {
+    // Whether a load in this mode sets a value of this key.
+    fn sets<A: Allocator>(self, environment: &Environment<A>, key: &str) -> bool
+        ensures { result ≡ sets (mode_of self) (values_of environment.now.names) (chars key.now) }
+    {
+        match self {
+            Mode::Keep => !environment.contains(key),
+            Mode::Replace => true,
+        }
+    }
+}
+
+/// Sets what one logical line declares, if the mode lets it, or answers the line's fault.
+///
+/// Nothing is remembered: a key that a load has met is in the environment, and that is asked first when a name is
+/// looked up. So a name that keeps its value takes no memory, and its value is only read for a fault.
+pub(crate) fn load_line<A: Allocator + Clone>(
+    alloc: &A,
+    line: &str,
+    remembered: &Remembered<A>,
+    environment: &mut Environment<A>,
+    mode: Mode,
+    dialect: Dialect,
+) -> Result<(), A>
+    ensures loads { LoadsLine (mode_of mode) dialect (remembered_of remembered.now.entries)
+        (chars line.now) environment.old.names result environment.new.names }
+    ensures keeps { mode_of mode ≡ Keep →
+        KeepsNames environment.old.names environment.new.names }
+    ensures keys { ChangesKeys environment.old.names environment.new.names }
+    ensures mark { environment.new.loaded ≡ environment.old.loaded }
+{
+    let names = Names {
+        environment: &*environment,
+        remembered,
+    };
+    let declaration = match scan_line(line, &names, dialect) {
+        Ok(Some(declaration)) => declaration,
+        Ok(None) => return Ok(()),
+        Err(fault) => return Err(fault_error(alloc.clone()?, fault.text, fault.index)),
+    };
+    if !mode.sets(environment, declaration.key) {
+        return Ok(());
+    }
+    let (key, value) = pair_of(alloc.clone()?, declaration, &names, dialect)?;
+    environment.set(key, value)
+}
