@@ -9,17 +9,20 @@ use std::test::Fail;
 fn pairs_that_are_passed_by(rt: HostRuntime) -> Result<(), Fail> {
     let alloc = rt.alloc();
     let list = [
-        ("A", "1"),
-        ("A", "2"),
+        ("B", "b\0"),
+        ("B", "1"),
         ("", "3"),
         ("B=", "4"),
+        ("é", "5"),
+        ("B", "2"),
+        ("A", ""),
         ("C", "x\0y"),
     ];
     let environment = environment(alloc, &list)?;
-    assert_eq!(rt; pairs(alloc, &environment)?.as_str(), "A=1");
+    assert_eq!(rt; pairs(alloc, &environment)?.as_str(), "A=, B=1, é=5");
     assert!(rt; !environment.loaded());
     let copy = environment.try_clone()?;
-    assert_eq!(rt; pairs(alloc, &copy)?.as_str(), "A=1");
+    assert_eq!(rt; pairs(alloc, &copy)?.as_str(), "A=, B=1, é=5");
     Ok(())
 }
 
@@ -30,6 +33,7 @@ fn names_are_set_and_replaced(rt: HostRuntime) -> Result<(), Fail> {
     for (value, want, names) in [
         ("x\0y", "value of 'A' contains a NUL", ""),
         ("1", "ok", "A=1"),
+        ("", "ok", "A="),
         ("2", "ok", "A=2"),
         ("\0", "value of 'A' contains a NUL", "A=2"),
     ] {
@@ -39,6 +43,9 @@ fn names_are_set_and_replaced(rt: HostRuntime) -> Result<(), Fail> {
         assert_eq!(rt; pairs(alloc, &environment)?.as_str(), names, "at {value:?}");
     }
     assert!(rt; environment.len() == 1 && environment.contains("A"));
+    assert!(rt; !environment.contains("B"));
+    assert_eq!(rt; environment.get("A"), Some("2"));
+    assert_eq!(rt; environment.get("B"), None);
     Ok(())
 }
 
@@ -88,8 +95,12 @@ fn keys_and_names(rt: HostRuntime) {
         ("9A", false, true),
         (".A", false, true),
         ("A B", false, true),
+        ("A-B", false, true),
         ("é", false, true),
+        ("Aé", false, true),
+        ("=", false, false),
         ("A=", false, false),
+        ("A=B", false, false),
         ("A\0", false, false),
     ] {
         assert_eq!(rt; is_key(text), key, "key {text:?}");

@@ -8,15 +8,21 @@ use std::test::Fail;
 
 #[test]
 fn nothing_was_found(rt: HostRuntime) -> Result<(), Fail> {
-    for (kind, want) in [
-        (ErrorKind::NotFound, true),
-        (ErrorKind::PermissionDenied, false),
-    ] {
-        let error: Error = Error::Io(io::Error::from(kind));
-        assert_eq!(rt; error.not_found(), want);
+    let alloc = rt.alloc();
+    let rows: [(Error, bool); 6] = [
+        (Error::Io(io::Error::from(ErrorKind::NotFound)), true),
+        (
+            Error::Io(io::Error::from(ErrorKind::PermissionDenied)),
+            false,
+        ),
+        (Error::LineParse(String::new(alloc), 0), false),
+        (Error::EnvVar(VarError::NotPresent), false),
+        (Error::Nul(String::new(alloc)), false),
+        (Error::Memory(AllocError), false),
+    ];
+    for (error, want) in &rows {
+        assert_eq!(rt; error.not_found(), *want, "{error}");
     }
-    let error: Error = Error::EnvVar(VarError::NotPresent);
-    assert!(rt; !error.not_found());
     Ok(())
 }
 

@@ -59,6 +59,8 @@ mod shown;
 #[cfg(test)]
 mod sizes;
 #[cfg(test)]
+mod sources;
+#[cfg(test)]
 mod statements;
 #[cfg(test)]
 mod substitution;

@@ -9,6 +9,7 @@ fn comments(rt: HostRuntime) -> Result<(), Fail> {
     for (input, want) in [
         ("", ""),
         ("# foo=bar\n#    ", ""),
+        ("   \n\u{3000}\n \u{a0}#", ""),
         ("A=1 # c", "A=1"),
         ("K=a  # b\n", "K=a"),
         ("A=1   # it's\nB=2\n", "A=1; B=2"),

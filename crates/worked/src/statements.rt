@@ -70,6 +70,8 @@ fn faults_before_the_value(rt: HostRuntime) -> Result<(), Fail> {
         ("=value", "fault at 0: =value"),
         (".Key=VALUE\n", "fault at 0: .Key=VALUE"),
         ("<><><>\n", "fault at 0: <><><>"),
+        ("\u{3000}é=1\n", "fault at 3: \u{3000}é=1"),
+        ("\u{3000}A\u{3000}é=1\n", "fault at 7: \u{3000}A\u{3000}é=1"),
         (
             "\n  invalid    \nvery bacon = yes indeed\n=value",
             "fault at 9:   invalid    ; fault at 5: very bacon = yes indeed; fault at 0: =value",

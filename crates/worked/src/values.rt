@@ -54,6 +54,9 @@ fn places_are_counted_in_characters(rt: HostRuntime) -> Result<(), Fail> {
     for (line, want) in [
         ("K=é\\f", "fault at 2: é\\f"),
         ("K=a\\tb", "fault at 2: a\\tb"),
+        ("K=éé é", "fault at 3: éé é"),
+        ("K=\"é\" é", "fault at 4: \"é\" é"),
+        ("K=é${é", "fault at 5: é${é"),
         ("VALUE=>\\f<", "fault at 2: >\\f<"),
     ] {
         let input = format!(in rt.alloc(); "{line}\n")?;

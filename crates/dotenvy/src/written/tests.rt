@@ -1,4 +1,4 @@
-// What a loop of writes leaves and answers, as its sink takes little, is interrupted or fails.
+// What a loop of writes leaves and answers where no write is left.
 use super::*;
 use crate::source::Plain;
 use std::alloc::Global;
@@ -67,54 +67,10 @@ fn answered(
 }
 
 #[test]
-fn writes_that_go_on(rt: HostRuntime) -> std::result::Result<(), Fail> {
-    let again = Step::Fault(ErrorKind::Interrupted);
-    let rows: [(&[Step], &[u8], &str); 5] = [
-        (&[Step::Take(9)], b"abc", "ok [abc]"),
-        (&[Step::Take(0)], b"", "ok []"),
-        (&[Step::Take(1)], b"abc", "ok [abc]"),
-        (&[again, Step::Take(2)], b"abc", "ok [abc]"),
-        (
-            &[
-                Step::Take(1),
-                again,
-                again,
-                Step::Take(1),
-                again,
-                Step::Take(9),
-            ],
-            b"abc",
-            "ok [abc]",
-        ),
-    ];
-    for (steps, bytes, wanted) in rows {
-        let got = answered(rt.alloc(), steps, bytes, 9)?;
-        assert_eq!(rt; got.as_str(), wanted);
-    }
-    Ok(())
-}
-
-#[test]
-fn writes_that_fail(rt: HostRuntime) -> std::result::Result<(), Fail> {
-    let broken = Step::Fault(ErrorKind::BrokenPipe);
-    let rows: [(&[Step], &str); 5] = [
-        (&[broken], "BrokenPipe []"),
-        (&[Step::Take(1), broken], "BrokenPipe [a]"),
-        (&[Step::Take(2), broken], "BrokenPipe [ab]"),
-        (&[Step::Take(0)], "WriteZero []"),
-        (&[Step::Take(2), Step::Take(0)], "WriteZero [ab]"),
-    ];
-    for (steps, wanted) in rows {
-        let got = answered(rt.alloc(), steps, b"abc", 9)?;
-        assert_eq!(rt; got.as_str(), wanted);
-    }
-    Ok(())
-}
-
-#[test]
 fn no_write_is_left(rt: HostRuntime) -> std::result::Result<(), Fail> {
     let again = Step::Fault(ErrorKind::Interrupted);
-    let rows: [(&[Step], &[u8], &str); 6] = [
+    let rows: [(&[Step], &[u8], &str); 7] = [
+        (&[Step::Take(0)], b"", "ok []"),
         (&[Step::Take(1)], b"abc", "ok [abc]"),
         (&[Step::Take(1)], b"abcd", "Other [abc]"),
         (&[Step::Take(2)], b"abcdef", "ok [abcdef]"),
