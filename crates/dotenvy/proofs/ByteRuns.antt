@@ -15,7 +15,7 @@ use Rattle.memchr.specs.Find.{IsFirstByte, is_byte2, is_byte3}
 use Rattle.dotenvy.specs.declared.text.Class.TheVariants.{Quoted}
 use Rattle.dotenvy.specs.Characters.{backslash, double_quote, dollar}
 use Rattle.dotenvy.specs.Value.{is_plain_inside}
-use Rattle.dotenvy.specs.Slices.{BeginsWith, IsSpan, PassesTo, begins_passing, in_run}
+use Rattle.dotenvy.specs.Slices.{BeginsWith, IsSpan, PassesBytes, PassesTo, begins_passing, in_run}
 use Rattle.dotenvy.proofs.Basics.{and_left, and_right, both, not_is, if_true, if_false}
 
 -- the first byte of a character
@@ -339,3 +339,38 @@ characters_kept p ascii text utf8 = ap (filter p) (sym (encodes-chars text utf8)
     all : (cs : List ℕ) → filter p (encode_utf8_all cs) ≡ filter p cs
     all [] = refl
     all (c ∷ cs) = one c cs (all cs) (ltb c 128) refl
+
+none_more : (n : ℕ) (p more : Bool) (found : Option ℕ) → (found ≡ None → more ≡ true)
+    → cond (not p) (Some n) found ≡ None → (p && more) ≡ true
+none_more n true more found later h = later h
+none_more n false more found later h = cc
+
+-- where a search for a byte that fails finds none, all pass
+none_fails : (passes : ℕ → Bool) (n : ℕ) (bs : List ℕ) → position_from (λ b. not (passes b)) n bs ≡ None
+    → list_all passes bs ≡ true
+none_fails passes n [] h = refl
+none_fails passes n (b ∷ bs) h = none_more n (passes b) (list_all passes bs)
+    (position_from (λ x. not (passes x)) (n + 1) bs) (none_fails passes (n + 1) bs) h
+
+-- no byte was passed yet
+pub passes_none : (passes : ℕ → Bool) (bytes : List ℕ) → PassesBytes passes bytes bytes
+passes_none passes bytes = record { front = []; spelled = refl; pass = refl }
+
+-- a block more, in which a search for a byte that fails finds none
+pub passes_block : (passes : ℕ → Bool) (bytes rest block after : List ℕ) → PassesBytes passes bytes rest
+    → rest ≡ block ++ after → position_from (λ b. not (passes b)) 0 block ≡ None → PassesBytes passes bytes after
+passes_block passes bytes rest block after before parts none = record {
+  front = before.front ++ block;
+  spelled = before.spelled ∙ ap (λ bs. before.front ++ bs) parts ∙ sym (append_assoc before.front block after);
+  pass = all_append passes before.front block before.pass (none_fails passes 0 block none);
+}
+
+-- the run goes on behind them
+pub run_behind : (passes : ℕ → Bool) (bytes rest : List ℕ) (found : Option ℕ) → PassesBytes passes bytes rest
+    → found ≡ position_from (λ b. not (passes b)) 0 rest
+    → length bytes - length rest + unwrap_or found (length rest) ≡ prefix_len passes bytes
+run_behind passes bytes rest found before e =
+    let run = run_to_position passes rest found e in
+    let parts = ap length before.spelled ∙ length-append before.front rest in
+    let over = ap (prefix_len passes) before.spelled ∙ passed_over passes before.front rest before.pass in
+    omega (arith, run, parts, over)

@@ -40,6 +40,7 @@ pub mod ByteTables
 pub mod ByteClasses
 pub mod StatementParts
 pub mod NextPiece
+mod BackslashRows
 pub mod Meanings
 pub mod Inputs
 pub mod AskedReads

@@ -5,13 +5,15 @@ use Rattle.std.specs.List.{list_all}
 use Rattle.std.specs.Str.{chars, IsUtf8, IsCharBoundary}
 use Rattle.dotenvy.specs.declared.text.Class.{Class}
 use Rattle.dotenvy.specs.declared.text.Class.TheVariants.{Key, Name, Plain, SpaceOrTab, DoubleQuote, Token, Quoted}
+use Rattle.dotenvy.specs.declared.text.ByteKind.{ByteKind}
+use Rattle.dotenvy.specs.declared.text.ByteKind.TheVariants.{Plain as PlainByte, Token as TokenByte}
 use Rattle.dotenvy.specs.declared.text.Quoting.{Quoting as CodeQuoting}
 use Rattle.dotenvy.specs.declared.text.Quoting.TheVariants.{Unquoted, DoubleQuoted}
 use Rattle.std.specs.Char.{is_ascii_alphanumeric}
 use Rattle.dotenvy.specs.declared.dialect.Dialect.{Dialect}
 use Rattle.dotenvy.specs.Characters.{tab, space, underscore, double_quote, backslash, is_blank, continues_key, allows_underscore, is_name_character, is_space_or_tab}
 use Rattle.dotenvy.specs.Tokens.{stands_for_itself}
-use Rattle.dotenvy.specs.Value.{Quoting, unquoted, double_quoted, is_plain}
+use Rattle.dotenvy.specs.Value.{Quoting, unquoted, double_quoted, is_plain, is_plain_outside}
 
 -- where the code stands, in the words of the format
 abbrev pub quoting_of : CodeQuoting → Quoting
@@ -36,6 +38,11 @@ is_name_byte dialect b = is_ascii_alphanumeric b || (allows_underscore dialect &
 abbrev pub is_token_byte : ℕ → Bool
 is_token_byte b = not ((stands_for_itself b || ((nat_le tab b && nat_le b 12) || b == space)) ||
     (b == 0xC2 || (nat_le 0xE1 b && nat_le b 0xE3)))
+
+-- the byte is of the kind
+abbrev pub is_of_kind : ByteKind → ℕ → Bool
+is_of_kind PlainByte b = is_plain_outside b
+is_of_kind TokenByte b = is_token_byte b
 
 -- a byte that begins a character of the class, or goes on with one
 abbrev pub in_run : Class → ℕ → Bool
@@ -63,6 +70,12 @@ pub record IsSpan (passes : ℕ → Bool) (text front rest : List ℕ) : Type 0 
   pub spelled : text ≡ front ++ rest
   pub pass : IsTrue (list_all passes front)
   pub longest : IsTrue (not (begins_passing passes rest))
+
+-- the rest follows bytes that pass
+pub record PassesBytes (passes : ℕ → Bool) (bytes rest : List ℕ) : Type 0 where
+  pub front : List ℕ
+  pub spelled : bytes ≡ front ++ rest
+  pub pass : IsTrue (list_all passes front)
 
 -- the front of this many bytes is a text, and its characters pass
 pub record PassesTo (passes : ℕ → Bool) (text : List ℕ) (len : ℕ) : Type 0 where

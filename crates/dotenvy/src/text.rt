@@ -4,8 +4,8 @@ ghost use Rattle.std.specs.Str.{chars, IsUtf8};
 ghost use Rattle.unicode.specs.GeneralCategory.{general_category, general_category_number};
 ghost use Rattle.dotenvy.specs.Characters.{double_quote, is_blank, is_space_or_tab, continues_key, is_number_category, allows_underscore, is_name_character, is_empty_or_comment};
 ghost use Rattle.std.specs.List.{prefix_len, position_from};
+ghost use Rattle.dotenvy.specs.Slices.{BeginsWith, IsSpan, PassesBytes, PassesTo, has_character, is_name_byte, is_of_kind, is_token_byte, in_run};
 ghost use Rattle.dotenvy.specs.Value.{is_plain_outside};
-ghost use Rattle.dotenvy.specs.Slices.{BeginsWith, IsSpan, PassesTo, has_character, is_name_byte, is_token_byte, in_run};
 
 use crate::dialect::Dialect;
 use crate::environment::continues_key;
@@ -154,6 +154,27 @@ fn is_token_byte(byte: u8) -> bool
     KINDS[byte as usize] & TOKEN != 0
 }
 
+// What the table tells of a byte.
+#[derive(Clone, Copy)]
+enum ByteKind {
+    Plain,
+    Token,
+}
+
+impl ByteKind {
+    ghost use Rattle.dotenvy.specs.Slices.{is_of_kind};
+
+    #[inline(always)]
+    fn contains(self, byte: u8) -> bool
+        ensures { result ≡ is_of_kind self byte }
+    {
+        match self {
+            ByteKind::Plain => is_plain_byte(byte),
+            ByteKind::Token => is_token_byte(byte),
+        }
+    }
+}
+
 fn key_end(bytes: &[u8]) -> Option<usize>
     ensures { result ≡ position_from (λ b. not (continues_key b)) 0 bytes.now }
 {
@@ -166,28 +187,59 @@ fn name_end(bytes: &[u8], dialect: Dialect) -> Option<usize>
     bytes.iter().position(|b| !is_name_byte(dialect, *b))
 }
 
-fn plain_end(bytes: &[u8]) -> Option<usize>
-    ensures { result ≡ position_from (λ b. not (is_plain_outside b)) 0 bytes.now }
-{
-    bytes.iter().position(|b| !is_plain_byte(*b))
-}
-
 fn blanks_end(bytes: &[u8]) -> Option<usize>
     ensures { result ≡ position_from (λ b. not (is_space_or_tab b)) 0 bytes.now }
 {
     bytes.iter().position(|b| !matches!(*b, b' ' | b'\t'))
 }
 
-fn quotes_end(bytes: &[u8]) -> Option<usize>
-    ensures { result ≡ position_from (λ b. not (b == double_quote)) 0 bytes.now }
+// Where a row of one byte ends.
+#[inline(always)]
+fn row_end(bytes: &[u8], byte: u8) -> Option<usize>
+    ensures { result ≡ position_from (λ b. not (b == byte)) 0 bytes.now }
 {
-    bytes.iter().position(|b| *b != b'"')
+    bytes.iter().position(|b| *b != byte)
 }
 
-fn token_end(bytes: &[u8]) -> Option<usize>
-    ensures { result ≡ position_from (λ b. not (is_token_byte b)) 0 bytes.now }
+/// How many bytes at the front of a text are this one.
+#[inline(always)]
+pub(crate) fn row_len(text: &str, byte: u8) -> usize
+    ensures { result ≡ prefix_len (λ b. b == byte) text.now }
 {
-    bytes.iter().position(|b| !is_token_byte(*b))
+    let bytes = text.as_bytes();
+    row_end(bytes, byte).unwrap_or(bytes.len())
+}
+
+#[inline(always)]
+fn kind_end(bytes: &[u8], kind: ByteKind) -> Option<usize>
+    ensures { result ≡ position_from (λ b. not (is_of_kind kind b)) 0 bytes.now }
+{
+    bytes.iter().position(|b| !kind.contains(*b))
+}
+
+// What is left behind the blocks of eight bytes at the front that are all of the kind. A block costs half of what eight
+// bytes cost one by one.
+#[inline(always)]
+fn pass_blocks(bytes: &[u8], kind: ByteKind) -> &[u8]
+    ensures { PassesBytes (is_of_kind kind) bytes.now result.now }
+{
+    let mut rest = bytes;
+    'blocks: while let Some((block, after)) = rest.split_first_chunk::<8>() {
+        if kind_end(block, kind).is_some() {
+            break;
+        }
+        rest = after;
+    }
+    rest
+}
+
+// How many bytes at the front are of the kind.
+#[inline(always)]
+fn kind_run(bytes: &[u8], kind: ByteKind) -> usize
+    ensures { result ≡ prefix_len (is_of_kind kind) bytes.now }
+{
+    let rest = pass_blocks(bytes, kind);
+    bytes.len() - rest.len() + kind_end(rest, kind).unwrap_or(rest.len())
 }
 
 // Where the bytes end that are passed over without a look at their characters.
@@ -198,11 +250,11 @@ fn run_end(bytes: &[u8], class: Class) -> Option<usize>
     match class {
         Class::Key => key_end(bytes),
         Class::Name(dialect) => name_end(bytes, dialect),
-        Class::Plain(Quoting::Unquoted) => plain_end(bytes),
+        Class::Plain(Quoting::Unquoted) => Some(kind_run(bytes, ByteKind::Plain)),
         Class::Plain(Quoting::DoubleQuoted) => memchr3(b'\\', b'"', b'$', bytes),
         Class::SpaceOrTab => blanks_end(bytes),
-        Class::DoubleQuote => quotes_end(bytes),
-        Class::Token => token_end(bytes),
+        Class::DoubleQuote => row_end(bytes, b'"'),
+        Class::Token => Some(kind_run(bytes, ByteKind::Token)),
         Class::Quoted(quote) if quote.is_ascii() => memchr2(quote as u8, b'\\', bytes),
         Class::Quoted(_) => Some(0),
     }

@@ -1,14 +1,15 @@
 // What is assigned, read piece by piece.
-ghost use Rattle.std.specs.Prelude.{◌≡◌, ◌&&◌, not, [], IsTrue};
+ghost use Rattle.std.specs.Prelude.{◌≡◌, ◌<◌, ◌==◌, ◌&&◌, not, [], IsTrue};
+ghost use Rattle.std.specs.List.{prefix_len};
 ghost use Rattle.std.specs.Str.{chars};
 ghost use Rattle.dotenvy.specs.ReadValue.{base, escaping, in_single, naming, bracing, in_tail};
-ghost use Rattle.dotenvy.specs.Characters.{left_brace, begins_with, is_name_character};
+ghost use Rattle.dotenvy.specs.Characters.{backslash, left_brace, begins_with, is_name_character};
 ghost use Rattle.dotenvy.specs.Slices.{quoting_of, begins_passing};
 ghost use Rattle.dotenvy.specs.Value.{is_left_by_name, is_plain};
 ghost use Rattle.dotenvy.specs.NextPiece.{other_quoting, is_empty, kind_of, Escapes, NextIs, IsShorter};
 
 use crate::dialect::Dialect;
-use crate::text::{Class, Quoting, is_empty_or_comment, split_first, split_while};
+use crate::text::{Class, Quoting, is_empty_or_comment, row_len, split_first, split_while};
 
 /// What a part of a value means.
 #[derive(Clone, Copy)]
@@ -108,9 +109,9 @@ fn at_end(text: &str, quoting: Quoting) -> NextPiece<'_>
     }
 }
 
-// What follows a backslash.
+// What follows a backslash that no other follows.
 #[inline(always)]
-fn escape(left: &str, quoting: Quoting) -> NextPiece<'_>
+fn escape_one(left: &str, quoting: Quoting) -> NextPiece<'_>
     ensures { (dialect : _) → NextIs dialect (escaping (quoting_of quoting)) (chars left.now) result }
 {
     match split_first(left) {
@@ -123,6 +124,33 @@ fn escape(left: &str, quoting: Quoting) -> NextPiece<'_>
             }),
             None => NextPiece::Fault(left),
         },
+    }
+}
+
+// What follows a backslash that so many others follow: each two of them mean one, and the last of an odd number is left.
+fn backslashes(left: &str, more: usize, quoting: Quoting) -> NextPiece<'_>
+    requires some { 0 < more }
+    requires row { more ≡ prefix_len (λ b. b == backslash) left.now }
+    ensures { (dialect : _) → NextIs dialect (escaping (quoting_of quoting)) (chars left.now) result }
+{
+    let pairs = more / 2 + more % 2;
+    let (meant, _) = left.split_at(pairs);
+    let (_, rest) = left.split_at(2 * pairs - 1);
+    NextPiece::Piece(Given {
+        piece: Piece::Text(meant),
+        rest,
+        quoting,
+    })
+}
+
+// What follows a backslash.
+#[inline(always)]
+fn escape(left: &str, quoting: Quoting) -> NextPiece<'_>
+    ensures { (dialect : _) → NextIs dialect (escaping (quoting_of quoting)) (chars left.now) result }
+{
+    match row_len(left, b'\\') {
+        0 => escape_one(left, quoting),
+        more => backslashes(left, more, quoting),
     }
 }
 

@@ -1,6 +1,7 @@
 // Where the characters of a line lead, from a quote to its end and from a token to the next.
 ghost use Rattle.std.specs.Prelude.{◌≡◌, None};
 ghost use Rattle.dotenvy.specs.Tokens.{stands_for_itself};
+ghost use Rattle.dotenvy.specs.Slices.{begins_passing};
 ghost use Rattle.dotenvy.specs.LineModes.{leads_outside, leads, PassesRun, WalksText};
 
 use crate::text::{Class, split_first, split_while};
@@ -76,14 +77,38 @@ pub(crate) enum Walked {
     EndedAt(usize, char),
 }
 
-// What is left of a text behind the characters at its front that leave the mode as it is.
-fn pass_run(text: &str, mode: LineMode) -> &str
+// What is left of a text behind the longest front of characters that leave the mode as it is.
+fn pass_class(text: &str, mode: LineMode) -> &str
     ensures { PassesRun mode text.now result.now }
 {
     match mode {
         LineMode::Outside => split_while(text, Class::Token).1,
         LineMode::Inside(quote) => split_while(text, Class::Quoted(quote)).1,
         _ => text,
+    }
+}
+
+// Whether a quote, a backslash or a line feed stands next.
+#[inline(always)]
+fn next_stands_for_itself(text: &str) -> bool
+    ensures { result ≡ begins_passing stands_for_itself text.now }
+{
+    match text.as_bytes().first() {
+        Some(byte) => stands_for_itself(char::from(*byte)),
+        None => false,
+    }
+}
+
+// What is left of a text behind characters at its front that leave the mode as it is. Where a quote or a backslash stands
+// next, as they often do one behind the other, no run is searched.
+#[inline(always)]
+fn pass_run(text: &str, mode: LineMode) -> &str
+    ensures { PassesRun mode text.now result.now }
+{
+    if next_stands_for_itself(text) {
+        text
+    } else {
+        pass_class(text, mode)
     }
 }
 

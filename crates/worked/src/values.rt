@@ -38,6 +38,13 @@ fn escapes(rt: HostRuntime) -> Result<(), Fail> {
         ("KEY5=\"'\\\"yay\\\\\"\\ \"stuff\"", "KEY5='\"yay\\ stuff"),
         ("KEY6=\"lol\" #well you see when I say lol wh", "KEY6=lol"),
         ("KEY7=\"line 1\\nline 2\"", "KEY7=line 1\nline 2"),
+        // Backslashes in a row: each two mean one.
+        ("K=\\\\\\\\b", "K=\\\\b"),
+        ("K=\\\\\\$x", "K=\\$x"),
+        ("K=\\\\", "K=\\"),
+        ("K=\"\\\\\\\\\\n\"", "K=\\\\\n"),
+        ("K=\"\\\\\\\\\"", "K=\\\\"),
+        ("K=\\\\\\\\\\x", "fault at 5: \\\\\\\\\\x"),
     ] {
         let input = format!(in rt.alloc(); "{line}\n")?;
         assert_eq!(rt;

@@ -5,8 +5,7 @@ use Rattle.memchr.specs.Find.{IsFirstByte, is_byte2}
 use Rattle.dotenvy.specs.Characters.{double_quote, backslash, continues_key, is_space_or_tab}
 use Rattle.dotenvy.specs.declared.text.Class.TheVariants.{Plain}
 use Rattle.dotenvy.specs.declared.text.Quoting.TheVariants.{Unquoted, DoubleQuoted}
-use Rattle.dotenvy.specs.Value.{is_plain_outside}
-use Rattle.dotenvy.specs.Slices.{is_name_byte, is_token_byte, in_run}
+use Rattle.dotenvy.specs.Slices.{is_name_byte, in_run}
 use Rattle.dotenvy.proofs.ByteRuns.{run_to_position, run_inside, run_quoted, no_quoted_run}
 use Rattle.dotenvy.proofs.text.run_end.Goals as goal
 
@@ -22,7 +21,7 @@ returns-in-Name c = run_to_position (is_name_byte c.in-Name.dialect) c.args.byte
 pub returns-in-Plain-Unquoted : goal.returns-in-Plain-Unquoted
 returns-in-Plain-Unquoted c =
     let q : c.in-Plain-Unquoted.field-0 ≡ Unquoted = search rules in
-    run_to_position is_plain_outside c.args.bytes.now c.plain_end.result c.plain_end.ensures
+    c.kind_run.ensures
     ∙ ap (λ k. prefix_len (in_run (Plain k)) c.args.bytes.now) (sym q)
     ∙ ap (λ k. prefix_len (in_run k) c.args.bytes.now) (sym c.in-Plain-Unquoted.is)
 
@@ -47,9 +46,9 @@ returns-in-SpaceOrTab c = run_to_position is_space_or_tab c.args.bytes.now c.bla
     ∙ ap (λ k. prefix_len (in_run k) c.args.bytes.now) (sym c.in-SpaceOrTab.is)
 
 pub returns-in-DoubleQuote : goal.returns-in-DoubleQuote
-returns-in-DoubleQuote c = run_to_position (λ b. b == double_quote) c.args.bytes.now c.quotes_end.result
-    c.quotes_end.ensures ∙ ap (λ k. prefix_len (in_run k) c.args.bytes.now) (sym c.in-DoubleQuote.is)
+returns-in-DoubleQuote c = run_to_position (λ b. b == double_quote) c.args.bytes.now c.row_end.result
+    c.row_end.ensures ∙ ap (λ k. prefix_len (in_run k) c.args.bytes.now) (sym c.in-DoubleQuote.is)
 
 pub returns-in-Token : goal.returns-in-Token
-returns-in-Token c = run_to_position is_token_byte c.args.bytes.now c.token_end.result c.token_end.ensures
+returns-in-Token c = c.kind_run-in-Token.ensures
     ∙ ap (λ k. prefix_len (in_run k) c.args.bytes.now) (sym c.in-Token.is)

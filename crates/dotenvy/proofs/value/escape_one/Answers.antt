@@ -1,7 +1,7 @@
 use Rattle.std.specs.Str.{chars}
 use Rattle.dotenvy.specs.Slices.{quoting_of}
 use Rattle.dotenvy.proofs.NextPiece.{gives_escape, no_escape}
-use Rattle.dotenvy.proofs.value.escape.Goals as goal
+use Rattle.dotenvy.proofs.value.escape_one.Goals as goal
 
 pub returns-in-None : goal.returns-in-None
 returns-in-None c = c.at_end.ensures.after_backslash
