@@ -165,37 +165,53 @@ fn byte_order_marks(rt: HostRuntime) -> std::result::Result<(), Fail> {
 }
 
 #[test]
-fn faults_and_bound(rt: HostRuntime) -> std::result::Result<(), Fail> {
-    let alloc = rt.alloc();
+fn a_fault_of_the_reader_is_the_last_answer(rt: HostRuntime) -> std::result::Result<(), Fail> {
     let failing = Pieces {
         rest: b"A=1\nB='c\n\xEF",
         size: 4,
         is_interrupted: false,
         fault: Some(ErrorKind::InvalidData),
     };
-    let mut lines = Splitter::new(alloc, failing)?;
-    assert_eq!(rt;
-        listed_in_place(alloc, &mut lines)?.as_str(),
-        "[A=1]<InvalidData>"
-    );
+    let mut lines = Splitter::new(rt.alloc(), failing)?;
+    let all = listed_in_place(rt.alloc(), &mut lines)?;
+    assert_eq!(rt; all.as_str(), "[A=1]<InvalidData>");
     assert_eq!(rt; lines.drop_mark().is_ok(), true);
+    Ok(())
+}
 
-    let bounded = Splitter::with_limit(alloc, Bytes::new(b"A\nB"), 1)?;
-    assert_eq!(rt; listed(alloc, bounded)?.as_str(), "[A]<Other>");
-    let enough = Splitter::with_limit(alloc, Bytes::new(b"A\nB"), 2)?;
-    assert_eq!(rt; listed(alloc, enough)?.as_str(), "[A][B]");
+// The lines that so many reads give.
+fn listed_by<R: Source + Drop>(alloc: Global, reader: R, reads: u64) -> super::Result<String> {
+    listed(alloc, Splitter::with_limit(alloc, reader, reads)?)
+}
+
+#[test]
+fn the_bound_on_reads(rt: HostRuntime) -> std::result::Result<(), Fail> {
+    for (reads, wanted) in [(1, "[A]<Other>"), (2, "[A][B]")] {
+        let all = listed_by(rt.alloc(), Bytes::new(b"A\nB"), reads)?;
+        assert_eq!(rt; all.as_str(), wanted);
+    }
+    Ok(())
+}
+
+#[test]
+fn interrupted_reads_count(rt: HostRuntime) -> std::result::Result<(), Fail> {
     let interrupted = Pieces {
         rest: b"A\n",
         size: 4,
         is_interrupted: false,
         fault: Some(ErrorKind::Interrupted),
     };
-    let waiting = Splitter::with_limit(alloc, interrupted, 1_000)?;
-    assert_eq!(rt; listed(alloc, waiting)?.as_str(), "[A]<Other>");
+    let all = listed_by(rt.alloc(), interrupted, 1_000)?;
+    assert_eq!(rt; all.as_str(), "[A]<Other>");
+    Ok(())
+}
 
-    let mut failed = Splitter::new(alloc, Bytes::new(b"A"))?;
+#[test]
+fn nothing_comes_once_it_has_failed(rt: HostRuntime) -> std::result::Result<(), Fail> {
+    let mut failed = Splitter::new(rt.alloc(), Bytes::new(b"A"))?;
     failed.fail();
-    assert_eq!(rt; listed(alloc, failed)?.as_str(), "");
+    let all = listed(rt.alloc(), failed)?;
+    assert_eq!(rt; all.as_str(), "");
     Ok(())
 }
 
