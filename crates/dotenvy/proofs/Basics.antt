@@ -1,5 +1,5 @@
 -- Facts on tests, options and codes that many proofs use.
-use Rattle.std.proofs.Common.{◌≡◌, ◌≢◌, ℕ, ◌<◌, List, [], ◌∷◌, length, ap, sym, ◌∙◌, Bool, true, false, cond, ◌&&◌, ◌||◌, not, Option, Some, refl, arith}
+use Rattle.std.proofs.Common.{◌≡◌, ◌≢◌, ℕ, ◌<◌, List, [], ◌∷◌, ◌++◌, length, ap, sym, ◌∙◌, Bool, true, false, cond, ◌&&◌, ◌||◌, not, Option, Some, refl, arith}
 use Rattle.std.specs.Prelude.{◌==◌, IfOk, Result, Ok, Err}
 use Rattle.std.proofs.lemmas.Bool.Decides.{nat_tests}
 
@@ -53,9 +53,15 @@ if_false x y false h = refl
 if_false x y true h = cc
 
 -- a test for emptiness
-nil_of : (xs : List ℕ) → length xs ≡ 0 → xs ≡ []
+-- a list without length has nothing
+pub nil_of : (xs : List ℕ) → length xs ≡ 0 → xs ≡ []
 nil_of [] h = refl
 nil_of (x ∷ xs) h = absurd (omega (arith, h))
+
+-- a list that has something has it still with more behind it
+pub more_some : (xs ys : List ℕ) → xs ≢ [] → xs ++ ys ≢ []
+more_some [] ys h = absurd (h refl)
+more_some (x ∷ xs) ys h = λ e. cc
 
 pub tested_empty : (xs : List ℕ) (n : ℕ) (b : Bool) → b ≡ (n == 0) → n ≡ length xs → b ≡ true → xs ≡ []
 tested_empty xs n b test len is = let zero' : n ≡ 0 = (let t : (n == 0) ≡ true = sym test ∙ is in grind (arith, nat_tests, t)) in nil_of xs (sym len ∙ zero')

@@ -22,7 +22,7 @@ use Rattle.dotenvy.specs.Characters.{line_feed}
 use Rattle.dotenvy.specs.PhysicalLines.{no_line_feed, is_whole_line}
 use Rattle.dotenvy.specs.Marks.{byte_order_mark, without_mark}
 use Rattle.dotenvy.specs.Source.{Ahead}
-use Rattle.dotenvy.proofs.Basics.{and_left, and_right}
+use Rattle.dotenvy.proofs.Basics.{and_left, and_right, nil_of}
 use Rattle.dotenvy.specs.Errors.{IsMemory, IsIoOf}
 use Rattle.dotenvy.specs.Input.{InputState, left_of, IsTold, IsAllRead, ReadsFit, IsReadFault, IsFinal, FaultIsNext, Takes, end_reads, drop_left, used_up, IsLinePiece, MovesLine, TakesLine, begins_mark}
 
@@ -134,10 +134,6 @@ io_weaker P Q (Nul k) f h = h
 io_weaker P Q (Memory m) f (inl u) = inl u
 io_weaker P Q (Memory m) f (inr i) = inr i
 
-nil_of : (xs ys : List ℕ) → length (xs ++ ys) ≡ length xs → ys ≡ []
-nil_of xs [] h = refl
-nil_of xs (y ∷ ys) h = absurd (omega (arith, h, length-append xs (y ∷ ys)))
-
 -- a read that fails
 pub read_more_fails : {A : Type 0} (s v : InputState) (e : Bool) (o : Option Ahead) (unread : List ℕ) (a : Ahead) (x : Error A) → e ≡ false → length unread ≡ s.unread → IsTold (left_of e o unread) a → ((b : Ahead) → IsTold o b → IsMemory x ⊎ IsIoOf (FaultIsNext b) x) → IsFinal a s (λ bytes. length bytes ≡ s.unread) x v
 read_more_fails s v e o unread a x h n told once =
@@ -232,17 +228,13 @@ reading_whole a s t v line true h r move =
       },
     )
 
-empty_of : (xs : List ℕ) → length xs ≡ 0 → xs ≡ []
-empty_of [] h = refl
-empty_of (x ∷ xs) h = absurd (omega (arith, h))
-
 pub reading_ends : (a : Ahead) (s t : InputState) (line : List ℕ) → Reading a s line t → t.unread ≡ 0 → t.at_end ≡ true → ((b : Ahead) → t.left ≡ Some b → IsAllRead b t.unread) → TakesLine a s line t
 reading_ends a s t line r zero ended all =
     let k = all (ahead_of r.left a.fault) r.is_left in record {
       left = r.left;
       joins = r.joins;
       is_left = r.is_left;
-      is_line = inr (r.none, empty_of r.left (k.0 ∙ zero), k.1, ended);
+      is_line = inr (r.none, nil_of r.left (k.0 ∙ zero), k.1, ended);
       reads = r.reads;
     }
 
@@ -287,7 +279,7 @@ pub reading_fails : {A : Type 0} (a : Ahead) (s t v : InputState) (line : List �
 reading_fails a s t v line e told r zero fails =
     let b = ahead_of r.left a.fault in
     final_before a b s t v (λ bytes. length bytes ≡ t.unread) (λ bytes. no_line_feed bytes ≡ true) line e r.joins refl r.reads
-    (λ kind front later cut why none. ap no_line_feed (ap (λ l. line ++ l) (empty_of front (none ∙ zero)) ∙ append-nil line) ∙ r.none)
+    (λ kind front later cut why none. ap no_line_feed (ap (λ l. line ++ l) (nil_of front (none ∙ zero)) ∙ append-nil line) ∙ r.none)
     (fails b (reading_told a s t line told r))
 
 -- a piece of a line that is used
@@ -394,7 +386,7 @@ pub waiting_fails : {A : Type 0} (a : Ahead) (s t v : InputState) (e : Error A) 
     IsFinal a t (λ bytes. length bytes ≡ t.unread) e v → IsFinal a s (λ bytes. bytes ≡ []) e v
 waiting_fails a s t v e fits zero fails =
     final_before a a s t v (λ bytes. length bytes ≡ t.unread) (λ bytes. bytes ≡ []) [] e refl refl fits
-    (λ kind front later cut why read. empty_of front (read ∙ zero)) fails
+    (λ kind front later cut why read. nil_of front (read ∙ zero)) fails
 
 -- either a byte is unread, or what holds where none is
 pub some-or-none : (n : ℕ) (empty : Bool) (P : Type 0) → empty ≡ (n == 0) → (n ≡ 0 → P) → MatchBool (not empty) (0 < n) P

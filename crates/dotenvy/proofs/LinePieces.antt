@@ -15,7 +15,8 @@ use Rattle.dotenvy.specs.PhysicalLines.{is_whole_line, no_line_feed}
 use Rattle.dotenvy.specs.Source.{Ahead}
 use Rattle.dotenvy.specs.Input.{InputState, IsAllRead, IsLinePiece, drop_left, used_up}
 use Rattle.dotenvy.specs.TakenLine.{IsTextFront, PieceFalls, Stands, TakesPiece, after_text}
-use Rattle.dotenvy.proofs.Basics.{and_left, and_right}
+use Rattle.std.proofs.Math.Seq.{drop-append_seam}
+use Rattle.dotenvy.proofs.Basics.{and_left, and_right, nil_of, more_some}
 use Rattle.dotenvy.proofs.LineTexts.{char_text}
 use Rattle.dotenvy.proofs.EntriesOnce.{ten}
 use Rattle.dotenvy.proofs.Inputs.{ahead_of}
@@ -51,11 +52,7 @@ pub text-behind : (front rest : List ℕ) → IsUtf8 front → IsUtf8 (front ++ 
 text-behind front rest text both =
     let seam = IsCharBoundary-from_take (front ++ rest) (length front) both (omega (arith, length-append front rest))
     (subst IsUtf8 (sym (take-append_seam front rest)) text) in
-    subst IsUtf8 (drop-front front rest) (IsUtf8-drop (front ++ rest) (length front) both seam)
-  where
-    drop-front : (xs ys : List ℕ) → drop (length xs) (xs ++ ys) ≡ ys
-    drop-front [] ys = refl
-    drop-front (x ∷ xs) ys = drop-front xs ys
+    subst IsUtf8 (drop-append_seam front rest) (IsUtf8-drop (front ++ rest) (length front) both seam)
 
 -- the first character of a text: one to four bytes
 pub record FirstCharacter (bytes : List ℕ) : Type 0 where
@@ -187,13 +184,10 @@ none-chars line text h = spelled_none (chars line) (ap no_line_feed (encodes-cha
             absurd (false≢true (ap no_line_feed (sym (ten c (encode_utf8_all cs) e)) ∙ h))
         at false e later = later
 
-some_line : (line : List ℕ) → is_whole_line line ≡ true → line ≢ []
+-- a whole line has something
+pub some_line : (line : List ℕ) → is_whole_line line ≡ true → line ≢ []
 some_line [] h = λ e. false≢true h
 some_line (x ∷ line) h = λ e. cc
-
-no_bytes : (xs : List ℕ) → length xs ≡ 0 → xs ≡ []
-no_bytes [] h = refl
-no_bytes (x ∷ xs) h = absurd (omega (arith, h))
 
 long : (xs : List ℕ) → xs ≢ [] → 1 ≤ length xs
 long [] h = absurd (h refl)
@@ -237,10 +231,10 @@ stands_at : (a : Ahead) (s t : InputState) (piece front rest more : List ℕ) �
     (e ≡ true → IsAllRead a s.unread) → t.at_end ≡ e →
     Stands (cond some (cond (w || (e || four)) Broken Unread) (cond w LineEnd (cond e InputEnd Unread))) front (rest ++ more) a.fault t
 stands_at a s t piece front rest more p unread false true e four none few line all ended =
-    let empty = no_bytes rest (grind (arith, nat_tests, none)) in
+    let empty = nil_of rest (grind (arith, nat_tests, none)) in
     ap is_whole_line (sym (append-nil front) ∙ ap (λ l. front ++ l) (sym empty) ∙ sym p.cut) ∙ line
 stands_at a s t piece front rest more p unread false false true four none few line all ended =
-    let empty = no_bytes rest (grind (arith, nat_tests, none)) in
+    let empty = nil_of rest (grind (arith, nat_tests, none)) in
     let is_all = all refl in
     let size = ap length p.cut in
     let bytes = ap length p.all in
@@ -248,7 +242,7 @@ stands_at a s t piece front rest more p unread false false true four none few li
     let fits = line.1 in
     let zero' = ap length empty in (
       none-front front rest (ap no_line_feed (sym p.cut) ∙ line.0),
-      no_bytes (rest ++ more) (omega (arith, read, bytes, fits, size, zero', length-append front rest, length-append front (rest ++ more), length-append rest more)),
+      nil_of (rest ++ more) (omega (arith, read, bytes, fits, size, zero', length-append front rest, length-append front (rest ++ more), length-append rest more)),
       is_all.1,
       ended,
       omega (arith, unread, fits, size, zero', length-append front rest),
@@ -272,7 +266,7 @@ stands_at a s t piece front rest more p unread true false true four some few lin
       let fits = line.1 in
       let size = ap length p.cut in
       let bytes = ap length p.all in
-      let empty = no_bytes more (omega (arith, read, bytes, fits, size, length-append front rest, length-append front (rest ++ more), length-append rest more)) in
+      let empty = nil_of more (omega (arith, read, bytes, fits, size, length-append front rest, length-append front (rest ++ more), length-append rest more)) in
       let only : rest ≡ l ++ later = sym (append-nil rest) ∙ ap (λ k. rest ++ k) (sym empty) ∙ same in
       let none = none-back front rest (ap no_line_feed (sym p.cut) ∙ line.0) in
       elim ends [
@@ -289,10 +283,6 @@ stands_at a s t piece front rest more p unread true false false true some few li
         | inr last ↦ λ none. more_some rest more left (same ∙ ap (λ k. l ++ k) last.1 ∙ append-nil l ∙ none)
       ]) text,
 )
-  where
-    more_some : (xs ys : List ℕ) → xs ≢ [] → xs ++ ys ≢ []
-    more_some [] ys h = absurd (h refl)
-    more_some (x ∷ xs) ys h = λ e. cc
 stands_at a s t piece front rest more p unread true false false false some few line all ended = unread_line a s t piece front rest more p unread line
 
 -- a piece that was taken as far as it is text
@@ -311,7 +301,7 @@ piece-taken a s t piece front whole at_end left is text all ended after =
     let inside = text.within in
     let counts : t.unread + length front ≡ s.unread = omega (arith, unread, within, inside) in
     let long : length piece - length front ≡ length rest = omega (arith, inside, length-drop (length front) piece) in
-    let remain : drop (length front) a.bytes ≡ rest ++ more = ap (drop (length front)) bytes ∙ drop-front front (rest ++ more) in
+    let remain : drop (length front) a.bytes ≡ rest ++ more = ap (drop (length front)) bytes ∙ drop-append_seam front (rest ++ more) in
     record {
       left = rest ++ more;
       joins = bytes;
@@ -324,10 +314,6 @@ piece-taken a s t piece front whole at_end left is text all ended after =
           (stands_at a s t piece front rest more (record { cut = cut; all = bytes; text = text }) counts _ whole at_end _ refl refl
           is.is_line all (ap (λ v. v.at_end) after ∙ ended));
     }
-  where
-    drop-front : (xs ys : List ℕ) → drop (length xs) (xs ++ ys) ≡ ys
-    drop-front [] ys = refl
-    drop-front (x ∷ xs) ys = drop-front xs ys
 
 -- and what falls by it
 pub piece-falls : (s t : InputState) (piece front : List ℕ) (whole at_end : Bool) → IsLinePiece s piece whole →

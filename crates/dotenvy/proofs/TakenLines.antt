@@ -18,7 +18,7 @@ use Rattle.dotenvy.specs.Source.{Ahead}
 use Rattle.dotenvy.specs.Input.{InputState, IsTold, IsFinal, ReadsFit, TakesLine}
 use Rattle.dotenvy.specs.TakenLine.{Walks, WalksOn, Stands, TakesPiece, TakesText, LineMakes, at_line_end, starting}
 use Rattle.dotenvy.proofs.Inputs.{ahead_of, fits_moved, fits_more, final_before, none_after, whole_after}
-use Rattle.dotenvy.proofs.LinePieces.{text-behind, none-chars}
+use Rattle.dotenvy.proofs.LinePieces.{text-behind, none-chars, some_line}
 
 -- the front of a physical line was taken, which has no line feed
 pub record InLine (m : LineMode) (seen : List ℕ) (a : Ahead) (s : InputState) (p : Progress) (text : List ℕ) (t : InputState) : Type 0 where
@@ -102,10 +102,6 @@ made m seen a s t (Going n) line text takes (other, walks, is) = (line, takes, �
 made m seen a s t Ended line text takes (other, walks) = (line, takes, λ e. (other e).0, walks)
 made m seen a s t Comment line text takes (empty, begins) = (line, takes, empty, begins)
 
-some_whole : (line : List ℕ) → is_whole_line line ≡ true → line ≢ []
-some_whole [] h = λ e. (let f : false ≡ true = h in cc)
-some_whole (x ∷ line) h = λ e. cc
-
 -- its line feed was met
 pub in_line-ends : (m : LineMode) (seen : List ℕ) (a : Ahead) (s t u : InputState) (p q : Progress) (text new : List ℕ) →
     InLine m seen a s p text t →
@@ -115,7 +111,7 @@ in_line-ends m seen a s t u p q text new i taken =
     let k = pieced m seen a s t u p q text new LineEnd i taken in
     let whole = ap is_whole_line k.is_line ∙ whole_after k.front k.piece k.none k.stands in
     made m seen a s u q k.line new (record {
-      some = some_whole k.line whole;
+      some = some_line k.line whole;
       text = k.is_text;
       takes = record { left = k.left; joins = k.joins; is_left = k.is_left; is_line = inl whole; reads = k.reads };
     }) k.walks

@@ -14,7 +14,7 @@ use Rattle.dotenvy.specs.Tokens.{stands_for_itself}
 use Rattle.dotenvy.specs.PhysicalLines.{no_line_feed}
 use Rattle.dotenvy.specs.LineModes.{ended, walk, walked, leads, leads_outside}
 use Rattle.dotenvy.specs.TakenLine.{IsNoComment, WalksOn, WalksFrom, still_blank}
-use Rattle.dotenvy.proofs.Basics.{and_right}
+use Rattle.dotenvy.proofs.Basics.{and_right, more_some}
 use Rattle.dotenvy.proofs.LineTexts.{same_code, walk-more}
 
 -- a walk stays where it ended
@@ -56,10 +56,6 @@ skip-shown (x ∷ xs) ys h = at (is_whitespace x) h (skip-shown xs ys)
 begins-more : (xs ys : List ℕ) → xs ≢ [] → begins_with hash (xs ++ ys) ≡ begins_with hash xs
 begins-more [] ys h = absurd (h refl)
 begins-more (x ∷ xs) ys h = refl
-
-more_some : (xs ys : List ℕ) → xs ≢ [] → xs ++ ys ≢ []
-more_some [] ys h = absurd (h refl)
-more_some (x ∷ xs) ys h = λ e. cc
 
 begins_some : (xs : List ℕ) → begins_with hash xs ≡ true → xs ≢ []
 begins_some [] h = λ e. false≢true h
