@@ -35,6 +35,7 @@ pub mod SameEnvironments
 pub mod Keys
 pub mod RememberedMaps
 pub mod Slices
+pub mod BytePlaces
 pub mod ByteRuns
 pub mod ByteTables
 pub mod ByteClasses

@@ -6,7 +6,7 @@ use Rattle.std.specs.Str.{chars, IsUtf8, IsCharBoundary}
 use Rattle.dotenvy.specs.declared.text.Class.{Class}
 use Rattle.dotenvy.specs.declared.text.Class.TheVariants.{Key, Name, Plain, SpaceOrTab, DoubleQuote, Token, Quoted}
 use Rattle.dotenvy.specs.declared.text.ByteKind.{ByteKind}
-use Rattle.dotenvy.specs.declared.text.ByteKind.TheVariants.{Plain as PlainByte, Token as TokenByte}
+use Rattle.dotenvy.specs.declared.text.ByteKind.TheVariants.{Plain as PlainByte, Token as TokenByte, Key as KeyByte}
 use Rattle.dotenvy.specs.declared.text.Quoting.{Quoting as CodeQuoting}
 use Rattle.dotenvy.specs.declared.text.Quoting.TheVariants.{Unquoted, DoubleQuoted}
 use Rattle.std.specs.Char.{is_ascii_alphanumeric}
@@ -43,6 +43,7 @@ is_token_byte b = not ((stands_for_itself b || ((nat_le tab b && nat_le b 12) ||
 abbrev pub is_of_kind : ByteKind → ℕ → Bool
 is_of_kind PlainByte b = is_plain_outside b
 is_of_kind TokenByte b = is_token_byte b
+is_of_kind KeyByte b = continues_key b
 
 -- a byte that begins a character of the class, or goes on with one
 abbrev pub in_run : Class → ℕ → Bool

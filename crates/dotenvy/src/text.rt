@@ -128,12 +128,15 @@ const PLAIN: u8 = 1;
 // with 0xE1 to 0xE3.
 const TOKEN: u8 = 2;
 
+// The byte is a character of a key past its first.
+const KEY: u8 = 4;
+
 // What each byte is, of these.
 static KINDS: [u8; 256] = [
     3, 3, 3, 3, 3, 3, 3, 3, 3, 0, 1, 1, 1, 3, 3, 3, 3, 3, 3, 3, 3, 3, 3, 3, 3, 3, 3, 3, 3, 3, 3, 3,
-    0, 3, 0, 3, 2, 3, 3, 0, 3, 3, 3, 3, 3, 3, 3, 3, 3, 3, 3, 3, 3, 3, 3, 3, 3, 3, 3, 3, 3, 3, 3, 3,
-    3, 3, 3, 3, 3, 3, 3, 3, 3, 3, 3, 3, 3, 3, 3, 3, 3, 3, 3, 3, 3, 3, 3, 3, 3, 3, 3, 3, 0, 3, 3, 3,
-    3, 3, 3, 3, 3, 3, 3, 3, 3, 3, 3, 3, 3, 3, 3, 3, 3, 3, 3, 3, 3, 3, 3, 3, 3, 3, 3, 3, 3, 3, 3, 3,
+    0, 3, 0, 3, 2, 3, 3, 0, 3, 3, 3, 3, 3, 3, 7, 3, 7, 7, 7, 7, 7, 7, 7, 7, 7, 7, 3, 3, 3, 3, 3, 3,
+    3, 7, 7, 7, 7, 7, 7, 7, 7, 7, 7, 7, 7, 7, 7, 7, 7, 7, 7, 7, 7, 7, 7, 7, 7, 7, 7, 3, 0, 3, 3, 7,
+    3, 7, 7, 7, 7, 7, 7, 7, 7, 7, 7, 7, 7, 7, 7, 7, 7, 7, 7, 7, 7, 7, 7, 7, 7, 7, 7, 3, 3, 3, 3, 3,
     3, 3, 3, 3, 3, 3, 3, 3, 3, 3, 3, 3, 3, 3, 3, 3, 3, 3, 3, 3, 3, 3, 3, 3, 3, 3, 3, 3, 3, 3, 3, 3,
     3, 3, 3, 3, 3, 3, 3, 3, 3, 3, 3, 3, 3, 3, 3, 3, 3, 3, 3, 3, 3, 3, 3, 3, 3, 3, 3, 3, 3, 3, 3, 3,
     3, 3, 1, 3, 3, 3, 3, 3, 3, 3, 3, 3, 3, 3, 3, 3, 3, 3, 3, 3, 3, 3, 3, 3, 3, 3, 3, 3, 3, 3, 3, 3,
@@ -154,11 +157,19 @@ fn is_token_byte(byte: u8) -> bool
     KINDS[byte as usize] & TOKEN != 0
 }
 
+#[inline(always)]
+fn is_key_byte(byte: u8) -> bool
+    ensures { result ≡ continues_key byte }
+{
+    KINDS[byte as usize] & KEY != 0
+}
+
 // What the table tells of a byte.
 #[derive(Clone, Copy)]
 enum ByteKind {
     Plain,
     Token,
+    Key,
 }
 
 impl ByteKind {
@@ -171,14 +182,9 @@ impl ByteKind {
         match self {
             ByteKind::Plain => is_plain_byte(byte),
             ByteKind::Token => is_token_byte(byte),
+            ByteKind::Key => is_key_byte(byte),
         }
     }
-}
-
-fn key_end(bytes: &[u8]) -> Option<usize>
-    ensures { result ≡ position_from (λ b. not (continues_key b)) 0 bytes.now }
-{
-    bytes.iter().position(|b| !continues_key(char::from(*b)))
 }
 
 fn name_end(bytes: &[u8], dialect: Dialect) -> Option<usize>
@@ -248,7 +254,7 @@ fn run_end(bytes: &[u8], class: Class) -> Option<usize>
     ensures { unwrap_or result (length bytes.now) ≡ prefix_len (in_run class) bytes.now }
 {
     match class {
-        Class::Key => key_end(bytes),
+        Class::Key => Some(kind_run(bytes, ByteKind::Key)),
         Class::Name(dialect) => name_end(bytes, dialect),
         Class::Plain(Quoting::Unquoted) => Some(kind_run(bytes, ByteKind::Plain)),
         Class::Plain(Quoting::DoubleQuoted) => memchr3(b'\\', b'"', b'$', bytes),

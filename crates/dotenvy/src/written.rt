@@ -17,6 +17,7 @@ use crate::errors::{Error, Result};
 use crate::iter::Iter;
 use crate::source::{Sink, Source};
 use crate::text::{Class, Quoting, split_first, split_while};
+use memchr::memchr3_iter;
 use std::alloc::{AllocError, Allocator};
 use std::io;
 use std::io::ErrorKind;
@@ -34,13 +35,7 @@ fn needs_backslash(c: char) -> bool
 fn backslash_count(text: &str) -> usize
     ensures { result ≡ length (filter needs_backslash (chars text.now)) }
 {
-    let mut count = 0;
-    'bytes: for byte in text.as_bytes() {
-        if needs_backslash(char::from(*byte)) {
-            count += 1;
-        }
-    }
-    count
+    memchr3_iter(b'\\', b'"', b'$', text.as_bytes()).count()
 }
 
 // How many bytes the written form of a pair takes, or the greatest number where that is more.

@@ -2,7 +2,7 @@ use Rattle.std.proofs.Common.{◌≡◌, sym, ◌∙◌, ap, rules, subst, not}
 use Rattle.std.specs.Prelude.{◌==◌}
 use Rattle.std.specs.List.{prefix_len, position_from}
 use Rattle.memchr.specs.Find.{IsFirstByte, is_byte2}
-use Rattle.dotenvy.specs.Characters.{double_quote, backslash, continues_key, is_space_or_tab}
+use Rattle.dotenvy.specs.Characters.{double_quote, backslash, is_space_or_tab}
 use Rattle.dotenvy.specs.declared.text.Class.TheVariants.{Plain}
 use Rattle.dotenvy.specs.declared.text.Quoting.TheVariants.{Unquoted, DoubleQuoted}
 use Rattle.dotenvy.specs.Slices.{is_name_byte, in_run}
@@ -10,7 +10,7 @@ use Rattle.dotenvy.proofs.ByteRuns.{run_to_position, run_inside, run_quoted, no_
 use Rattle.dotenvy.proofs.text.run_end.Goals as goal
 
 pub returns-in-Key : goal.returns-in-Key
-returns-in-Key c = run_to_position continues_key c.args.bytes.now c.key_end.result c.key_end.ensures
+returns-in-Key c = c.kind_run.ensures
     ∙ ap (λ k. prefix_len (in_run k) c.args.bytes.now) (sym c.in-Key.is)
 
 pub returns-in-Name : goal.returns-in-Name
@@ -21,7 +21,7 @@ returns-in-Name c = run_to_position (is_name_byte c.in-Name.dialect) c.args.byte
 pub returns-in-Plain-Unquoted : goal.returns-in-Plain-Unquoted
 returns-in-Plain-Unquoted c =
     let q : c.in-Plain-Unquoted.field-0 ≡ Unquoted = search rules in
-    c.kind_run.ensures
+    c.kind_run-in-Plain-Unquoted.ensures
     ∙ ap (λ k. prefix_len (in_run (Plain k)) c.args.bytes.now) (sym q)
     ∙ ap (λ k. prefix_len (in_run k) c.args.bytes.now) (sym c.in-Plain-Unquoted.is)
 

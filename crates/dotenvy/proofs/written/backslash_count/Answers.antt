@@ -1,14 +1,17 @@
-use Rattle.std.proofs.Common.{filter, length, ap, ◌∙◌}
-use Rattle.std.proofs.lemmas.List.{take_all}
+use Rattle.std.proofs.Common.{◌∙◌, ap, length, refl}
+use Rattle.std.proofs.lemmas.Iterator.Consumers.{YieldsList-from_first, count_from_yields_List}
+use Rattle.memchr.specs.Find.{places}
 use Rattle.dotenvy.specs.Written.{needs_backslash}
+use Rattle.dotenvy.proofs.BytePlaces.{places_count}
 use Rattle.dotenvy.proofs.ByteRuns.{characters_kept}
 use Rattle.dotenvy.proofs.WrittenBytes.{ascii_backslash}
 use Rattle.dotenvy.proofs.written.backslash_count.Goals as goal
 
 pub returns : goal.returns
 returns c =
-    c.bytes.invariant.0
-    ∙ ap (λ bs. length (filter needs_backslash bs))
-    (take_all c.bytes.byte-index c.as_bytes-byte-items.result.now c.bytes-test.false
-    ∙ c.as_bytes-byte-items.ensures.value)
+    count_from_yields_List c.memchr3_iter.result c.count.result c.count.ensures.ran
+    (YieldsList-from_first (λ x. x) (λ rest. rest) c.memchr3_iter.result refl)
+    ∙ ap length c.memchr3_iter.ensures.value
+    ∙ ap (λ bs. length (places needs_backslash bs)) c.as_bytes.ensures.value
+    ∙ places_count needs_backslash c.args.text.now
     ∙ ap length (characters_kept needs_backslash ascii_backslash c.args.text.now c.utf8.text)
