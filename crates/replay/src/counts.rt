@@ -1,38 +1,29 @@
-//! How many cases were replayed.
+//! How many rows were played.
 
-use dotenvy::Dialect;
 use std::fmt;
 
-/// How many cases of each dialect were replayed, and how many of both differ.
+/// How many rows were played, and how many of them differ.
 #[derive(Drop)]
 pub struct Counts {
-    v15: u64,
-    next: u64,
+    rows: u64,
     differ: u64,
 }
 
 impl Counts {
-    /// Of no case.
+    /// Of no row.
     pub fn new() -> Counts {
-        Counts {
-            v15: 0,
-            next: 0,
-            differ: 0,
-        }
+        Counts { rows: 0, differ: 0 }
     }
 
-    /// Counts one case more.
-    pub fn add(&mut self, dialect: Dialect, differs: bool) {
-        match dialect {
-            Dialect::V15 => self.v15 = self.v15.saturating_add(1),
-            Dialect::Next => self.next = self.next.saturating_add(1),
-        }
+    /// Counts one row more.
+    pub fn add(&mut self, differs: bool) {
+        self.rows = self.rows.saturating_add(1);
         if differs {
             self.differ = self.differ.saturating_add(1);
         }
     }
 
-    /// Whether each answer was the recorded one.
+    /// Whether each answer was the wanted one.
     pub fn none_differs(&self) -> bool {
         self.differ == 0
     }
@@ -40,8 +31,8 @@ impl Counts {
 
 impl fmt::Display for Counts {
     fn fmt<W: fmt::Write>(&self, f: &mut fmt::Formatter<W>) -> fmt::Result {
-        let Counts { v15, next, differ } = self;
-        write!(f, "{v15} cases of V15, {next} of Next, {differ} differ")
+        let Counts { rows, differ } = self;
+        write!(f, "{rows} rows, {differ} differ")
     }
 }
 
@@ -51,16 +42,15 @@ mod tests {
     use std::test::Fail;
 
     #[test]
-    fn each_dialect_is_counted_by_itself(rt: HostRuntime) -> Result<(), Fail> {
+    fn rows_are_counted(rt: HostRuntime) -> Result<(), Fail> {
         let mut counts = Counts::new();
         assert!(rt; counts.none_differs());
-        for (dialect, differs, want) in [
-            (Dialect::V15, false, "1 cases of V15, 0 of Next, 0 differ"),
-            (Dialect::Next, false, "1 cases of V15, 1 of Next, 0 differ"),
-            (Dialect::Next, true, "1 cases of V15, 2 of Next, 1 differ"),
-            (Dialect::V15, true, "2 cases of V15, 2 of Next, 2 differ"),
+        for (differs, want) in [
+            (false, "1 rows, 0 differ"),
+            (true, "2 rows, 1 differ"),
+            (false, "3 rows, 1 differ"),
         ] {
-            counts.add(dialect, differs);
+            counts.add(differs);
             assert_eq!(rt; counts.to_string(rt.alloc())?.as_str(), want);
             assert_eq!(rt; counts.none_differs(), want.ends_with(" 0 differ"));
         }

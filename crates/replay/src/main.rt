@@ -1,102 +1,94 @@
-//! Replays recorded cases of reading environment files: `replay FILE` runs each case of the file
-//! through the library, prints where an answer differs, and ends with status 1 where one does.
+//! Replays rows of cases through the public calls: `replay FILE..` plays each row of the files, prints where an answer is
+//! not the one that the row has, and ends with status 1 where one isn't. docs/ROWS.md says how rows are written.
 #![tactic(auto)]
 
-ghost use Rattle.std.specs.Prelude.{◌≡◌, ◌||◌, IfOk, not};
-ghost use Rattle.replay.specs.Answers.{same_answers};
+ghost use Rattle.std.specs.Prelude.{◌≡◌, ◌==◌, IfOk, not, filter, length};
+ghost use Rattle.replay.specs.Answers.{is_wrong};
 
-mod answers;
-mod case;
+mod answer;
 mod counts;
-mod reader;
+mod cut;
+mod file;
+mod layers;
+mod reads;
+mod row;
+mod search;
+mod used;
+mod written;
 
-use answers::Answers;
+use answer::{Answer, differences};
 use anyhow::{Context, Result, bail};
-use case::Case;
 use counts::Counts;
-use dotenvy::Bytes;
-use reader::OneByteReads;
+use row::Row;
 use std::alloc::Global;
 use std::process::ExitCode;
 use std::rt::{Env, Files};
 use std::{env, fs};
 
-/// The name of the file to replay.
-fn file_name<R: AllocGlobal + Env>(rt: &R) -> Result<String> {
-    match env::args(rt)?.nth(1) {
-        Some(name) => Ok(name),
-        None => bail!("missing required argument <FILE>"),
+/// The answers to a row.
+fn answers(alloc: Global, row: &Row) -> Result<Vec<Answer>> {
+    let fields = row.fields.as_slice();
+    match row.kind {
+        "file" => file::answers(alloc, fields),
+        "used" => used::answers(alloc, fields),
+        "written" => written::written_answers(alloc, fields),
+        "pair" => written::pair_answers(alloc, fields),
+        "list" => written::list_answers(alloc, fields),
+        "writes" => written::writes_answers(alloc, fields),
+        "reads" => reads::answers(alloc, fields),
+        "first" => reads::first_answers(alloc, fields),
+        "search" => search::answers(alloc, fields),
+        "layers" => layers::answers(alloc, fields),
+        "cut" => cut::items_answers(alloc, fields),
+        "cut_load" => cut::load_answers(alloc, fields),
+        _ => bail!("no kind of row is called {}", row.kind),
     }
 }
 
-/// The cases of a file, one a line.
-fn read_cases(alloc: Global, text: &str) -> Result<Vec<Case>> {
-    let mut cases = Vec::new(alloc);
-    for (index, line) in text.lines().enumerate() {
-        let number = index.saturating_add(1);
-        let case = Case::parse(alloc, line).context(format_args!("line {number}"))?;
-        cases.push(case)?;
-    }
-    Ok(cases)
-}
-
-/// Prints each answer that is not the recorded one, and tells whether there is one.
-fn differs<R: AllocGlobal + Print>(
-    rt: &R,
-    case: &Case,
-    reading: &str,
-    got: &Answers,
-) -> Result<bool>
-    ensures { IfOk result (λ told. told ≡ not (same_answers case.now.answers got.now)) }
+/// Prints each answer that is wrong, and tells whether there is one.
+fn differs<R: AllocGlobal + Print>(rt: &R, name: &str, answers: &[Answer]) -> Result<bool>
+    ensures { IfOk result (λ told. told ≡ not (length (filter is_wrong answers.now) == 0)) }
 {
-    let differences = got.differences(rt.alloc(), &case.answers)?;
+    let differences = differences(rt.alloc(), answers)?;
     for difference in &differences {
-        println!(rt; "{}, {reading}: {difference}", case.name)?;
+        println!(rt; "{name}, {difference}")?;
     }
     Ok(!differences.is_empty())
 }
 
-/// Prints each answer that is not the recorded one, of whole reads and of reads of one byte, and
-/// tells whether there is one.
-fn differs_in_a_cut<R: AllocGlobal + Print>(
-    rt: &R,
-    case: &Case,
-    whole: &Answers,
-    by_byte: &Answers,
-) -> Result<bool>
-    ensures { IfOk result (λ told. told ≡ (not (same_answers case.now.answers whole.now)
-        || not (same_answers case.now.answers by_byte.now))) }
-{
-    let whole_differs = differs(rt, case, "whole reads", whole)?;
-    let by_byte_differs = differs(rt, case, "one byte a read", by_byte)?;
-    Ok(whole_differs || by_byte_differs)
+/// Plays the row of a line, if it has one, and counts it.
+fn play_line<R: AllocGlobal + Print>(rt: &R, line: &str, counts: &mut Counts) -> Result<()> {
+    let Some(row) = Row::parse(rt.alloc(), line)? else {
+        return Ok(());
+    };
+    let answers = answers(rt.alloc(), &row).context(format_args!("{}", row.name))?;
+    counts.add(differs(rt, row.name, &answers)?);
+    Ok(())
 }
 
-/// Runs a case with whole reads and with reads of one byte, and tells whether an answer differs.
-fn replay<R: AllocGlobal + Print>(rt: &R, case: &Case) -> Result<bool> {
-    let whole = Answers::of(rt.alloc(), case, Bytes::new)?;
-    let by_byte = Answers::of(rt.alloc(), case, OneByteReads::new)?;
-    differs_in_a_cut(rt, case, &whole, &by_byte)
-}
-
-/// Replays each of the cases, and counts them.
-fn replay_all<R: AllocGlobal + Print>(rt: &R, cases: &[Case]) -> Result<Counts> {
+/// Plays each row of a file, prints how many there were, and tells whether all answers were right.
+fn play_file<R: AllocGlobal + Files + Print>(rt: &R, name: &str) -> Result<bool> {
+    let text = fs::read_to_string(rt, name).context(format_args!("reading {name}"))?;
     let mut counts = Counts::new();
-    for case in cases {
-        let differs = replay(rt, case).context(format_args!("{}", case.name))?;
-        counts.add(case.dialect, differs);
+    for line in text.lines() {
+        play_line(rt, line, &mut counts)?;
     }
-    Ok(counts)
+    println!(rt; "{name}: {counts}")?;
+    Ok(counts.none_differs())
 }
 
-/// Replays each case of the file, and tells whether all answers are the recorded ones.
+/// Plays the files that the words name, and tells whether all answers were right.
 fn run<R: AllocGlobal + Env + Files + Print>(rt: &R) -> Result<bool> {
-    let name = file_name(rt)?;
-    let text = fs::read_to_string(rt, name.as_str()).context(format_args!("reading {name}"))?;
-    let cases = read_cases(rt.alloc(), text.as_str())?;
-    let counts = replay_all(rt, &cases)?;
-    println!(rt; "{counts}")?;
-    Ok(counts.none_differs())
+    let mut all_right = true;
+    let mut is_any = false;
+    for name in env::args(rt)?.skip(1) {
+        is_any = true;
+        all_right = play_file(rt, name.as_str())? && all_right;
+    }
+    if !is_any {
+        bail!("missing required argument <FILE>");
+    }
+    Ok(all_right)
 }
 
 fn main(rt: HostRuntime) -> Result<ExitCode> {

@@ -2,7 +2,7 @@
 
 use crate::runtime::PlayedRuntime;
 use crate::shown::{answer, environment, pairs};
-use dotenvy::{Dialect, Environment, is_key, is_name, vars};
+use dotenvy::{Bytes, Dialect, Environment, Iter, is_key, is_name, vars};
 use std::test::Fail;
 
 #[test]
@@ -106,4 +106,17 @@ fn keys_and_names(rt: HostRuntime) {
         assert_eq!(rt; is_key(text), key, "key {text:?}");
         assert_eq!(rt; is_name(text), name, "name {text:?}");
     }
+}
+
+#[test]
+fn another_environment_at_each_item(rt: HostRuntime) -> Result<(), Fail> {
+    let alloc = rt.alloc();
+    let mut entries = Iter::new(alloc, Bytes::new(b"A=$X\nB=$X\n"))?;
+    for want in [("A", "1"), ("B", "2")] {
+        let (_, value) = want;
+        let environment = environment(alloc, &[("X", value)])?;
+        let (key, text) = entries.next_item(&environment).ok_or("no item")??;
+        assert!(rt; (key.as_str(), text.as_str()) == want);
+    }
+    Ok(())
 }

@@ -1,6 +1,6 @@
 //! What errors print, and which of them say that nothing was found.
 
-use dotenvy::{Error, VarError};
+use dotenvy::{Bytes, Environment, Error, Iter, VarError};
 use std::alloc::AllocError;
 use std::io;
 use std::io::ErrorKind;
@@ -86,5 +86,18 @@ fn a_fault_inside_prints_as_itself(rt: HostRuntime) -> Result<(), Fail> {
         VarError::NotPresent.to_string(alloc)?.as_str(),
         "environment variable not found"
     );
+    Ok(())
+}
+
+#[test]
+fn a_line_that_is_no_text_says_so(rt: HostRuntime) -> Result<(), Fail> {
+    let alloc = rt.alloc();
+    let mut entries = Iter::new(alloc, Bytes::new(b"K=\xf0\x9f\x98"))?;
+    match entries.next_item(&Environment::new(alloc)) {
+        Some(Err(error)) => {
+            assert_eq!(rt; error.to_string(alloc)?.as_str(), "the line is not UTF-8");
+        }
+        _ => panic!(rt; "a broken line gives a pair"),
+    }
     Ok(())
 }

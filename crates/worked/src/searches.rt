@@ -1,83 +1,22 @@
-//! Searches for a file: which paths are asked, and what is answered.
+//! Faults that end a search for a file.
 
-use crate::looks::{search, searched};
+use dotenvy::search::{Look, find};
 use dotenvy::Error;
-use dotenvy::search::Look;
+use std::alloc::Global;
 use std::io;
 use std::io::ErrorKind;
+use std::path::Path;
 use std::test::Fail;
+use support::looks::PlayedLooks;
 
-#[test]
-fn directories_are_asked_from_the_first_one_up(rt: HostRuntime) -> Result<(), Fail> {
-    for (directory, looks, want) in [
-        ("/a/b", "File", "/a/b/.env: /a/b/.env"),
-        ("/a/b", "Other, File", "/a/b/.env, /a/.env: /a/.env"),
-        (
-            "/a/b",
-            "Other, Other, Other",
-            "/a/b/.env, /a/.env, /.env: io NotFound",
-        ),
-        ("/a", "fault NotFound, File", "/a/.env, /.env: /.env"),
-        (
-            "/d/child",
-            "fault NotFound, File",
-            "/d/child/.env, /d/.env: /d/.env",
-        ),
-        ("/", "Other", "/.env: io NotFound"),
-        ("a", "Other, File", "a/.env, .env: .env"),
-        ("a", "Other, Other", "a/.env, .env: io NotFound"),
-        ("", "Other", ".env: io NotFound"),
-    ] {
-        let shown = searched(rt.alloc(), directory, ".env", looks)?;
-        assert_eq!(rt; shown.as_str(), want, "from {directory:?}, {looks}");
+/// What a search answers whose first look fails so.
+fn answered(alloc: Global, fault: io::Error) -> Result<io::Error, Fail> {
+    let mut played = PlayedLooks::new(alloc, vec![in alloc; Look::Fault(fault)]?);
+    let answer = find(alloc, Path::new("/a"), Path::new(".env"), &mut |path| { played.look(path) });
+    match answer {
+        Err(Error::Io(answered)) => Ok(answered),
+        _ => Err(Fail::from("another answer")),
     }
-    Ok(())
-}
-
-#[test]
-fn names_with_slashes(rt: HostRuntime) -> Result<(), Fail> {
-    for (directory, filename, looks, want) in [
-        ("/a", "b/.env", "Other, File", "/a/b/.env, /b/.env: /b/.env"),
-        (
-            "/a/b",
-            "/x/.env",
-            "Other, Other, Other",
-            "/x/.env, /x/.env, /x/.env: io NotFound",
-        ),
-        (
-            "/a/b",
-            "/x/.env",
-            "Other, File",
-            "/x/.env, /x/.env: /x/.env",
-        ),
-    ] {
-        let shown = searched(rt.alloc(), directory, filename, looks)?;
-        assert_eq!(rt; shown.as_str(), want, "{filename} from {directory}");
-    }
-    Ok(())
-}
-
-#[test]
-fn faults_that_end_a_search(rt: HostRuntime) -> Result<(), Fail> {
-    for (looks, want) in [
-        (
-            "Other, fault PermissionDenied",
-            "/a/b/.env, /a/.env: io PermissionDenied",
-        ),
-        (
-            "fault PermissionDenied, File",
-            "/a/b/.env: io PermissionDenied",
-        ),
-        ("fault NotADirectory, File", "/a/b/.env: io NotADirectory"),
-        (
-            "fault NotFound, fault OutOfMemory, File",
-            "/a/b/.env, /a/.env: io OutOfMemory",
-        ),
-    ] {
-        let shown = searched(rt.alloc(), "/a/b", ".env", looks)?;
-        assert_eq!(rt; shown.as_str(), want, "{looks}");
-    }
-    Ok(())
 }
 
 #[test]
@@ -88,16 +27,12 @@ fn a_fault_is_answered_as_it_came(rt: HostRuntime) -> Result<(), Fail> {
         io::Error::from_raw_os_error(5),
         io::Error::from_raw_os_error(40),
     ] {
-        let (_, answer) = search(alloc, "/a", ".env", vec![in alloc; Look::Fault(fault)]?)?;
-        let Err(Error::Io(answered)) = answer else {
-            return Err(Fail::from("another answer"));
-        };
-        assert_eq!(rt; answered.kind(), fault.kind());
-        assert_eq!(rt; answered.raw_os_error(), fault.raw_os_error());
-        assert_eq!(rt;
-            answered.to_string(alloc)?.as_str(),
-            fault.to_string(alloc)?.as_str()
-        );
+        let wanted = fault.to_string(alloc)?;
+        let (kind, code) = (fault.kind(), fault.raw_os_error());
+        let answered = answered(alloc, fault)?;
+        assert_eq!(rt; answered.kind(), kind);
+        assert_eq!(rt; answered.raw_os_error(), code);
+        assert_eq!(rt; answered.to_string(alloc)?.as_str(), wanted.as_str());
     }
     Ok(())
 }

@@ -1,0 +1,122 @@
+//! Rows of kind `file`: what a file gives in each way to read it.
+
+use crate::answer::{Answer, is_asked, push_answer};
+use anyhow::{Result, bail};
+use dotenvy::{Dialect, Environment, Iter, Plain, Source};
+use std::alloc::Global;
+use support::answers::{item, loaded, written};
+use support::notation::pairs;
+use support::reader::{Cut, PlayedReader, Step, steps};
+
+/// Each way to cut the bytes of a file, and what it is called.
+pub const CUTS: [(Cut, &str); 3] = [
+    (Cut::Whole, "in whole reads"),
+    (Cut::ByByte, "one byte a read"),
+    (Cut::Interrupted, "with interruptions"),
+];
+
+/// The dialect of this name.
+pub fn dialect(field: &str) -> Result<Dialect> {
+    match field {
+        "v15" => Ok(Dialect::V15),
+        "next" => Ok(Dialect::Next),
+        _ => bail!("no dialect is called {field}"),
+    }
+}
+
+/// An environment of these names and values.
+pub fn environment(alloc: Global, field: &str) -> Result<Environment> {
+    Ok(Environment::from_pairs(alloc, pairs(alloc, field)?)?)
+}
+
+// A file, and the environment under which it is read.
+#[derive(Drop)]
+struct File<'a> {
+    dialect: Dialect,
+    environment: &'a str,
+    steps: Vec<Step>,
+}
+
+impl File<'_> {
+    fn items(&self, alloc: Global, cut: Cut) -> Result<Vec<String>> {
+        let environment = environment(alloc, self.environment)?;
+        let reader = PlayedReader::new(&self.steps, cut);
+        let mut entries = Iter::with_dialect(alloc, reader, self.dialect)?;
+        let mut items = Vec::new(alloc);
+        for answered in entries.items(&environment) {
+            items.push(item(alloc, &answered)?)?;
+        }
+        if entries.next_item(&environment).is_some() {
+            bail!("an item after the end");
+        }
+        Ok(items)
+    }
+
+    fn load(&self, alloc: Global, cut: Cut) -> Result<Vec<String>> {
+        let mut environment = environment(alloc, self.environment)?;
+        let reader = PlayedReader::new(&self.steps, cut);
+        let answer = Iter::with_dialect(alloc, reader, self.dialect)?.load(&mut environment);
+        Ok(loaded(alloc, &answer, &environment)?)
+    }
+
+    fn load_override(&self, alloc: Global, cut: Cut) -> Result<Vec<String>> {
+        let mut environment = environment(alloc, self.environment)?;
+        let reader = PlayedReader::new(&self.steps, cut);
+        let answer = Iter::with_dialect(alloc, reader, self.dialect)?.load_override(&mut environment);
+        Ok(loaded(alloc, &answer, &environment)?)
+    }
+
+    fn listing(&self, alloc: Global, cut: Cut) -> Result<Vec<String>> {
+        listing(alloc, PlayedReader::new(&self.steps, cut), self.dialect)
+    }
+}
+
+/// What `list_with` answers and writes of a reader.
+pub fn listing<R: Source + Drop>(
+    alloc: Global,
+    reader: R,
+    dialect: Dialect,
+) -> Result<Vec<String>> {
+    let mut writer = Plain::new(Vec::new(alloc));
+    let answer = dotenvy::list_with(alloc, reader, &mut writer, dialect);
+    written(alloc, &answer, writer.into_inner())
+}
+
+/// The answers to a row.
+pub fn answers(alloc: Global, fields: &[&str]) -> Result<Vec<Answer>> {
+    let [
+        dialect_field,
+        environment,
+        steps_field,
+        items,
+        load,
+        load_override,
+        listing,
+    ] = fields
+    else {
+        bail!("{} fields in place of 7", fields.len());
+    };
+    let file = File {
+        dialect: dialect(dialect_field)?,
+        environment,
+        steps: steps(alloc, steps_field)?,
+    };
+    let mut answers = Vec::new(alloc);
+    for (cut, way) in CUTS {
+        if is_asked(items) {
+            push_answer(&mut answers, "items", way, items, file.items(alloc, cut)?)?;
+        }
+        if is_asked(load) {
+            push_answer(&mut answers, "load", way, load, file.load(alloc, cut)?)?;
+        }
+        if is_asked(load_override) {
+            let got = file.load_override(alloc, cut)?;
+            push_answer(&mut answers, "load_override", way, load_override, got)?;
+        }
+        if is_asked(listing) {
+            let got = file.listing(alloc, cut)?;
+            push_answer(&mut answers, "listing", way, listing, got)?;
+        }
+    }
+    Ok(answers)
+}

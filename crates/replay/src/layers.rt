@@ -1,0 +1,79 @@
+//! Rows of kind `layers`: readers are added one after another, and names are required of what they make.
+
+use crate::answer::{Answer, push_answer};
+use crate::file::{CUTS, environment};
+use anyhow::{Result, bail};
+use env_layers::{Layers, Missing, Mode};
+use std::alloc::Global;
+use support::answers::{answer, pairs};
+use support::notation::{bytes, kind, list, texts};
+use support::reader::{Cut, PlayedReader, Step};
+
+// The mode of `keep A=1` or of `keep failing TimedOut A=1`, and the steps of its reader.
+fn layer(alloc: Global, written: &str) -> Result<(Mode, Vec<Step>)> {
+    let (mode, rest) = written.split_once(' ').unwrap_or((written, ""));
+    let mode = match mode {
+        "keep" => Mode::Keep,
+        "override" => Mode::Override,
+        _ => bail!("no mode is called {mode}"),
+    };
+    let mut steps = Vec::new(alloc);
+    match rest.strip_prefix("failing ") {
+        Some(failing) => {
+            let (name, given) = failing.split_once(' ').unwrap_or((failing, ""));
+            if !given.is_empty() {
+                steps.push(Step::Give(bytes(alloc, given)?))?;
+            }
+            steps.push(Step::Fail(kind(name)?))?;
+        }
+        None => steps.push(Step::Give(bytes(alloc, rest)?))?,
+    }
+    Ok((mode, steps))
+}
+
+// What is answered to each layer.
+fn added(alloc: Global, layers: &mut Layers, field: &str, cut: Cut) -> Result<Vec<String>> {
+    let mut answers = Vec::new(alloc);
+    for written in list(alloc, field)? {
+        let (mode, steps) = layer(alloc, written)?;
+        let answered = layers.add(alloc, PlayedReader::new(&steps, cut), mode);
+        answers.push(answer(alloc, &answered)?)?;
+    }
+    Ok(answers)
+}
+
+// `ok`, or `missing` and the names.
+fn required(alloc: Global, layers: &Layers, field: &str) -> Result<Vec<String>> {
+    let names = texts(alloc, field)?;
+    let names: Vec<&str> = names.iter().map(String::as_str).collect(alloc)?;
+    let mut texts = Vec::new(alloc);
+    match layers.require(alloc, &names) {
+        Ok(()) => texts.push(String::from_str(alloc, "ok")?)?,
+        Err(Missing::Memory(_)) => texts.push(String::from_str(alloc, "memory")?)?,
+        Err(Missing::Names(absent)) => {
+            texts.push(String::from_str(alloc, "missing")?)?;
+            for name in absent {
+                texts.push(name)?;
+            }
+        }
+    }
+    Ok(texts)
+}
+
+/// The answers to a row.
+pub fn answers(alloc: Global, fields: &[&str]) -> Result<Vec<Answer>> {
+    let [before, added_field, answered, after, names, required_field] = fields else {
+        bail!("{} fields in place of 6", fields.len());
+    };
+    let mut answers = Vec::new(alloc);
+    for (cut, way) in CUTS {
+        let mut layers = Layers::new(environment(alloc, before)?);
+        let got = added(alloc, &mut layers, added_field, cut)?;
+        push_answer(&mut answers, "layers", way, answered, got)?;
+        let got = required(alloc, &layers, names)?;
+        push_answer(&mut answers, "required", way, required_field, got)?;
+        let got = pairs(alloc, &layers.into_environment())?;
+        push_answer(&mut answers, "environment", way, after, got)?;
+    }
+    Ok(answers)
+}

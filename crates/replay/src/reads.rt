@@ -1,0 +1,99 @@
+//! Rows of the kinds `reads` and `first`: which reads are made for items, for the first of them, and for a load.
+
+use crate::answer::{Answer, is_asked, push_answer};
+use crate::file::{dialect, listing};
+use anyhow::{Result, bail};
+use dotenvy::{Dialect, Environment, Iter};
+use std::alloc::Global;
+use support::telling::{Telling, spelled};
+use support::answers::item;
+use support::reader::{Cut, PlayedReader, Step, steps};
+
+// The reads for items up to the end or the last fault, for three more, and for a load of what is left, which is nothing.
+fn of_items(alloc: Global, dialect: Dialect, steps: &[Step]) -> Result<Vec<String>> {
+    let mut telling = Telling::new(alloc, PlayedReader::new(steps, Cut::Whole));
+    let mut environment = Environment::new(alloc);
+    {
+        let mut entries = Iter::with_dialect(alloc, &mut telling, dialect)?;
+        for item in entries.items(&environment) {
+            drop(item);
+        }
+        for _ in 0..3u8 {
+            if entries.next_item(&environment).is_some() {
+                bail!("an item after the end");
+            }
+        }
+        entries.load(&mut environment)?;
+        if !environment.is_empty() {
+            bail!("a name after the end");
+        }
+    }
+    spelled(alloc, telling.into_calls())
+}
+
+// The reads of one of the loads.
+fn of_load(alloc: Global, dialect: Dialect, steps: &[Step], replaces: bool) -> Result<Vec<String>> {
+    let mut telling = Telling::new(alloc, PlayedReader::new(steps, Cut::Whole));
+    let mut environment = Environment::new(alloc);
+    {
+        let entries = Iter::with_dialect(alloc, &mut telling, dialect)?;
+        let _ = if replaces {
+            entries.load_override(&mut environment)
+        } else {
+            entries.load(&mut environment)
+        };
+    }
+    spelled(alloc, telling.into_calls())
+}
+
+fn of_listing(alloc: Global, dialect: Dialect, steps: &[Step]) -> Result<Vec<String>> {
+    let mut telling = Telling::new(alloc, PlayedReader::new(steps, Cut::Whole));
+    let _ = listing(alloc, &mut telling, dialect)?;
+    spelled(alloc, telling.into_calls())
+}
+
+// What the first item is, and the reads for it.
+fn of_first(alloc: Global, dialect: Dialect, steps: &[Step]) -> Result<(Vec<String>, Vec<String>)> {
+    let mut telling = Telling::new(alloc, PlayedReader::new(steps, Cut::Whole));
+    let mut items = Vec::new(alloc);
+    if let Some(answered) =
+        Iter::with_dialect(alloc, &mut telling, dialect)?.next_item(&Environment::new(alloc))
+    {
+        items.push(item(alloc, &answered)?)?;
+    }
+    Ok((items, spelled(alloc, telling.into_calls())?))
+}
+
+/// The answers to a row of kind `first`.
+pub fn first_answers(alloc: Global, fields: &[&str]) -> Result<Vec<Answer>> {
+    let [dialect_field, steps_field, items_field, reads_field] = fields else {
+        bail!("{} fields in place of 4", fields.len());
+    };
+    let steps = steps(alloc, steps_field)?;
+    let (items, reads) = of_first(alloc, dialect(dialect_field)?, &steps)?;
+    let mut answers = Vec::new(alloc);
+    push_answer(&mut answers, "item", "first", items_field, items)?;
+    push_answer(&mut answers, "reads", "of the first item", reads_field, reads)?;
+    Ok(answers)
+}
+
+/// The answers to a row of kind `reads`.
+pub fn answers(alloc: Global, fields: &[&str]) -> Result<Vec<Answer>> {
+    let [dialect_field, steps_field, items, loads] = fields else {
+        bail!("{} fields in place of 4", fields.len());
+    };
+    let dialect = dialect(dialect_field)?;
+    let steps = steps(alloc, steps_field)?;
+    let mut answers = Vec::new(alloc);
+    if is_asked(items) {
+        let got = of_items(alloc, dialect, &steps)?;
+        push_answer(&mut answers, "reads", "of items", items, got)?;
+    }
+    let got = of_load(alloc, dialect, &steps, false)?;
+    push_answer(&mut answers, "reads", "of load", loads, got)?;
+    let got = of_load(alloc, dialect, &steps, true)?;
+    push_answer(&mut answers, "reads", "of load_override", loads, got)?;
+    let got = of_listing(alloc, dialect, &steps)?;
+    push_answer(&mut answers, "reads", "of list_with", loads, got)?;
+    Ok(answers)
+}

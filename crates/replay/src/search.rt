@@ -1,0 +1,57 @@
+//! Rows of kind `search`: which paths a search asks for, and what it answers.
+
+use crate::answer::{Answer, push_answer};
+use anyhow::{Result, bail};
+use dotenvy::search;
+use dotenvy::search::Look;
+use std::alloc::Global;
+use std::path::{Path, PathBuf};
+use std::io;
+use support::answers::fault;
+use support::looks::PlayedLooks;
+use support::notation::{kind, list, text};
+
+fn look(written: &str) -> Result<Look> {
+    match (written, written.strip_prefix("fail ")) {
+        ("File", _) => Ok(Look::File),
+        ("Other", _) => Ok(Look::Other),
+        (_, Some(name)) => Ok(Look::Fault(io::Error::from(kind(name)?))),
+        _ => bail!("no look is called {written}"),
+    }
+}
+
+fn looks(alloc: Global, field: &str) -> Result<Vec<Look>> {
+    let mut looks = Vec::new(alloc);
+    for written in list(alloc, field)? {
+        looks.push(look(written)?)?;
+    }
+    Ok(looks)
+}
+
+fn found(alloc: Global, answer: dotenvy::Result<PathBuf>) -> Result<Vec<String>> {
+    let text = match answer {
+        Ok(path) => path.into_string(),
+        Err(error) => fault(alloc, &error)?,
+    };
+    Ok(vec![in alloc; text]?)
+}
+
+/// The answers to a row.
+pub fn answers(alloc: Global, fields: &[&str]) -> Result<Vec<Answer>> {
+    let [directory, filename, looks_field, asked, answer] = fields else {
+        bail!("{} fields in place of 5", fields.len());
+    };
+    let directory = text(alloc, directory)?;
+    let filename = text(alloc, filename)?;
+    let mut played = PlayedLooks::new(alloc, looks(alloc, looks_field)?);
+    let got = search::find(
+        alloc,
+        Path::new(directory.as_str()),
+        Path::new(filename.as_str()),
+        &mut |path| { played.look(path) },
+    );
+    let mut answers = Vec::new(alloc);
+    push_answer(&mut answers, "path", "found", answer, found(alloc, got)?)?;
+    push_answer(&mut answers, "paths", "asked", asked, played.into_asked())?;
+    Ok(answers)
+}

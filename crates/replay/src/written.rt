@@ -1,0 +1,131 @@
+//! Rows of the kinds `written`, `pair`, `list` and `writes`: what is written, to which writer, and what it reads back as.
+
+use crate::answer::{Answer, push_answer, push_compared};
+use crate::file::{CUTS, dialect, listing};
+use anyhow::{Result, bail};
+use dotenvy::{Bytes, Dialect, Environment, Iter, Plain, Sink, is_key};
+use std::alloc::Global;
+use support::answers::{item, written};
+use support::notation::{pair, pairs};
+use support::telling::{Telling, spelled};
+use support::reader;
+use support::reader::PlayedReader;
+use support::writer;
+use support::writer::PlayedWriter;
+
+fn write_pair<W: Sink>(
+    alloc: Global,
+    writer: &mut W,
+    key: &str,
+    value: &str,
+) -> Result<dotenvy::Result<()>> {
+    if !is_key(key) {
+        bail!("no key: {key}");
+    }
+    Ok(dotenvy::write_pair(alloc, writer, key, value))
+}
+
+// These pairs, written one after another.
+fn written_pairs(alloc: Global, field: &str) -> Result<Vec<u8>> {
+    let mut writer = Plain::new(Vec::new(alloc));
+    for (key, value) in pairs(alloc, field)? {
+        write_pair(alloc, &mut writer, key.as_str(), value.as_str())??;
+    }
+    Ok(writer.into_inner())
+}
+
+// The items of the bytes, where some names are there: nothing is substituted.
+fn read_back(alloc: Global, bytes: &[u8]) -> Result<Vec<String>> {
+    let mut environment = Environment::new(alloc);
+    for name in ["A", "K", "n"] {
+        let name = String::from_str(alloc, name)?;
+        environment.set(name, String::from_str(alloc, "there")?)?;
+    }
+    let mut items = Vec::new(alloc);
+    for answered in Iter::new(alloc, Bytes::new(bytes))?.items(&environment) {
+        items.push(item(alloc, &answered)?)?;
+    }
+    Ok(items)
+}
+
+// Adds that what is listed of the bytes is listed as itself. Nothing is listed of pairs with a NUL.
+fn push_listings(answers: &mut Vec<Answer>, bytes: &[u8]) -> Result<()> {
+    let alloc = *answers.allocator();
+    let first = listing(alloc, Bytes::new(bytes), Dialect::V15)?;
+    if let [_, output] = first.as_slice() {
+        let second = listing(alloc, Bytes::new(output.as_bytes()), Dialect::V15)?;
+        push_compared(answers, "listing", "of itself", first, second)?;
+    }
+    Ok(())
+}
+
+/// The answers to a row of kind `written`.
+pub fn written_answers(alloc: Global, fields: &[&str]) -> Result<Vec<Answer>> {
+    let [pairs_field, bytes] = fields else {
+        bail!("{} fields in place of 2", fields.len());
+    };
+    let output = written_pairs(alloc, pairs_field)?;
+    let mut answers = Vec::new(alloc);
+    let got = read_back(alloc, &output)?;
+    push_answer(&mut answers, "pairs", "read back", pairs_field, got)?;
+    push_listings(&mut answers, &output)?;
+    let got = vec![in alloc; String::from_utf8(output)?]?;
+    push_answer(&mut answers, "pairs", "written", bytes, got)?;
+    Ok(answers)
+}
+
+/// The answers to a row of kind `pair`.
+pub fn pair_answers(alloc: Global, fields: &[&str]) -> Result<Vec<Answer>> {
+    let [pair_field, steps, answer] = fields else {
+        bail!("{} fields in place of 3", fields.len());
+    };
+    let (key, value) = pair(alloc, pair_field)?;
+    let mut writer = Plain::new(PlayedWriter::new(alloc, writer::steps(alloc, steps)?));
+    let answered = write_pair(alloc, &mut writer, key.as_str(), value.as_str())?;
+    let got = written(alloc, &answered, writer.into_inner().into_taken())?;
+    let mut answers = Vec::new(alloc);
+    push_answer(&mut answers, "pair", "written", answer, got)?;
+    Ok(answers)
+}
+
+/// The answers to a row of kind `writes`.
+pub fn writes_answers(alloc: Global, fields: &[&str]) -> Result<Vec<Answer>> {
+    let [pair_field, steps, writes] = fields else {
+        bail!("{} fields in place of 3", fields.len());
+    };
+    let (key, value) = pair(alloc, pair_field)?;
+    let played = PlayedWriter::new(alloc, writer::steps(alloc, steps)?);
+    let mut telling = Telling::new(alloc, Plain::new(played));
+    let _ = write_pair(alloc, &mut telling, key.as_str(), value.as_str())?;
+    let mut answers = Vec::new(alloc);
+    let got = spelled(alloc, telling.into_calls())?;
+    push_answer(&mut answers, "writes", "of a pair", writes, got)?;
+    Ok(answers)
+}
+
+// What `list_with` answers and writes of these steps to a writer of those.
+fn list_to(
+    alloc: Global,
+    dialect: Dialect,
+    reader: PlayedReader<'_>,
+    steps: &str,
+) -> Result<Vec<String>> {
+    let mut writer = Plain::new(PlayedWriter::new(alloc, writer::steps(alloc, steps)?));
+    let answer = dotenvy::list_with(alloc, reader, &mut writer, dialect);
+    written(alloc, &answer, writer.into_inner().into_taken())
+}
+
+/// The answers to a row of kind `list`.
+pub fn list_answers(alloc: Global, fields: &[&str]) -> Result<Vec<Answer>> {
+    let [dialect_field, reader_steps, writer_steps, answer] = fields else {
+        bail!("{} fields in place of 4", fields.len());
+    };
+    let steps = reader::steps(alloc, reader_steps)?;
+    let dialect = dialect(dialect_field)?;
+    let mut answers = Vec::new(alloc);
+    for (cut, way) in CUTS {
+        let got = list_to(alloc, dialect, PlayedReader::new(&steps, cut), writer_steps)?;
+        push_answer(&mut answers, "list", way, answer, got)?;
+    }
+    Ok(answers)
+}

@@ -1,0 +1,147 @@
+//! Lists of texts, and the bytes that a text stands for (docs/ROWS.md, "Texts").
+
+use anyhow::{Context, Result, bail};
+use std::alloc::{AllocError, Global};
+use std::io::ErrorKind;
+
+/// The texts of a list, as they are written: none of an empty field.
+///
+/// ```
+/// let texts = list(alloc, "A=1; B=x%3b y")?;    // A=1 and B=x%3b y
+/// ```
+pub fn list<'a>(alloc: Global, field: &'a str) -> std::result::Result<Vec<&'a str>, AllocError> {
+    if field.is_empty() {
+        return Ok(Vec::new(alloc));
+    }
+    field.split("; ").collect(alloc)
+}
+
+/// The bytes that a text stands for.
+///
+/// ```
+/// let file = bytes(alloc, "A=%(3*ab)%0a")?;    // A=ababab and a line feed
+/// ```
+pub fn bytes(alloc: Global, text: &str) -> Result<Vec<u8>> {
+    let mut bytes = Vec::new(alloc);
+    let mut parts = text.split("%(");
+    if let Some(first) = parts.next() {
+        push_bytes(&mut bytes, first)?;
+    }
+    for part in parts {
+        let (repeated, rest) = part.split_once(')').context("a repetition without its end")?;
+        push_repeated(&mut bytes, repeated)?;
+        push_bytes(&mut bytes, rest)?;
+    }
+    Ok(bytes)
+}
+
+/// The text that a text stands for, which must be UTF-8.
+pub fn text(alloc: Global, written: &str) -> Result<String> {
+    Ok(String::from_utf8(bytes(alloc, written)?)?)
+}
+
+/// The texts that those of a list stand for.
+pub fn texts(alloc: Global, field: &str) -> Result<Vec<String>> {
+    let mut texts = Vec::new(alloc);
+    for written in list(alloc, field)? {
+        texts.push(text(alloc, written)?)?;
+    }
+    Ok(texts)
+}
+
+/// The names and values of a list such as `A=1; B=2`.
+pub fn pairs(alloc: Global, field: &str) -> Result<Vec<(String, String)>> {
+    let mut pairs = Vec::new(alloc);
+    for written in list(alloc, field)? {
+        pairs.push(pair(alloc, written)?)?;
+    }
+    Ok(pairs)
+}
+
+/// A name and its value, as `A=1`.
+pub fn pair(alloc: Global, written: &str) -> Result<(String, String)> {
+    let (name, value) = written.split_once('=').context("a pair without `=`")?;
+    Ok((text(alloc, name)?, text(alloc, value)?))
+}
+
+/// A kind of fault, by its name in std.
+pub fn kind(name: &str) -> Result<ErrorKind> {
+    match name {
+        "BrokenPipe" => Ok(ErrorKind::BrokenPipe),
+        "Interrupted" => Ok(ErrorKind::Interrupted),
+        "InvalidData" => Ok(ErrorKind::InvalidData),
+        "NotADirectory" => Ok(ErrorKind::NotADirectory),
+        "NotFound" => Ok(ErrorKind::NotFound),
+        "Other" => Ok(ErrorKind::Other),
+        "OutOfMemory" => Ok(ErrorKind::OutOfMemory),
+        "PermissionDenied" => Ok(ErrorKind::PermissionDenied),
+        "TimedOut" => Ok(ErrorKind::TimedOut),
+        "WouldBlock" => Ok(ErrorKind::WouldBlock),
+        _ => bail!("no kind of fault is called {name}"),
+    }
+}
+
+// Adds a text without repetitions.
+fn push_bytes(bytes: &mut Vec<u8>, text: &str) -> Result<()> {
+    let mut parts = text.split('%');
+    if let Some(first) = parts.next() {
+        bytes.extend_from_slice(first.as_bytes())?;
+    }
+    for part in parts {
+        let (digits, rest) = part.split_at_checked(2).context("a byte without two digits")?;
+        bytes.push(u8::from_str_radix(digits, 16)?)?;
+        bytes.extend_from_slice(rest.as_bytes())?;
+    }
+    Ok(())
+}
+
+// Adds what `3*ab` says.
+fn push_repeated(bytes: &mut Vec<u8>, repeated: &str) -> Result<()> {
+    let (count, text) = repeated.split_once('*').context("a repetition without `*`")?;
+    let count: usize = count.parse()?;
+    let mut once = Vec::new(*bytes.allocator());
+    push_bytes(&mut once, text)?;
+    for _ in 0..count {
+        bytes.extend_from_slice(&once)?;
+    }
+    Ok(())
+}
+
+#[cfg(test)]
+mod tests {
+    use super::*;
+    use std::test::Fail;
+
+    #[test]
+    fn texts_stand_for_bytes(rt: HostRuntime) -> std::result::Result<(), Fail> {
+        for (written, want) in [
+            ("", b"".as_slice()),
+            ("A=1", b"A=1"),
+            ("%0aé%ff%25x", b"\n\xc3\xa9\xff%x"),
+            ("a%(3*b%0a)c%(0*d)%(2*e)", b"ab\nb\nb\ncee"),
+        ] {
+            assert_eq!(rt; bytes(rt.alloc(), written)?.as_slice(), want, "at {written}");
+        }
+        Ok(())
+    }
+
+    #[test]
+    fn texts_that_are_none(rt: HostRuntime) -> std::result::Result<(), Fail> {
+        for written in ["%", "%a", "%zz", "%(3*a", "%(3a)", "%(x*a)"] {
+            assert!(rt; bytes(rt.alloc(), written).is_err(), "at {written}");
+        }
+        assert!(rt; text(rt.alloc(), "%ff").is_err());
+        Ok(())
+    }
+
+    #[test]
+    fn lists_have_their_texts(rt: HostRuntime) -> std::result::Result<(), Fail> {
+        assert!(rt; list(rt.alloc(), "")?.is_empty());
+        let texts = texts(rt.alloc(), "a%3b b; c")?;
+        assert_eq!(rt; texts.len(), 2);
+        assert_eq!(rt; texts.join(rt.alloc(), " and ")?.as_str(), "a; b and c");
+        let (name, value) = pair(rt.alloc(), "A=b=%0a")?;
+        assert!(rt; (name.as_str(), value.as_str()) == ("A", "b=\n"));
+        Ok(())
+    }
+}
