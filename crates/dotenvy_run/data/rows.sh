@@ -2,11 +2,16 @@
 # Standard input is that of the stored run: the three lines of its file stdin.
 program=/proc/$PPID/exe
 
+# The status of the call before, and what it wrote to the file faults.
+ended() {
+    echo "status $?"
+    sed 's/^/standard error: /' faults
+}
+
 row() {
     echo "> $*"
     "$program" "$@" 2>faults
-    echo "status $?"
-    sed 's/^/standard error: /' faults
+    ended
 }
 
 row --list
@@ -36,9 +41,56 @@ row -h
 row -- sh
 row "$(printf '\377')" | tail -n 2
 
-# Standard output that is closed, or full.
-for output in '&-' /dev/full; do
-    printf 'A=1\n' | eval '"$program" --list 2>faults >'"$output"
+# What no file system has a place for. Of words this long only what comes of them is shown.
+long=$(printf '%05000d' 0)
+
+# Names that no file can be read by. A directory and a link to nothing let the search go on, up to the root; each other
+# one ends it. The script runs as one whom a mode can keep out, and gives the modes back, so that it can run again.
+mkdir -p folder shut
+: >locked.env
+rm -f loop.env nothing.env
+ln -s loop.env loop.env
+ln -s absent.env nothing.env
+chmod 000 locked.env shut
+row -f folder echo started
+row -f . echo started
+row -f nothing.env echo started
+row -f locked.env echo started
+row -f shut/first.env echo started
+row -f loop.env echo started
+row -f first.env/x echo started
+row -f "$long" echo started | tail -n 2
+chmod 700 locked.env shut
+
+# Commands that can't be started: a directory, a file that is no program, names that are too long, in PATH and beside.
+row ./folder
+row ./first.env
+row "$long" | tail -n 2
+row "./$long" | tail -n 2
+
+# Standard input that is closed, or a directory.
+row --list <&-
+row --list <folder
+
+# Standard output that is closed, or full. A fault of the input is told in its place: then nothing is to be written.
+for output in '>&-' '>/dev/full'; do
+    for line in A=1 .A=1; do
+        echo "> --list $output, of $line"
+        echo "$line" | eval '"$program" --list 2>faults' "$output"
+        ended
+    done
+done
+
+# Standard error that is closed, or full: the text is lost, and the status tells that there was a fault.
+mute() {
+    echo "> $* $errors"
+    eval '"$program" "$@"' "$errors"
     echo "status $?"
-    sed 's/^/standard error: /' faults
+}
+
+for errors in '2>&-' '2>/dev/full'; do
+    mute -x
+    mute --list <faulty.env
+    mute -f faulty.env echo started
+    mute /no/such/program
 done
