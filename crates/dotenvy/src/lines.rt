@@ -109,7 +109,7 @@ impl<R: Source, A: Allocator + Clone> Splitter<R, A> {
         Splitter::with_limit(alloc, reader, READ_LIMIT)
     }
 
-    fn with_limit(alloc: A, reader: R, reads: u64) -> Result<Splitter<R, A>, A>
+    pub(crate) fn with_limit(alloc: A, reader: R, reads: u64) -> Result<Splitter<R, A>, A>
     where
         R: Drop,
         ensures ok { IfOk result (λ s. s.lines ≡ fresh_lines (R.ahead reader) (R.calls reader) reads) }

@@ -2,10 +2,10 @@
 
 use crate::refusals::{is_done, refuse_in_turn, shown};
 use dotenvy::{Environment, Error, Result, is_name};
-use rationed::Rationed;
 use std::alloc::{Allocator, Global};
 use std::process::Abort;
 use std::test::Fail;
+use support::Rationed;
 
 /// Names enough for a map of more than one node.
 const NAMES: &str = "A B C D E F G H I J K L M N O P Q R S T U V W X Y Z";

@@ -4,7 +4,6 @@ use crate::files::items_of;
 use crate::folders::in_folder;
 use crate::refusals::{environment_of, is_done, is_refused, refuse_in_turn, shown};
 use dotenvy::{Dialect, Environment, Iter, Plain, Result};
-use rationed::Rationed;
 use std::alloc::{Alloc, Allocator, Global};
 use std::env;
 use std::env::Env;
@@ -12,6 +11,7 @@ use std::fs::Files;
 use std::path::{Path, PathBuf};
 use std::process::Abort;
 use std::test::Fail;
+use support::Rationed;
 
 /// A way to load `.env`.
 #[derive(Clone, Copy)]

@@ -1,11 +1,11 @@
 //! Files that are read while memory is refused.
 
-use crate::refusals::{is_done, refuse_in_turn};
-use dotenvy::{Bytes, Environment, Error, Iter, Result, Source};
-use rationed::Rationed;
+use crate::refusals::is_done;
+use dotenvy::{Environment, Error, Iter, Result, Source};
 use std::alloc::{Allocator, Global};
 use std::process::Abort;
 use std::test::Fail;
+use support::Rationed;
 
 /// The items of a file, added to `items` as `A=1;B=1;C=x;`, up to a refusal. After them there are none.
 fn read_items<S: Source + Drop, A: Allocator + Clone>(
@@ -49,37 +49,4 @@ pub fn items_of<'a, S: Source + Drop>(
         assert!(rt; wanted.starts_with(items.as_str()), "{items}");
     }
     Ok(is_done)
-}
-
-#[test]
-fn items(rt: HostRuntime) -> std::result::Result<(), Fail> {
-    let alloc = rt.alloc();
-    let files: [(&[u8], &str); 4] = [
-        (b"A=1\nB=$A\nC=\"x\"\n", "A=1;B=1;C=x;"),
-        (
-            b"A=1\n.B=2\n\xff\nC='x\ny'\nD=\"$A",
-            "A=1;.B=2 at 0;InvalidData;C=x\ny;D=\"$A at 5;",
-        ),
-        (b"A=\"x\0y\"\nB=$A\n", "A=x\0y;B=x\0y;"),
-        (b"# c\n\nexport\n", "export at 6;"),
-    ];
-    for (file, wanted) in files {
-        refuse_in_turn(&rt, alloc, |ration| {
-            let opened = Iter::new(ration, Bytes::new(file));
-            items_of(&rt, alloc, ration, opened, wanted)
-        })?;
-    }
-    Ok(())
-}
-
-#[test]
-fn a_line_longer_than_a_read(rt: HostRuntime) -> std::result::Result<(), Fail> {
-    let alloc = rt.alloc();
-    let letters = "é\n".repeat(alloc, 10_000)?;
-    let file = format!(in alloc; "K=\"{letters}\"\nL=1\n")?;
-    let wanted = format!(in alloc; "K={letters};L=1;")?;
-    refuse_in_turn(&rt, alloc, |ration| {
-        let opened = Iter::new(ration, Bytes::new(file.as_bytes()));
-        items_of(&rt, alloc, ration, opened, wanted.as_str())
-    })
 }

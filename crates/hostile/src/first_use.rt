@@ -3,13 +3,13 @@
 use crate::folders::{FILE, in_folder};
 use crate::refusals::{environment_of, is_refused, refuse_in_turn, shown};
 use dotenvy::{Environment, Result};
-use rationed::Rationed;
 use std::alloc::{Alloc, AllocError, Allocator, Global};
 use std::env::Env;
 use std::fs;
 use std::fs::Files;
 use std::process::Abort;
 use std::test::Fail;
+use support::Rationed;
 
 /// What the whole of `.env` leaves in an empty environment.
 const WHOLE: &str = "A=1;B=1;C=x;";

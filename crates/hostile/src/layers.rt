@@ -4,7 +4,6 @@ use crate::folders::{FILE, in_folder};
 use crate::refusals::{environment_of, is_refused, refuse_in_turn, shown};
 use dotenvy::{Bytes, Dialect, Result};
 use env_layers::{Layers, Mode};
-use rationed::Rationed;
 use std::alloc::{Alloc, Allocator, Global};
 use std::env::Env;
 use std::fs::Files;
@@ -12,6 +11,7 @@ use std::path::{Path, PathBuf};
 use std::process::Abort;
 use std::test::Fail;
 use std::{env, fs};
+use support::Rationed;
 
 /// A call that adds a layer.
 #[derive(Clone, Copy)]

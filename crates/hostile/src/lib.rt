@@ -19,18 +19,12 @@ mod folders;
 #[cfg(test)]
 mod layers;
 #[cfg(test)]
-mod loads;
-#[cfg(test)]
 mod processes;
 #[cfg(test)]
 mod refusals;
 #[cfg(test)]
-mod requests;
-#[cfg(test)]
 mod required;
 #[cfg(test)]
 mod searches;
-#[cfg(test)]
-mod values;
 #[cfg(test)]
 mod written;

@@ -1,10 +1,10 @@
 //! Runs of a call with one request refused in each.
 
 use dotenvy::{Environment, Error, Result};
-use rationed::Rationed;
 use std::alloc::{AllocError, Allocator, Global};
 use std::process::Abort;
 use std::test::Fail;
+use support::Rationed;
 
 /// More requests than any call of these tests makes.
 pub const MOST_REQUESTS: u64 = 200;

@@ -2,10 +2,10 @@
 
 use crate::refusals::{environment_of, refuse_in_turn};
 use env_layers::{Layers, Missing};
-use rationed::Rationed;
 use std::alloc::Global;
 use std::process::Abort;
 use std::test::Fail;
+use support::Rationed;
 
 /// What `require` answers over `A=1` and an empty `E`: `ok`, or what its error prints. It must be
 /// `Memory` where a request was refused, and otherwise it must not.

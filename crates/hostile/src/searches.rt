@@ -2,11 +2,11 @@
 
 use crate::refusals::{is_refused, refuse_in_turn};
 use dotenvy::search::{Look, find};
-use rationed::Rationed;
 use std::alloc::Global;
 use std::path::Path;
 use std::process::Abort;
 use std::test::Fail;
+use support::Rationed;
 
 /// A search, and the paths that it asks for, in order.
 #[derive(Drop)]

@@ -77,7 +77,13 @@ pub fn items_answers(alloc: Global, fields: &[&str]) -> Result<Vec<Answer>> {
     let file = fill_up(alloc, &front, 8_192, &back)?;
     let wanted = with_letters(alloc, wanted, file.letters)?;
     let got = items_by_byte(alloc, file.bytes)?;
-    push_answer(&mut answers, "items", "one byte a read", wanted.as_str(), got)?;
+    push_answer(
+        &mut answers,
+        "items",
+        "one byte a read",
+        wanted.as_str(),
+        got,
+    )?;
     Ok(answers)
 }
 

@@ -62,7 +62,9 @@ impl File<'_> {
     fn load_override(&self, alloc: Global, cut: Cut) -> Result<Vec<String>> {
         let mut environment = environment(alloc, self.environment)?;
         let reader = PlayedReader::new(&self.steps, cut);
-        let answer = Iter::with_dialect(alloc, reader, self.dialect)?.load_override(&mut environment);
+        let answer = Iter::with_dialect(alloc, reader, self.dialect)?.load_override(
+            &mut environment,
+        );
         Ok(loaded(alloc, &answer, &environment)?)
     }
 

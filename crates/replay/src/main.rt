@@ -11,6 +11,7 @@ mod cut;
 mod file;
 mod layers;
 mod reads;
+mod refused;
 mod row;
 mod search;
 mod used;
@@ -41,6 +42,10 @@ fn answers(alloc: Global, row: &Row) -> Result<Vec<Answer>> {
         "layers" => layers::answers(alloc, fields),
         "cut" => cut::items_answers(alloc, fields),
         "cut_load" => cut::load_answers(alloc, fields),
+        "refused_items" => refused::items_answers(alloc, fields),
+        "refused_load" => refused::load_answers(alloc, fields),
+        "refused_list" => refused::list_answers(alloc, fields),
+        "requests" => refused::requests_answers(alloc, fields),
         _ => bail!("no kind of row is called {}", row.kind),
     }
 }

@@ -5,9 +5,9 @@ use crate::file::{dialect, listing};
 use anyhow::{Result, bail};
 use dotenvy::{Dialect, Environment, Iter};
 use std::alloc::Global;
-use support::telling::{Telling, spelled};
 use support::answers::item;
 use support::reader::{Cut, PlayedReader, Step, steps};
+use support::telling::{Telling, spelled};
 
 // The reads for items up to the end or the last fault, for three more, and for a load of what is left, which is nothing.
 fn of_items(alloc: Global, dialect: Dialect, steps: &[Step]) -> Result<Vec<String>> {
@@ -56,9 +56,9 @@ fn of_listing(alloc: Global, dialect: Dialect, steps: &[Step]) -> Result<Vec<Str
 fn of_first(alloc: Global, dialect: Dialect, steps: &[Step]) -> Result<(Vec<String>, Vec<String>)> {
     let mut telling = Telling::new(alloc, PlayedReader::new(steps, Cut::Whole));
     let mut items = Vec::new(alloc);
-    if let Some(answered) =
-        Iter::with_dialect(alloc, &mut telling, dialect)?.next_item(&Environment::new(alloc))
-    {
+    if let Some(answered) = Iter::with_dialect(alloc, &mut telling, dialect)?.next_item(
+        &Environment::new(alloc),
+    ) {
         items.push(item(alloc, &answered)?)?;
     }
     Ok((items, spelled(alloc, telling.into_calls())?))
@@ -73,7 +73,13 @@ pub fn first_answers(alloc: Global, fields: &[&str]) -> Result<Vec<Answer>> {
     let (items, reads) = of_first(alloc, dialect(dialect_field)?, &steps)?;
     let mut answers = Vec::new(alloc);
     push_answer(&mut answers, "item", "first", items_field, items)?;
-    push_answer(&mut answers, "reads", "of the first item", reads_field, reads)?;
+    push_answer(
+        &mut answers,
+        "reads",
+        "of the first item",
+        reads_field,
+        reads,
+    )?;
     Ok(answers)
 }
 

@@ -20,7 +20,10 @@ const ROWS: [(&str, &[usize]); 12] = [
     ("cut_load|a|B=2%0a|ok; B=2", &[3]),
     ("written|a|K=1|K=\"1\"%0a", &[3]),
     ("pair|a|K=1|take 1; fail BrokenPipe|io BrokenPipe; K", &[4]),
-    ("list|a|v15|A=1|take 1; fail BrokenPipe|io BrokenPipe; A", &[5]),
+    (
+        "list|a|v15|A=1|take 1; fail BrokenPipe|io BrokenPipe; A",
+        &[5],
+    ),
     ("writes|a|K=1||6:6", &[4]),
     ("search|a|/a|.env|Other; File|/a/.env; /.env|/.env", &[5, 6]),
     ("layers|a||keep A=1|ok|A=1|A; B|missing; B", &[4, 5, 7]),

@@ -79,7 +79,13 @@ pub fn answers(alloc: Global, fields: &[&str]) -> Result<Vec<Answer>> {
         push_answer(&mut answers, "load", way, load, kept.load)?;
         let replaced = used.play(alloc, cut, true)?;
         push_answer(&mut answers, "items", way, items, replaced.items)?;
-        push_answer(&mut answers, "load_override", way, load_override, replaced.load)?;
+        push_answer(
+            &mut answers,
+            "load_override",
+            way,
+            load_override,
+            replaced.load,
+        )?;
     }
     Ok(answers)
 }

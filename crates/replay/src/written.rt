@@ -7,11 +7,10 @@ use dotenvy::{Bytes, Dialect, Environment, Iter, Plain, Sink, is_key};
 use std::alloc::Global;
 use support::answers::{item, written};
 use support::notation::{pair, pairs};
-use support::telling::{Telling, spelled};
-use support::reader;
 use support::reader::PlayedReader;
-use support::writer;
+use support::telling::{Telling, spelled};
 use support::writer::PlayedWriter;
+use support::{reader, writer};
 
 fn write_pair<W: Sink>(
     alloc: Global,

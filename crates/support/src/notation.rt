@@ -28,7 +28,9 @@ pub fn bytes(alloc: Global, text: &str) -> Result<Vec<u8>> {
         push_bytes(&mut bytes, first)?;
     }
     for part in parts {
-        let (repeated, rest) = part.split_once(')').context("a repetition without its end")?;
+        let (repeated, rest) = part
+            .split_once(')')
+            .context("a repetition without its end")?;
         push_repeated(&mut bytes, repeated)?;
         push_bytes(&mut bytes, rest)?;
     }
@@ -88,7 +90,9 @@ fn push_bytes(bytes: &mut Vec<u8>, text: &str) -> Result<()> {
         bytes.extend_from_slice(first.as_bytes())?;
     }
     for part in parts {
-        let (digits, rest) = part.split_at_checked(2).context("a byte without two digits")?;
+        let (digits, rest) = part
+            .split_at_checked(2)
+            .context("a byte without two digits")?;
         bytes.push(u8::from_str_radix(digits, 16)?)?;
         bytes.extend_from_slice(rest.as_bytes())?;
     }
@@ -97,7 +101,9 @@ fn push_bytes(bytes: &mut Vec<u8>, text: &str) -> Result<()> {
 
 // Adds what `3*ab` says.
 fn push_repeated(bytes: &mut Vec<u8>, repeated: &str) -> Result<()> {
-    let (count, text) = repeated.split_once('*').context("a repetition without `*`")?;
+    let (count, text) = repeated
+        .split_once('*')
+        .context("a repetition without `*`")?;
     let count: usize = count.parse()?;
     let mut once = Vec::new(*bytes.allocator());
     push_bytes(&mut once, text)?;
@@ -120,7 +126,11 @@ mod tests {
             ("%0aé%ff%25x", b"\n\xc3\xa9\xff%x"),
             ("a%(3*b%0a)c%(0*d)%(2*e)", b"ab\nb\nb\ncee"),
         ] {
-            assert_eq!(rt; bytes(rt.alloc(), written)?.as_slice(), want, "at {written}");
+            assert_eq!(rt;
+                bytes(rt.alloc(), written)?.as_slice(),
+                want,
+                "at {written}"
+            );
         }
         Ok(())
     }

@@ -1,7 +1,7 @@
 //! Faults that end a search for a file.
 
-use dotenvy::search::{Look, find};
 use dotenvy::Error;
+use dotenvy::search::{Look, find};
 use std::alloc::Global;
 use std::io;
 use std::io::ErrorKind;
@@ -12,7 +12,12 @@ use support::looks::PlayedLooks;
 /// What a search answers whose first look fails so.
 fn answered(alloc: Global, fault: io::Error) -> Result<io::Error, Fail> {
     let mut played = PlayedLooks::new(alloc, vec![in alloc; Look::Fault(fault)]?);
-    let answer = find(alloc, Path::new("/a"), Path::new(".env"), &mut |path| { played.look(path) });
+    let answer = find(
+        alloc,
+        Path::new("/a"),
+        Path::new(".env"),
+        &mut |path| { played.look(path) },
+    );
     match answer {
         Err(Error::Io(answered)) => Ok(answered),
         _ => Err(Fail::from("another answer")),

@@ -69,17 +69,18 @@ fn answered(
 #[test]
 fn no_write_is_left(rt: HostRuntime) -> std::result::Result<(), Fail> {
     let again = Step::Fault(ErrorKind::Interrupted);
-    let rows: [(&[Step], &[u8], &str); 7] = [
-        (&[Step::Take(0)], b"", "ok []"),
-        (&[Step::Take(1)], b"abc", "ok [abc]"),
-        (&[Step::Take(1)], b"abcd", "Other [abc]"),
-        (&[Step::Take(2)], b"abcdef", "ok [abcdef]"),
-        (&[Step::Take(2)], b"abcdefg", "Other [abcdef]"),
-        (&[Step::Take(1), again], b"abc", "Other [a]"),
-        (&[again], b"abc", "Other []"),
+    let rows: [(&[Step], &[u8], u64, &str); 8] = [
+        (&[Step::Take(0)], b"", 3, "ok []"),
+        (&[Step::Take(1)], b"abc", 3, "ok [abc]"),
+        (&[Step::Take(1)], b"abcd", 3, "Other [abc]"),
+        (&[Step::Take(1)], b"K=\"1\"\n", 2, "Other [K=]"),
+        (&[Step::Take(2)], b"abcdef", 3, "ok [abcdef]"),
+        (&[Step::Take(2)], b"abcdefg", 3, "Other [abcdef]"),
+        (&[Step::Take(1), again], b"abc", 3, "Other [a]"),
+        (&[again], b"abc", 3, "Other []"),
     ];
-    for (steps, bytes, wanted) in rows {
-        let got = answered(rt.alloc(), steps, bytes, 3)?;
+    for (steps, bytes, writes_left, wanted) in rows {
+        let got = answered(rt.alloc(), steps, bytes, writes_left)?;
         assert_eq!(rt; got.as_str(), wanted);
     }
     Ok(())

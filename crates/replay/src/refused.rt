@@ -1,0 +1,277 @@
+//! Rows of the kinds `refused_items`, `refused_load`, `refused_list` and `requests`: each request for memory of a call is
+//! refused in turn, up to a run that meets no refusal.
+
+use crate::answer::{Answer, push_answer, push_compared};
+use crate::file::dialect;
+use anyhow::{Result, bail};
+use dotenvy::{Bytes, Dialect, Environment, Error, Iter, Plain};
+use std::alloc::{AllocError, Allocator, Global};
+use support::answers::{answer, item, pairs, written};
+use support::notation::{bytes, texts};
+use support::{Rationed, notation};
+
+// More requests than any call of a row makes.
+const MOST_REQUESTS: u64 = 500;
+
+// A call that reads a file.
+#[derive(Clone, Copy)]
+enum Call {
+    Items,
+    Load,
+    LoadOverride,
+    List,
+}
+
+fn call_named(name: &str) -> Result<Call> {
+    match name {
+        "items" => Ok(Call::Items),
+        "load" => Ok(Call::Load),
+        "load_override" => Ok(Call::LoadOverride),
+        "list" => Ok(Call::List),
+        _ => bail!("no call is called {name}"),
+    }
+}
+
+// A file, and the names and values that are there.
+#[derive(Drop)]
+struct File {
+    dialect: Dialect,
+    names: Vec<(String, String)>,
+    bytes: Vec<u8>,
+}
+
+impl File {
+    fn parse(alloc: Global, dialect_field: &str, names: &str, file: &str) -> Result<File> {
+        Ok(File {
+            dialect: dialect(dialect_field)?,
+            names: notation::pairs(alloc, names)?,
+            bytes: bytes(alloc, file)?,
+        })
+    }
+
+    // An environment of the names, which are kept in this allocator.
+    fn environment<A: Allocator + Clone>(&self, alloc: A) -> dotenvy::Result<Environment<A>, A> {
+        let mut list = Vec::new(alloc.clone()?);
+        for (name, value) in &self.names {
+            let name = String::from_str(alloc.clone()?, name.as_str())?;
+            let value = String::from_str(alloc.clone()?, value.as_str())?;
+            list.push((name, value))?;
+        }
+        Environment::from_pairs(alloc, list)
+    }
+
+    fn open<A: Allocator + Clone>(&self, alloc: A) -> dotenvy::Result<Iter<Bytes<'_>, A>, A> {
+        Iter::with_dialect(alloc, Bytes::new(&self.bytes), self.dialect)
+    }
+
+    // Adds the items up to a refusal. After it there are none.
+    fn push_items<A: Allocator + Clone>(
+        &self,
+        alloc: A,
+        items: &mut Vec<String>,
+    ) -> dotenvy::Result<(), A> {
+        let environment = self.environment(alloc.clone()?)?;
+        let mut entries = self.open(alloc)?;
+        let mut answer = Ok(());
+        for answered in entries.items(&environment) {
+            match answered {
+                Err(Error::Memory(refused)) => answer = Err(Error::Memory(refused)),
+                _ => {
+                    let text = item(*items.allocator(), &answered)?;
+                    items.push(text)?;
+                }
+            }
+        }
+        answer
+    }
+
+    // Loads into the environment of the names. Where memory was refused before there is one, that is the answer.
+    fn load<A: Allocator + Clone>(
+        &self,
+        environment: &mut Environment<A>,
+        alloc: A,
+        call: Call,
+    ) -> dotenvy::Result<(), A> {
+        match call {
+            Call::LoadOverride => self.open(alloc)?.load_override(environment),
+            _ => self.open(alloc)?.load(environment),
+        }
+    }
+
+    // What `list_with` answers; the text's own memory is that of `room`.
+    fn list<A: Allocator + Clone>(
+        &self,
+        alloc: A,
+        writer: &mut Plain<Vec<u8>>,
+    ) -> dotenvy::Result<(), A> {
+        dotenvy::list_with(alloc, Bytes::new(&self.bytes), writer, self.dialect)
+    }
+
+    // Makes the call, whatever it answers but refused memory.
+    fn make<A: Allocator + Clone>(
+        &self,
+        call: Call,
+        alloc: A,
+        room: Global,
+    ) -> dotenvy::Result<(), A> {
+        let answer = match call {
+            Call::Items => self.push_items(alloc, &mut Vec::new(room)),
+            Call::List => self.list(alloc, &mut Plain::new(Vec::new(room))),
+            Call::Load | Call::LoadOverride => {
+                let mut environment = self.environment(alloc.clone()?)?;
+                self.load(&mut environment, alloc, call)
+            }
+        };
+        match answer {
+            Err(Error::Memory(refused)) => Err(Error::Memory(refused)),
+            _ => Ok(()),
+        }
+    }
+}
+
+// Whether a request was refused: then the answer must be `Memory`, and else it must not.
+fn is_refused<T, A: Allocator>(
+    ration: &Rationed<Global>,
+    answer: &dotenvy::Result<T, A>,
+) -> Result<bool> {
+    let is_memory = matches!(answer, Err(Error::Memory(_)));
+    if is_memory != ration.has_refused() {
+        bail!("refused memory and the answer do not agree");
+    }
+    Ok(is_memory)
+}
+
+// As many of the texts as there are of the others, from the first on.
+fn front_of(
+    alloc: Global,
+    texts: &[String],
+    others: &[String],
+) -> std::result::Result<Vec<String>, AllocError> {
+    let mut front = Vec::new(alloc);
+    for (text, _) in texts.iter().zip(others) {
+        front.push(text.clone()?)?;
+    }
+    Ok(front)
+}
+
+/// The answers to a row of kind `refused_items`.
+pub fn items_answers(alloc: Global, fields: &[&str]) -> Result<Vec<Answer>> {
+    let [dialect, names, file, wanted] = fields else {
+        bail!("{} fields in place of 4", fields.len());
+    };
+    let file = File::parse(alloc, dialect, names, file)?;
+    let all = texts(alloc, wanted)?;
+    let mut answers = Vec::new(alloc);
+    for number in 1..MOST_REQUESTS {
+        let ration = Rationed::refusing(alloc, number);
+        let mut items = Vec::new(alloc);
+        let answer = file.push_items(&ration, &mut items);
+        if !is_refused(&ration, &answer)? {
+            push_answer(&mut answers, "items", "in all", wanted, items)?;
+            return Ok(answers);
+        }
+        let front = front_of(alloc, &all, &items)?;
+        push_compared(&mut answers, "items", "before a refusal", front, items)?;
+    }
+    bail!("each run met a refusal")
+}
+
+// The state that is the one left, or the last one.
+fn same_state(alloc: Global, states: &[&str], left: &Vec<String>) -> Result<Vec<String>> {
+    let mut wanted = Vec::new(alloc);
+    for state in states {
+        wanted = texts(alloc, state)?;
+        if wanted == *left {
+            return Ok(wanted);
+        }
+    }
+    Ok(wanted)
+}
+
+/// The answers to a row of kind `refused_load`.
+pub fn load_answers(alloc: Global, fields: &[&str]) -> Result<Vec<Answer>> {
+    let [name, dialect, names, file, wanted, states @ ..] = fields else {
+        bail!("{} fields in place of 6 and more", fields.len());
+    };
+    let load = call_named(name)?;
+    let file = File::parse(alloc, dialect, names, file)?;
+    let mut answers = Vec::new(alloc);
+    for number in 1..MOST_REQUESTS {
+        let ration = Rationed::refusing(alloc, number);
+        let before = file.environment(&ration);
+        if is_refused(&ration, &before)? {
+            continue;
+        }
+        let mut environment = before?;
+        let answered = file.load(&mut environment, &ration, load);
+        let left = pairs(alloc, &environment)?;
+        if !is_refused(&ration, &answered)? {
+            let got = vec![in alloc; answer(alloc, &answered)?]?;
+            push_answer(&mut answers, "load", "answered", wanted, got)?;
+            push_answer(
+                &mut answers,
+                "load",
+                "left",
+                states.last().unwrap_or(&""),
+                left,
+            )?;
+            return Ok(answers);
+        }
+        let state = same_state(alloc, states, &left)?;
+        push_compared(&mut answers, "load", "left at a refusal", state, left)?;
+    }
+    bail!("each run met a refusal")
+}
+
+/// The answers to a row of kind `refused_list`.
+pub fn list_answers(alloc: Global, fields: &[&str]) -> Result<Vec<Answer>> {
+    let [dialect, file, wanted] = fields else {
+        bail!("{} fields in place of 3", fields.len());
+    };
+    let file = File::parse(alloc, dialect, "", file)?;
+    let mut answers = Vec::new(alloc);
+    for number in 1..MOST_REQUESTS {
+        let ration = Rationed::refusing(alloc, number);
+        let mut writer = Plain::new(Vec::new(alloc));
+        let answered = file.list(&ration, &mut writer);
+        let got = written(alloc, &answered, writer.into_inner())?;
+        if !is_refused(&ration, &answered)? {
+            push_answer(&mut answers, "listing", "in all", wanted, got)?;
+            return Ok(answers);
+        }
+        push_answer(&mut answers, "listing", "at a refusal", "memory", got)?;
+    }
+    bail!("each run met a refusal")
+}
+
+// How many requests a call makes.
+fn requests_of(alloc: Global, call: Call, file: &File) -> Result<u64> {
+    for number in 1..MOST_REQUESTS {
+        let ration = Rationed::refusing(alloc, number);
+        let answer = file.make(call, &ration, alloc);
+        if !is_refused(&ration, &answer)? {
+            return Ok(number - 1);
+        }
+    }
+    bail!("each run met a refusal")
+}
+
+/// The answers to a row of kind `requests`.
+pub fn requests_answers(alloc: Global, fields: &[&str]) -> Result<Vec<Answer>> {
+    let [name, dialect, names, before, lines, wanted] = fields else {
+        bail!("{} fields in place of 6", fields.len());
+    };
+    let call = call_named(name)?;
+    let mut file = File::parse(alloc, dialect, names, before)?;
+    let alone = if before.is_empty() {
+        0
+    } else {
+        requests_of(alloc, call, &file)?
+    };
+    file.bytes.extend_from_slice(&bytes(alloc, lines)?)?;
+    let requests = requests_of(alloc, call, &file)?.saturating_sub(alone);
+    let got = vec![in alloc; requests.to_string(alloc)?]?;
+    let mut answers = Vec::new(alloc);
+    push_answer(&mut answers, "requests", "of the lines", wanted, got)?;
+    Ok(answers)
+}
