@@ -116,18 +116,23 @@ fn load_in_turn(
 fn load_each(rt: &(impl Abort + Files + Env + AllocGlobal)) -> std::result::Result<(), Fail> {
     let empty = Case {
         before: &[],
-        states: &["", "A=1;", "A=1;B=1;", "A=1;B=1;C=x;"],
+        states: &["", "A=1", "A=1; B=1", "A=1; B=1; C=x"],
     };
     load_in_turn(rt, &KEEPING, &empty)?;
     load_in_turn(rt, &REPLACING, &empty)?;
     let kept = Case {
         before: &[("A", "9"), ("D", "8")],
-        states: &["A=9;D=8;", "A=9;B=9;D=8;", "A=9;B=9;C=x;D=8;"],
+        states: &["A=9; D=8", "A=9; B=9; D=8", "A=9; B=9; C=x; D=8"],
     };
     load_in_turn(rt, &KEEPING, &kept)?;
     let replaced = Case {
         before: &[("A", "9"), ("D", "8")],
-        states: &["A=9;D=8;", "A=1;D=8;", "A=1;B=1;D=8;", "A=1;B=1;C=x;D=8;"],
+        states: &[
+            "A=9; D=8",
+            "A=1; D=8",
+            "A=1; B=1; D=8",
+            "A=1; B=1; C=x; D=8",
+        ],
     };
     load_in_turn(rt, &REPLACING, &replaced)
 }
@@ -167,7 +172,7 @@ fn open_each(rt: &(impl Abort + Files + Env + AllocGlobal)) -> std::result::Resu
     ] {
         refuse_in_turn(rt, rt.alloc(), |ration| {
             let opened = form.open(&(rt, ration));
-            items_of(rt, rt.alloc(), ration, opened, "A=1;B=1;C=x;")
+            items_of(rt, rt.alloc(), ration, opened, "A=1; B=1; C=x")
         })?;
     }
     Ok(())

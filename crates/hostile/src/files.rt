@@ -6,23 +6,25 @@ use std::alloc::{Allocator, Global};
 use std::process::Abort;
 use std::test::Fail;
 use support::Rationed;
+use support::answers::item;
 
-/// The items of a file, added to `items` as `A=1;B=1;C=x;`, up to a refusal. After them there are none.
+/// The items of a file, up to a refusal, are added to `items`. After them there are none.
 fn read_items<S: Source + Drop, A: Allocator + Clone>(
     rt: &impl Abort,
     alloc: A,
     opened: Result<Iter<S, A>, A>,
-    items: &mut String,
+    items: &mut Vec<String>,
 ) -> Result<(), A> {
     let mut environment = Environment::new(alloc);
     let mut entries = opened?;
     let mut answer = Ok(());
-    for item in entries.items(&environment) {
-        match item {
-            Ok((key, value)) => write!(items, "{key}={value};")?,
-            Err(Error::LineParse(text, place)) => write!(items, "{text} at {place};")?,
-            Err(Error::Io(fault)) => write!(items, "{:?};", fault.kind())?,
-            Err(error) => answer = Err(error),
+    for answered in entries.items(&environment) {
+        match answered {
+            Err(Error::Memory(refused)) => answer = Err(Error::Memory(refused)),
+            _ => {
+                let text = item(*items.allocator(), &answered)?;
+                items.push(text)?;
+            }
         }
     }
     assert!(rt; entries.next_item(&environment).is_none());
@@ -40,8 +42,9 @@ pub fn items_of<'a, S: Source + Drop>(
     opened: Result<Iter<S, &'a Rationed<Global>>, &'a Rationed<Global>>,
     wanted: &str,
 ) -> std::result::Result<bool, Fail> {
-    let mut items = String::new(alloc);
+    let mut items = Vec::new(alloc);
     let answer = read_items(rt, ration, opened, &mut items);
+    let items = items.join(alloc, "; ")?;
     let is_done = is_done(rt, ration, &answer);
     if is_done {
         assert_eq!(rt; items.as_str(), wanted);

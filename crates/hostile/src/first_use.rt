@@ -10,14 +10,15 @@ use std::fs::Files;
 use std::process::Abort;
 use std::test::Fail;
 use support::Rationed;
+use support::answers::fault;
 
 /// What the whole of `.env` leaves in an empty environment.
-const WHOLE: &str = "A=1;B=1;C=x;";
+const WHOLE: &str = "A=1; B=1; C=x";
 
 /// What stands before its load, and after each of its items.
-const STATES: [&str; 4] = ["", "A=1;", "A=1;B=1;", WHOLE];
+const STATES: [&str; 4] = ["", "A=1", "A=1; B=1", WHOLE];
 
-const NOT_PRESENT: &str = "environment variable not found";
+const NOT_PRESENT: &str = "absent";
 
 /// A use of an environment.
 #[derive(Clone, Copy)]
@@ -27,34 +28,37 @@ enum Use<'a> {
 }
 
 impl Use<'_> {
-    /// The value, or the names and values as `A=1;B=2;`. The text's own memory is that of `alloc`.
+    /// The value, or the names and values as `A=1; B=2`. The text's own memory is that of `alloc`.
     fn make<A: Allocator + Clone, R: Files + Env + Alloc<A = A>>(
         self,
         rt: &R,
         alloc: Global,
         environment: &mut Environment<A>,
     ) -> Result<String, A> {
-        let mut text = String::new(alloc);
+        let mut texts: Vec<String> = Vec::new(alloc);
         match self {
-            Use::Var(name) => text.push_str(dotenvy::var(rt, environment, name)?.as_str())?,
+            Use::Var(name) => {
+                let value = dotenvy::var(rt, environment, name)?;
+                texts.push(String::from_str(alloc, value.as_str())?)?;
+            }
             Use::Vars => {
                 for (name, value) in dotenvy::vars(rt, environment)? {
-                    write!(text, "{name}={value};")?;
+                    texts.push(format!(in alloc; "{name}={value}")?)?;
                 }
             }
         }
-        Ok(text)
+        Ok(texts.join(alloc, "; ")?)
     }
 }
 
-/// What a use answers: the text that it gives, or what its error prints.
+/// What a use answers: the text that it gives, or the fault.
 fn spelled<A: Allocator>(
     alloc: Global,
     answer: Result<String, A>,
 ) -> std::result::Result<String, AllocError> {
     match answer {
         Ok(text) => Ok(text),
-        Err(error) => error.to_string(alloc),
+        Err(error) => fault(alloc, &error),
     }
 }
 
@@ -143,7 +147,7 @@ fn uses_again(
     assert!(rt; environment.loaded());
     let answer = again.make(&(rt, ration), alloc, &mut environment);
     assert!(rt; environment.loaded());
-    assert_eq!(rt; shown(alloc, &environment)?.as_str(), "K=7;");
+    assert_eq!(rt; shown(alloc, &environment)?.as_str(), "K=7");
     if is_refused(rt, ration, &answer) {
         *copies_refused = copies_refused.saturating_add(1);
         return Ok(false);
@@ -158,7 +162,7 @@ fn use_again_in_turn(
     for (again, wanted, is_copied) in [
         (Use::Var("K"), "7", true),
         (Use::Var("Z"), NOT_PRESENT, false),
-        (Use::Vars, "K=7;", true),
+        (Use::Vars, "K=7", true),
     ] {
         let mut copies_refused = 0u64;
         refuse_in_turn(rt, rt.alloc(), |ration| {

@@ -12,6 +12,7 @@ use std::process::Abort;
 use std::test::Fail;
 use std::{env, fs};
 use support::Rationed;
+use support::answers::fault;
 
 /// A call that adds a layer.
 #[derive(Clone, Copy)]
@@ -52,8 +53,7 @@ fn spelled<A: Allocator>(
             let below = path.as_str().strip_prefix(here.as_str());
             Ok(String::from_str(alloc, below.ok_or("elsewhere")?)?)
         }
-        Err(error) if error.not_found() => Ok(String::from_str(alloc, "not found")?),
-        Err(error) => Ok(error.to_string(alloc)?),
+        Err(error) => Ok(fault(alloc, &error)?),
     }
 }
 
@@ -61,7 +61,7 @@ fn spelled<A: Allocator>(
 const BEFORE: [(&str, &str); 2] = [("A", "9"), ("D", "8")];
 
 /// What stands after a call that adds nothing.
-const UNCHANGED: &str = "A=9;D=8;";
+const UNCHANGED: &str = "A=9; D=8";
 
 /// A call, and what it answers and leaves where nothing is refused.
 #[derive(Drop)]
@@ -110,11 +110,11 @@ fn add_in_turn(
     Ok(())
 }
 
-/// What the fault of a line prints.
-const BAD_LINE: &str = "Error parsing line: '.Z=2', error at line index: 0";
+/// The fault of a line.
+const BAD_LINE: &str = "fault at 0: .Z=2";
 
-/// What the fault of a value prints that only the second dialect reads.
-const BAD_QUOTES: &str = "Error parsing line: '\"$A\"', error at line index: 3";
+/// The fault of a value that only the second dialect reads.
+const BAD_QUOTES: &str = "fault at 3: \"$A\"";
 
 #[test]
 fn add(rt: HostRuntime) -> std::result::Result<(), Fail> {
@@ -122,11 +122,11 @@ fn add(rt: HostRuntime) -> std::result::Result<(), Fail> {
     let marked = b"\xef\xbb\xbfA=1\nB=$A\n";
     let bad = b"A=1\nY=2\n.Z=2\n";
     let nul = b"A=1\nE=\"x\0y\"\n";
-    let bad_value = "value of 'E' contains a NUL";
+    let bad_value = "nul E";
     let rows: [(&[u8], Mode, &str, &str); 7] = [
-        (file, Mode::Keep, "ok", "A=9;B=9;C=x;D=8;"),
-        (file, Mode::Override, "ok", "A=1;B=1;C=x;D=8;"),
-        (marked, Mode::Override, "ok", "A=1;B=1;D=8;"),
+        (file, Mode::Keep, "ok", "A=9; B=9; C=x; D=8"),
+        (file, Mode::Override, "ok", "A=1; B=1; C=x; D=8"),
+        (marked, Mode::Override, "ok", "A=1; B=1; D=8"),
         (bad, Mode::Keep, BAD_LINE, UNCHANGED),
         (bad, Mode::Override, BAD_LINE, UNCHANGED),
         (nul, Mode::Keep, bad_value, UNCHANGED),
@@ -147,11 +147,16 @@ fn add_each_file(rt: &(impl Abort + Files + Env + AllocGlobal)) -> std::result::
     fs::write(rt, "bad.env", "A=1\nY=2\n.Z=2\n")?;
     fs::write(rt, "quoted.env", "K=\"$A\"\n")?;
     for (file, dialect, answer, after) in [
-        (".env", Dialect::V15, "/.env", "A=9;B=9;C=x;D=8;"),
-        ("quoted.env", Dialect::Next, "/quoted.env", "A=9;D=8;K=9;"),
+        (".env", Dialect::V15, "/.env", "A=9; B=9; C=x; D=8"),
+        ("quoted.env", Dialect::Next, "/quoted.env", "A=9; D=8; K=9"),
         ("quoted.env", Dialect::V15, BAD_QUOTES, UNCHANGED),
         ("bad.env", Dialect::V15, BAD_LINE, UNCHANGED),
-        ("hostile_absent.env", Dialect::Next, "not found", UNCHANGED),
+        (
+            "hostile_absent.env",
+            Dialect::Next,
+            "io NotFound",
+            UNCHANGED,
+        ),
     ] {
         let case = Case {
             call: Call::AddFile(file, dialect),

@@ -39,7 +39,7 @@ fn from_process(rt: HostRuntime) -> Result<(), Fail> {
     let process = Process {
         entries: &[b"A=1", long.as_bytes(), b"\xff=2", b"A=3", b"B=="],
     };
-    let wanted = format!(in alloc; "A=1;B==;{long};")?;
+    let wanted = format!(in alloc; "A=1; B==; {long}")?;
     refuse_in_turn(&rt, alloc, |ration| {
         let answer = Environment::from_process(&(&process, ration));
         if let Ok(environment) = &answer {

@@ -5,6 +5,7 @@ use std::alloc::{AllocError, Allocator, Global};
 use std::process::Abort;
 use std::test::Fail;
 use support::Rationed;
+use support::answers::pairs;
 
 /// More requests than any call of these tests makes.
 pub const MOST_REQUESTS: u64 = 200;
@@ -72,14 +73,10 @@ pub fn environment_of<A: Allocator + Clone>(
     Environment::from_pairs(alloc, list)
 }
 
-/// The names and values, as `A=1;B=2;`.
+/// The names and values, as `A=1; B=2`.
 pub fn shown<A: Allocator>(
     alloc: Global,
     environment: &Environment<A>,
 ) -> std::result::Result<String, AllocError> {
-    let mut text = String::new(alloc);
-    for (name, value) in environment.iter() {
-        write!(text, "{name}={value};")?;
-    }
-    Ok(text)
+    pairs(alloc, environment)?.join(alloc, "; ")
 }

@@ -37,7 +37,7 @@ fn is_told<R: AllocGlobal + Print>(rt: &R, line: &str) -> Result<bool> {
 }
 
 /// The row with this in place of one of its fields.
-fn with_field(alloc: Global, line: &str, place: usize, other: &str) -> Result<String> {
+fn with_field<'a>(alloc: Global, line: &'a str, place: usize, other: &'a str) -> Result<String> {
     let mut fields: Vec<&str> = line.split('|').collect(alloc)?;
     if let Some(field) = fields.get_mut(place) {
         *field = other;

@@ -70,16 +70,16 @@ mod tests {
         let alloc = rt.alloc();
         let two = environment(alloc, &[("A", "1"), ("not a key", "")])?;
         let copy = copied(alloc, &two)?;
-        assert_eq!(rt; pairs(alloc, &copy)?.as_str(), "A=1, not a key=");
+        assert_eq!(rt; pairs(alloc, &copy)?.as_str(), "A=1; not a key=");
 
         let mut set = environment(alloc, &[("A", "0"), ("B", "2")])?;
         set_all(alloc, &mut set, &two)?;
-        assert_eq!(rt; pairs(alloc, &set)?.as_str(), "A=1, B=2, not a key=");
+        assert_eq!(rt; pairs(alloc, &set)?.as_str(), "A=1; B=2; not a key=");
 
         let mut vars_set = Environment::new(alloc);
         let runtime = PlayedRuntime::new(rt, "/nowhere");
         set_vars(&mut vars_set, vars(&runtime, &mut copied(alloc, &two)?)?)?;
-        assert_eq!(rt; pairs(alloc, &vars_set)?.as_str(), "A=1, not a key=");
+        assert_eq!(rt; pairs(alloc, &vars_set)?.as_str(), "A=1; not a key=");
         Ok(())
     }
 
@@ -95,7 +95,7 @@ mod tests {
             );
         }
         set_items(alloc, &mut set, b"B=$A\nC=$B\n", &Environment::new(alloc))?;
-        assert_eq!(rt; pairs(alloc, &set)?.as_str(), "A=1, B=, C=");
+        assert_eq!(rt; pairs(alloc, &set)?.as_str(), "A=1; B=; C=");
         Ok(())
     }
 }

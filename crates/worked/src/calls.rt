@@ -1,6 +1,6 @@
 //! The calls that load a file, open it, or load it at their first use.
 
-use crate::shown::{environment, fault, pairs_of, state};
+use crate::shown::{environment, pairs_of, state};
 use dotenvy::{
     Dialect, Environment, Error, Plain, Result, dotenv, dotenv_iter, dotenv_override,
     from_filename, from_filename_iter, from_filename_override, from_filename_with, from_path,
@@ -12,6 +12,7 @@ use std::fs::{File, Files};
 use std::mem;
 use std::path::{Path, PathBuf};
 use std::test::Fail;
+use support::answers::fault;
 
 /// A file that declares one name twice, and one that [`BEFORE`] has.
 pub const FILE: &str = "TESTKEY=test_val\nTESTKEY=test_val_overridden\nEXISTING=from_file\n";
@@ -20,10 +21,10 @@ pub const FILE: &str = "TESTKEY=test_val\nTESTKEY=test_val_overridden\nEXISTING=
 pub const BEFORE: [(&str, &str); 1] = [("EXISTING", "from_env")];
 
 /// What a call leaves that keeps names.
-pub const KEPT: &str = "EXISTING=from_env, TESTKEY=test_val";
+pub const KEPT: &str = "EXISTING=from_env; TESTKEY=test_val";
 
 /// What a call leaves that replaces them.
-pub const REPLACED: &str = "EXISTING=from_file, TESTKEY=test_val_overridden";
+pub const REPLACED: &str = "EXISTING=from_file; TESTKEY=test_val_overridden";
 
 /// A call that loads a file or opens it. What it opens is loaded by `load`; what a reader needs is opened before.
 #[derive(Clone, Copy, Debug)]
@@ -46,7 +47,7 @@ pub enum Call {
 }
 
 impl Call {
-    /// What the call answers and leaves of these names and values: `PATH: A=1, B=2`, with `ok` where it
+    /// What the call answers and leaves of these names and values: `PATH: A=1; B=2`, with `ok` where it
     /// answers no path, or the fault. `file` is for those that take a path or a name.
     pub fn shown<R: Files + Env + AllocGlobal>(
         self,
@@ -138,7 +139,7 @@ fn add_file<R: Files + Env + AllocGlobal>(
     answer
 }
 
-/// What `var` answers and leaves, as `1: X=1, and the mark`.
+/// What `var` answers and leaves, as `1: X=1; and the mark`.
 pub fn var_shown<R: Files + Env + AllocGlobal>(
     rt: &R,
     environment: &mut Environment,
@@ -153,7 +154,7 @@ pub fn var_shown<R: Files + Env + AllocGlobal>(
     Ok(format!(in alloc; "{answer}: {state}")?)
 }
 
-/// What `vars` answers and leaves, as `X=1, Y=2: X=1, Y=2, and the mark`.
+/// What `vars` answers and leaves, as `X=1; Y=2: X=1; Y=2; and the mark`.
 pub fn vars_shown<R: Files + Env + AllocGlobal>(
     rt: &R,
     environment: &mut Environment,

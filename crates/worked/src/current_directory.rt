@@ -58,7 +58,7 @@ fn the_default_name(rt: HostRuntime) -> Result<(), Fail> {
     let want = format!(in alloc;
         "{path}: {KEPT}\n{path}: {REPLACED}\nok: {KEPT}\n\
          {path}: {KEPT}\n{path}: {REPLACED}\nok: {KEPT}\n\
-         test_val: {KEPT}, and the mark\n{KEPT}: {KEPT}, and the mark"
+         test_val: {KEPT}; and the mark\n{KEPT}: {KEPT}; and the mark"
     )?;
     assert_eq!(rt; shown.as_str(), want.as_str());
     Ok(())

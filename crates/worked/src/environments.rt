@@ -1,9 +1,10 @@
 //! Environments and their names.
 
 use crate::runtime::PlayedRuntime;
-use crate::shown::{answer, environment, pairs};
+use crate::shown::{environment, pairs};
 use dotenvy::{Bytes, Dialect, Environment, Iter, is_key, is_name, vars};
 use std::test::Fail;
+use support::answers::answer;
 
 #[test]
 fn pairs_that_are_passed_by(rt: HostRuntime) -> Result<(), Fail> {
@@ -19,10 +20,10 @@ fn pairs_that_are_passed_by(rt: HostRuntime) -> Result<(), Fail> {
         ("C", "x\0y"),
     ];
     let environment = environment(alloc, &list)?;
-    assert_eq!(rt; pairs(alloc, &environment)?.as_str(), "A=, B=1, é=5");
+    assert_eq!(rt; pairs(alloc, &environment)?.as_str(), "A=; B=1; é=5");
     assert!(rt; !environment.loaded());
     let copy = environment.try_clone()?;
-    assert_eq!(rt; pairs(alloc, &copy)?.as_str(), "A=, B=1, é=5");
+    assert_eq!(rt; pairs(alloc, &copy)?.as_str(), "A=; B=1; é=5");
     Ok(())
 }
 
@@ -31,15 +32,15 @@ fn names_are_set_and_replaced(rt: HostRuntime) -> Result<(), Fail> {
     let alloc = rt.alloc();
     let mut environment = Environment::new(alloc);
     for (value, want, names) in [
-        ("x\0y", "value of 'A' contains a NUL", ""),
+        ("x\0y", "nul A", ""),
         ("1", "ok", "A=1"),
         ("", "ok", "A="),
         ("2", "ok", "A=2"),
-        ("\0", "value of 'A' contains a NUL", "A=2"),
+        ("\0", "nul A", "A=2"),
     ] {
         let key = String::from_str(alloc, "A")?;
         let set = environment.set(key, String::from_str(alloc, value)?);
-        assert_eq!(rt; answer(alloc, set)?.as_str(), want, "at {value:?}");
+        assert_eq!(rt; answer(alloc, &set)?.as_str(), want, "at {value:?}");
         assert_eq!(rt; pairs(alloc, &environment)?.as_str(), names, "at {value:?}");
     }
     assert!(rt; environment.len() == 1 && environment.contains("A"));

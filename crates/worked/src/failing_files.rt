@@ -52,7 +52,7 @@ fn faults_of_the_system(rt: HostRuntime) -> Result<(), Fail> {
     for (kind, want) in [
         (ErrorKind::NotFound, "io NotFound: A=1"),
         (ErrorKind::PermissionDenied, "io PermissionDenied: A=1"),
-        (ErrorKind::OutOfMemory, "out of memory: A=1"),
+        (ErrorKind::OutOfMemory, "memory: A=1"),
     ] {
         let lost = PlayedRuntime {
             directory: Err(kind),

@@ -269,7 +269,7 @@ fn an_interruption_is_no_answer(rt: HostRuntime) -> std::result::Result<(), Fail
         io::Error::from_raw_os_error(4),
     ] {
         let [load, load_override, list] = calls_over(alloc, fault)?;
-        assert_eq!(rt; load.as_str(), "no fault: A=1, B=2, C=3", "{fault:?}");
+        assert_eq!(rt; load.as_str(), "no fault: A=1; B=2; C=3", "{fault:?}");
         assert_eq!(rt; load_override.as_str(), load.as_str(), "{fault:?}");
         assert_eq!(rt; list.as_str(), "no fault: 18", "{fault:?}");
         for room in 0..6usize {

@@ -42,7 +42,7 @@ fn calls_that_keep_and_calls_that_replace(rt: HostRuntime) -> Result<(), Fail> {
 fn long_value(alloc: Global) -> Result<(String, String), Fail> {
     let value = "value ".repeat(alloc, 5_000)?;
     let text = format!(in alloc; "A='{value}'\nB=2")?;
-    let want = format!(in alloc; "ok: A={value}, B=2")?;
+    let want = format!(in alloc; "ok: A={value}; B=2")?;
     Ok((text, want))
 }
 
@@ -55,7 +55,7 @@ fn what_a_file_may_hold(rt: HostRuntime) -> Result<(), Fail> {
         (b"", "ok: "),
         (b"A=1", "ok: A=1"),
         (b"\xef\xbb\xbfTESTKEY=test_val", "ok: TESTKEY=test_val"),
-        (b"A=1\r\nB=\"x\r\ny\"\r\n", "ok: A=1, B=x\r\ny"),
+        (b"A=1\r\nB=\"x\r\ny\"\r\n", "ok: A=1; B=x\r\ny"),
         (b"A=1\n.B=2\nC=3\n", "fault at 0: .B=2: A=1"),
         (b"A=1\nB=\xff\nC=3\n", "io InvalidData: A=1"),
         (text.as_bytes(), want.as_str()),
@@ -113,7 +113,7 @@ fn a_file_in_both_dialects(rt: HostRuntime) -> Result<(), Fail> {
     let folder = Folder::new(rt, "worked_files_dialects")?;
     folder.write("quoted.env", b"K=\"$A\"\n")?;
     let path = folder.path("quoted.env")?;
-    let next = format!(in rt.alloc(); "{}: A=1, K=1", path.as_str())?;
+    let next = format!(in rt.alloc(); "{}: A=1; K=1", path.as_str())?;
     for (call, want) in [
         (Call::FromFilename, "fault at 3: \"$A\": A=1"),
         (Call::FromFilenameOverride, "fault at 3: \"$A\": A=1"),

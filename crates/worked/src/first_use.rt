@@ -15,23 +15,17 @@ fn a_fault_of_the_first_load_is_passed_by(rt: HostRuntime) -> Result<(), Fail> {
     let runtime = PlayedRuntime::new(rt, folder.as_str());
     let mut environment = environment(rt.alloc(), &[("W", "0")])?;
     for (key, want) in [
-        ("X", "1: W=0, X=1, and the mark"),
-        ("W", "0: W=0, X=1, and the mark"),
-        (
-            "Z",
-            "environment variable not found: W=0, X=1, and the mark",
-        ),
-        ("", "environment variable not found: W=0, X=1, and the mark"),
-        (
-            "X=1",
-            "environment variable not found: W=0, X=1, and the mark",
-        ),
+        ("X", "1: W=0; X=1; and the mark"),
+        ("W", "0: W=0; X=1; and the mark"),
+        ("Z", "absent: W=0; X=1; and the mark"),
+        ("", "absent: W=0; X=1; and the mark"),
+        ("X=1", "absent: W=0; X=1; and the mark"),
     ] {
         let shown = var_shown(&runtime, &mut environment, key)?;
         assert_eq!(rt; shown.as_str(), want, "of {key:?}");
     }
     let shown = vars_shown(&runtime, &mut environment)?;
-    assert_eq!(rt; shown.as_str(), "W=0, X=1: W=0, X=1, and the mark");
+    assert_eq!(rt; shown.as_str(), "W=0; X=1: W=0; X=1; and the mark");
     folder.remove()?;
     Ok(())
 }
@@ -46,19 +40,16 @@ fn the_file_is_loaded_once(rt: HostRuntime) -> Result<(), Fail> {
         folder.write(".env", b"A=1\nB=1\n")?;
         if begins_with_vars {
             let shown = vars_shown(&runtime, &mut environment)?;
-            assert_eq!(rt; shown.as_str(), "A=1, B=0: A=1, B=0, and the mark");
+            assert_eq!(rt; shown.as_str(), "A=1; B=0: A=1; B=0; and the mark");
         } else {
             let shown = var_shown(&runtime, &mut environment, "A")?;
-            assert_eq!(rt; shown.as_str(), "1: A=1, B=0, and the mark");
+            assert_eq!(rt; shown.as_str(), "1: A=1; B=0; and the mark");
         }
         folder.write(".env", b"A=2\nC=3\n")?;
         let shown = var_shown(&runtime, &mut environment, "C")?;
-        assert_eq!(rt;
-            shown.as_str(),
-            "environment variable not found: A=1, B=0, and the mark"
-        );
+        assert_eq!(rt; shown.as_str(), "absent: A=1; B=0; and the mark");
         let shown = vars_shown(&runtime, &mut environment)?;
-        assert_eq!(rt; shown.as_str(), "A=1, B=0: A=1, B=0, and the mark");
+        assert_eq!(rt; shown.as_str(), "A=1; B=0: A=1; B=0; and the mark");
     }
     folder.remove()?;
     Ok(())
@@ -76,11 +67,11 @@ fn vars_are_a_snapshot_in_byte_order(rt: HostRuntime) -> Result<(), Fail> {
     environment.set(key, String::from_str(alloc, "new")?)?;
     assert_eq!(rt;
         pairs_of(alloc, snapshot)?.as_str(),
-        "A=1, A_=3, B=2, b=4, \u{e9}=6"
+        "A=1; A_=3; B=2; b=4; \u{e9}=6"
     );
     assert_eq!(rt;
         state(alloc, &environment)?.as_str(),
-        "A=new, A_=3, B=2, b=4, \u{e9}=6, and the mark"
+        "A=new; A_=3; B=2; b=4; \u{e9}=6; and the mark"
     );
     folder.remove()?;
     Ok(())
@@ -97,12 +88,12 @@ fn a_load_of_the_file_is_no_first_use(rt: HostRuntime) -> Result<(), Fail> {
     assert_eq!(rt; state(alloc, &environment)?.as_str(), "A=1");
     folder.write(".env", b"A=2\nB=2\n")?;
     let shown = var_shown(&runtime, &mut environment, "B")?;
-    assert_eq!(rt; shown.as_str(), "2: A=1, B=2, and the mark");
+    assert_eq!(rt; shown.as_str(), "2: A=1; B=2; and the mark");
     folder.write(".env", b"C=3\n")?;
     dotenvy::dotenv(&runtime, &mut environment)?;
     assert_eq!(rt;
         state(alloc, &environment)?.as_str(),
-        "A=1, B=2, C=3, and the mark"
+        "A=1; B=2; C=3; and the mark"
     );
     folder.remove()?;
     Ok(())
@@ -123,14 +114,11 @@ fn first_uses_that_load_nothing(rt: HostRuntime) -> Result<(), Fail> {
     let folder = Folder::new(rt, "worked_first_nothing")?;
     folder.write(".env", b"B=2\n")?;
     let runtime = PlayedRuntime::new(rt, folder.as_str());
-    let passed_by = "1: A=1, and the mark | A=1: A=1, and the mark";
+    let passed_by = "1: A=1; and the mark | A=1: A=1; and the mark";
     for (kind, want) in [
         (ErrorKind::NotFound, passed_by),
         (ErrorKind::PermissionDenied, passed_by),
-        (
-            ErrorKind::OutOfMemory,
-            "out of memory: A=1 | out of memory: A=1",
-        ),
+        (ErrorKind::OutOfMemory, "memory: A=1 | memory: A=1"),
     ] {
         let lost = PlayedRuntime {
             directory: Err(kind),
@@ -172,10 +160,10 @@ fn a_use_after_refused_memory_loads(rt: HostRuntime) -> Result<(), Fail> {
     };
     let mut environment = environment(rt.alloc(), &[("A", "1")])?;
     for (runtime, want) in [
-        (refusing, "out of memory: A=1"),
-        (refusing, "out of memory: A=1"),
-        (runtime, "2: A=1, B=2, and the mark"),
-        (refusing, "2: A=1, B=2, and the mark"),
+        (refusing, "memory: A=1"),
+        (refusing, "memory: A=1"),
+        (runtime, "2: A=1; B=2; and the mark"),
+        (refusing, "2: A=1; B=2; and the mark"),
     ] {
         let shown = var_shown(&runtime, &mut environment, "B")?;
         assert_eq!(rt; shown.as_str(), want);

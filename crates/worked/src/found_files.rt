@@ -35,14 +35,14 @@ fn searched_folder(rt: HostRuntime, name: &str) -> io::Result<Folder> {
 fn files_and_links_to_files_are_found(rt: HostRuntime) -> Result<(), Fail> {
     let folder = searched_folder(rt, "worked_found_files")?;
     for (below, found, state) in [
-        ("file", "file/.env", "A=1, V=below"),
-        ("link", "link/.env", "A=1, V=other"),
-        ("empty", ".env", "A=1, V=above"),
-        ("folder", ".env", "A=1, V=above"),
-        ("folder/.env", ".env", "A=1, V=above"),
-        ("link_to_folder", ".env", "A=1, V=above"),
-        ("broken", ".env", "A=1, V=above"),
-        ("gone/since", ".env", "A=1, V=above"),
+        ("file", "file/.env", "A=1; V=below"),
+        ("link", "link/.env", "A=1; V=other"),
+        ("empty", ".env", "A=1; V=above"),
+        ("folder", ".env", "A=1; V=above"),
+        ("folder/.env", ".env", "A=1; V=above"),
+        ("link_to_folder", ".env", "A=1; V=above"),
+        ("broken", ".env", "A=1; V=above"),
+        ("gone/since", ".env", "A=1; V=above"),
     ] {
         let directory = folder.path(below)?;
         let runtime = PlayedRuntime::new(rt, directory.as_str());
@@ -90,7 +90,7 @@ fn each_call_searches_upward(rt: HostRuntime) -> Result<(), Fail> {
         (Call::DotenvIter, "ok"),
     ] {
         let shown = call.shown(&runtime, ".env", &[("A", "1")])?;
-        let want = format!(in rt.alloc(); "{answer}: A=1, V=above")?;
+        let want = format!(in rt.alloc(); "{answer}: A=1; V=above")?;
         assert_eq!(rt; shown.as_str(), want.as_str(), "{call:?}");
     }
     folder.remove()?;

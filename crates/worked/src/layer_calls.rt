@@ -1,11 +1,12 @@
 //! The calls on layers, what they answer, and what stands after them.
 
-use crate::shown::{answer, state};
+use crate::shown::state;
 use dotenvy::Bytes;
 use env_layers::{Layers, Mode};
 use std::alloc::{AllocError, Global};
 use std::process::Abort;
 use std::test::Fail;
+use support::answers::answer;
 
 /// The names and values of the layers, and the mark where it is set, with the layers again.
 pub fn state_of(alloc: Global, layers: Layers) -> Result<(String, Layers), AllocError> {
@@ -26,7 +27,7 @@ pub fn add_in_turn(
 ) -> Result<Layers, Fail> {
     let mut layers = layers;
     for (mode, input, want) in rows {
-        let answer = answer(alloc, layers.add(alloc, Bytes::new(input), *mode))?;
+        let answer = answer(alloc, &layers.add(alloc, Bytes::new(input), *mode))?;
         let (state, same) = state_of(alloc, layers)?;
         layers = same;
         let shown = format!(in alloc; "{answer}: {state}")?;

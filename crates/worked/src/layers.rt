@@ -20,11 +20,11 @@ fn required_names(rt: HostRuntime) -> Result<(), Fail> {
     };
     let layers = Layers::new(Environment::from_process(&runtime)?);
     let added: [Row; 2] = [
-        (Mode::Keep, b"A=1\nB=$A\n", "ok: A=0, B=0, E="),
+        (Mode::Keep, b"A=1\nB=$A\n", "ok: A=0; B=0; E="),
         (
             Mode::Override,
             b"C=1\n.B=1\n",
-            "fault at 0: .B=1: A=0, B=0, E=",
+            "fault at 0: .B=1: A=0; B=0; E=",
         ),
     ];
     let layers = add_in_turn(&rt, alloc, layers, &added)?;
@@ -58,31 +58,28 @@ fn a_mark_that_is_set_stays(rt: HostRuntime) -> Result<(), Fail> {
     let runtime = PlayedRuntime::new(rt, folder.as_str());
     let mut environment = environment(alloc, &[("A", "0")])?;
     let shown = vars_shown(&runtime, &mut environment)?;
-    assert_eq!(rt; shown.as_str(), "A=0, L=1: A=0, L=1, and the mark");
+    assert_eq!(rt; shown.as_str(), "A=0; L=1: A=0; L=1; and the mark");
     folder.write(".env", b"M=$L\n")?;
     folder.write("layer.env", b"B=9\nC=$L\n")?;
     let rows: [Row; 3] = [
         (
             Mode::Keep,
             b"A=1\nB=$L\n",
-            "ok: A=0, B=1, L=1, and the mark",
+            "ok: A=0; B=1; L=1; and the mark",
         ),
         (
             Mode::Override,
             b"A=1\n.B=2\n",
-            "fault at 0: .B=2: A=0, B=1, L=1, and the mark",
+            "fault at 0: .B=2: A=0; B=1; L=1; and the mark",
         ),
-        (Mode::Override, b"A=2\n", "ok: A=2, B=1, L=1, and the mark"),
+        (Mode::Override, b"A=2\n", "ok: A=2; B=1; L=1; and the mark"),
     ];
     let mut layers = add_in_turn(&rt, alloc, Layers::new(environment), &rows)?;
     let path = layers.add_file(&runtime, Path::new("layer.env"), Dialect::V15)?;
     assert_eq!(rt; path.as_str(), folder.path("layer.env")?.as_str());
     let mut environment = layers.into_environment();
     let shown = var_shown(&runtime, &mut environment, "M")?;
-    assert_eq!(rt;
-        shown.as_str(),
-        "environment variable not found: A=2, B=1, C=1, L=1, and the mark"
-    );
+    assert_eq!(rt; shown.as_str(), "absent: A=2; B=1; C=1; L=1; and the mark");
     folder.remove()?;
     Ok(())
 }

@@ -10,14 +10,14 @@ use std::test::Fail;
 fn entries_that_count_and_entries_that_are_passed_by(rt: HostRuntime) -> Result<(), Fail> {
     let rows: [(&[u8], &str); 9] = [
         (b"", ""),
-        (b"B=2\0A=1\0A=3\0", "A=1, B=2"),
+        (b"B=2\0A=1\0A=3\0", "A=1; B=2"),
         (b"\0A\0A=1\0B\0", "A=1"),
         (b"=x\0=C=1\0A=1\0", "A=1"),
-        (b"A=\xff\0\xffB=1\0A=2\0B=3\0", "A=2, B=3"),
+        (b"A=\xff\0\xffB=1\0A=2\0B=3\0", "A=2; B=3"),
         (b"A=\0A=1\0", "A="),
-        (b"A=b=c\0B==\0C= x \0", "A=b=c, B==, C= x "),
+        (b"A=b=c\0B==\0C= x \0", "A=b=c; B==; C= x "),
         (b"\xc3\xa9=\xc3\xbc\0", "é=ü"),
-        (b"my name=1\0.x=line\nline\0", ".x=line\nline, my name=1"),
+        (b"my name=1\0.x=line\nline\0", ".x=line\nline; my name=1"),
     ];
     for (entries, want) in rows {
         let runtime = PlayedRuntime {
@@ -41,7 +41,7 @@ fn entries_of_each_length(rt: HostRuntime) -> Result<(), Fail> {
             ..PlayedRuntime::new(rt, "/")
         };
         let environment = Environment::from_process(&runtime)?;
-        let want = format!(in alloc; "A={value}, B=2")?;
+        let want = format!(in alloc; "A={value}; B=2")?;
         assert_eq!(rt; state(alloc, &environment)?.as_str(), want.as_str());
     }
     Ok(())
