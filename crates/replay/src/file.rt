@@ -2,7 +2,10 @@
 
 use crate::answer::{Answer, is_asked, push_answer};
 use anyhow::{Result, bail};
-use dotenvy::{Dialect, Environment, Iter, Plain, Source};
+use dotenvy::{
+    Dialect, Environment, Iter, Plain, Source, from_read, from_read_iter, from_read_override, list,
+    list_with,
+};
 use std::alloc::Global;
 use support::answers::{item, loaded, written};
 use support::notation::pairs;
@@ -29,7 +32,8 @@ pub fn environment(alloc: Global, field: &str) -> Result<Environment> {
     Ok(Environment::from_pairs(alloc, pairs(alloc, field)?)?)
 }
 
-// A file, and the environment under which it is read.
+// A file, and the environment under which it is read. In the first dialect the calls that are given none are made in whole
+// reads, and those that are given one otherwise.
 #[derive(Drop)]
 struct File<'a> {
     dialect: Dialect,
@@ -41,7 +45,10 @@ impl File<'_> {
     fn items(&self, alloc: Global, cut: Cut) -> Result<Vec<String>> {
         let environment = environment(alloc, self.environment)?;
         let reader = PlayedReader::new(&self.steps, cut);
-        let mut entries = Iter::with_dialect(alloc, reader, self.dialect)?;
+        let mut entries = match (self.dialect, cut) {
+            (Dialect::V15, Cut::Whole) => from_read_iter(alloc, reader)?,
+            _ => Iter::with_dialect(alloc, reader, self.dialect)?,
+        };
         let mut items = Vec::new(alloc);
         for answered in entries.items(&environment) {
             items.push(item(alloc, &answered)?)?;
@@ -55,16 +62,20 @@ impl File<'_> {
     fn load(&self, alloc: Global, cut: Cut) -> Result<Vec<String>> {
         let mut environment = environment(alloc, self.environment)?;
         let reader = PlayedReader::new(&self.steps, cut);
-        let answer = Iter::with_dialect(alloc, reader, self.dialect)?.load(&mut environment);
+        let answer = match (self.dialect, cut) {
+            (Dialect::V15, Cut::Whole) => from_read(alloc, reader, &mut environment),
+            _ => Iter::with_dialect(alloc, reader, self.dialect)?.load(&mut environment),
+        };
         Ok(loaded(alloc, &answer, &environment)?)
     }
 
     fn load_override(&self, alloc: Global, cut: Cut) -> Result<Vec<String>> {
         let mut environment = environment(alloc, self.environment)?;
         let reader = PlayedReader::new(&self.steps, cut);
-        let answer = Iter::with_dialect(alloc, reader, self.dialect)?.load_override(
-            &mut environment,
-        );
+        let answer = match (self.dialect, cut) {
+            (Dialect::V15, Cut::Whole) => from_read_override(alloc, reader, &mut environment),
+            _ => Iter::with_dialect(alloc, reader, self.dialect)?.load_override(&mut environment),
+        };
         Ok(loaded(alloc, &answer, &environment)?)
     }
 
@@ -73,14 +84,17 @@ impl File<'_> {
     }
 }
 
-/// What `list_with` answers and writes of a reader.
+/// What `list` answers and writes of a reader, and `list_with` in the second dialect.
 pub fn listing<R: Source + Drop>(
     alloc: Global,
     reader: R,
     dialect: Dialect,
 ) -> Result<Vec<String>> {
     let mut writer = Plain::new(Vec::new(alloc));
-    let answer = dotenvy::list_with(alloc, reader, &mut writer, dialect);
+    let answer = match dialect {
+        Dialect::V15 => list(alloc, reader, &mut writer),
+        Dialect::Next => list_with(alloc, reader, &mut writer, dialect),
+    };
     written(alloc, &answer, writer.into_inner())
 }
 

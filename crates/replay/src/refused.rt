@@ -19,6 +19,8 @@ enum Call {
     Items,
     Load,
     LoadOverride,
+    FromRead,
+    FromReadOverride,
     List,
 }
 
@@ -27,6 +29,8 @@ fn call_named(name: &str) -> Result<Call> {
         "items" => Ok(Call::Items),
         "load" => Ok(Call::Load),
         "load_override" => Ok(Call::LoadOverride),
+        "from_read" => Ok(Call::FromRead),
+        "from_read_override" => Ok(Call::FromReadOverride),
         "list" => Ok(Call::List),
         _ => bail!("no call is called {name}"),
     }
@@ -64,13 +68,14 @@ impl File {
         Iter::with_dialect(alloc, Bytes::new(&self.bytes), self.dialect)
     }
 
-    // Adds the items up to a refusal. After it there are none.
+    // Adds the items up to a refusal. After it there are none, and a load sets nothing.
     fn push_items<A: Allocator + Clone>(
         &self,
         alloc: A,
         items: &mut Vec<String>,
     ) -> dotenvy::Result<(), A> {
-        let environment = self.environment(alloc.clone()?)?;
+        let mut environment = self.environment(alloc.clone()?)?;
+        let before = environment.len();
         let mut entries = self.open(alloc)?;
         let mut answer = Ok(());
         for answered in entries.items(&environment) {
@@ -82,23 +87,30 @@ impl File {
                 }
             }
         }
+        let is_any = entries.next_item(&environment).is_some();
+        entries.load(&mut environment)?;
+        if is_any || environment.len() != before {
+            items.push(String::from_str(*items.allocator(), "more after the end")?)?;
+        }
         answer
     }
 
-    // Loads into the environment of the names. Where memory was refused before there is one, that is the answer.
+    // Loads into the environment, in the first dialect by the calls that are given none.
     fn load<A: Allocator + Clone>(
         &self,
         environment: &mut Environment<A>,
         alloc: A,
         call: Call,
     ) -> dotenvy::Result<(), A> {
+        let reader = Bytes::new(&self.bytes);
         match call {
             Call::LoadOverride => self.open(alloc)?.load_override(environment),
+            Call::FromRead => dotenvy::from_read(alloc, reader, environment),
+            Call::FromReadOverride => dotenvy::from_read_override(alloc, reader, environment),
             _ => self.open(alloc)?.load(environment),
         }
     }
 
-    // What `list_with` answers; the text's own memory is that of `room`.
     fn list<A: Allocator + Clone>(
         &self,
         alloc: A,
@@ -117,7 +129,7 @@ impl File {
         let answer = match call {
             Call::Items => self.push_items(alloc, &mut Vec::new(room)),
             Call::List => self.list(alloc, &mut Plain::new(Vec::new(room))),
-            Call::Load | Call::LoadOverride => {
+            _ => {
                 let mut environment = self.environment(alloc.clone()?)?;
                 self.load(&mut environment, alloc, call)
             }
