@@ -9,6 +9,7 @@ mod answer;
 mod counts;
 mod cut;
 mod file;
+mod kinds;
 mod layers;
 mod reads;
 mod refused;
@@ -20,35 +21,11 @@ mod written;
 use answer::{Answer, differences};
 use anyhow::{Context, Result, bail};
 use counts::Counts;
+use kinds::answers;
 use row::Row;
-use std::alloc::Global;
 use std::process::ExitCode;
 use std::rt::{Env, Files};
 use std::{env, fs};
-
-/// The answers to a row.
-fn answers(alloc: Global, row: &Row) -> Result<Vec<Answer>> {
-    let fields = row.fields.as_slice();
-    match row.kind {
-        "file" => file::answers(alloc, fields),
-        "used" => used::answers(alloc, fields),
-        "written" => written::written_answers(alloc, fields),
-        "pair" => written::pair_answers(alloc, fields),
-        "list" => written::list_answers(alloc, fields),
-        "writes" => written::writes_answers(alloc, fields),
-        "reads" => reads::answers(alloc, fields),
-        "first" => reads::first_answers(alloc, fields),
-        "search" => search::answers(alloc, fields),
-        "layers" => layers::answers(alloc, fields),
-        "cut" => cut::items_answers(alloc, fields),
-        "cut_load" => cut::load_answers(alloc, fields),
-        "refused_items" => refused::items_answers(alloc, fields),
-        "refused_load" => refused::load_answers(alloc, fields),
-        "refused_list" => refused::list_answers(alloc, fields),
-        "requests" => refused::requests_answers(alloc, fields),
-        _ => bail!("no kind of row is called {}", row.kind),
-    }
-}
 
 /// Prints each answer that is wrong, and tells whether there is one.
 fn differs<R: AllocGlobal + Print>(rt: &R, name: &str, answers: &[Answer]) -> Result<bool>
@@ -66,7 +43,10 @@ fn play_line<R: AllocGlobal + Print>(rt: &R, line: &str, counts: &mut Counts) ->
     let Some(row) = Row::parse(rt.alloc(), line)? else {
         return Ok(());
     };
-    let answers = answers(rt.alloc(), &row).context(format_args!("{}", row.name))?;
+    let answers = answers(rt.alloc(), row.kind, row.fields.as_slice()).context(format_args!(
+        "{}",
+        row.name
+    ))?;
     counts.add(differs(rt, row.name, &answers)?);
     Ok(())
 }
@@ -100,6 +80,3 @@ fn main(rt: HostRuntime) -> Result<ExitCode> {
     let status = if run(&rt)? { 0 } else { 1 };
     Ok(ExitCode::from(status))
 }
-
-#[cfg(test)]
-mod tests;
