@@ -3,11 +3,13 @@
 //! A read takes at most 8,192 bytes. A file is filled up with letters, so that the bytes under test are cut behind each
 //! number of them.
 
-use crate::answer::{Answer, push_answer};
+use crate::answer::push_answer;
 use anyhow::{Context, Result, bail};
+use comparison::Comparison;
 use dotenvy::{Bytes, Environment, Iter, Source};
 use std::alloc::{AllocError, Global};
-use support::answers::{item, loaded};
+use support::answers;
+use support::answers::{loaded, next_item};
 use support::notation::bytes;
 use support::reader::{Cut, PlayedReader, Step};
 
@@ -45,12 +47,8 @@ fn with_letters(
 }
 
 fn items<R: Source + Drop>(alloc: Global, reader: R) -> Result<Vec<String>> {
-    let environment = Environment::new(alloc);
-    let mut items = Vec::new(alloc);
-    for answered in Iter::new(alloc, reader)?.items(&environment) {
-        items.push(item(alloc, &answered)?)?;
-    }
-    Ok(items)
+    let mut entries = Iter::new(alloc, reader)?;
+    Ok(answers::items(alloc, &mut entries, &Environment::new(alloc))?)
 }
 
 fn items_by_byte(alloc: Global, file: Vec<u8>) -> Result<Vec<String>> {
@@ -59,7 +57,7 @@ fn items_by_byte(alloc: Global, file: Vec<u8>) -> Result<Vec<String>> {
 }
 
 /// The answers to a row of kind `cut`.
-pub fn items_answers(alloc: Global, fields: &[&str]) -> Result<Vec<Answer>> {
+pub fn items_answers(alloc: Global, fields: &[&str]) -> Result<Vec<Comparison>> {
     let [front, back, wanted] = fields else {
         bail!("{} fields in place of 3", fields.len());
     };
@@ -91,16 +89,16 @@ pub fn items_answers(alloc: Global, fields: &[&str]) -> Result<Vec<Answer>> {
 fn load_behind_an_item(alloc: Global, file: &[u8]) -> Result<Vec<String>> {
     let mut environment = Environment::new(alloc);
     let mut entries = Iter::new(alloc, Bytes::new(file))?;
-    let (key, _) = entries.next_item(&environment).context("no item")??;
-    if key.as_str() != "F" {
-        bail!("another item: {key}");
+    let first = next_item(alloc, &mut entries, &environment)?.context("no item")?;
+    if !first.starts_with("F=a") {
+        bail!("another item: {first}");
     }
     let answer = entries.load(&mut environment);
     Ok(loaded(alloc, &answer, &environment)?)
 }
 
 /// The answers to a row of kind `cut_load`.
-pub fn load_answers(alloc: Global, fields: &[&str]) -> Result<Vec<Answer>> {
+pub fn load_answers(alloc: Global, fields: &[&str]) -> Result<Vec<Comparison>> {
     let [back, wanted] = fields else {
         bail!("{} fields in place of 2", fields.len());
     };

@@ -1,13 +1,14 @@
 //! Rows of kind `file`: what a file gives in each way to read it.
 
-use crate::answer::{Answer, is_asked, push_answer};
+use crate::answer::{is_asked, push_answer};
 use anyhow::{Result, bail};
+use comparison::Comparison;
 use dotenvy::{
     Dialect, Environment, Iter, Plain, Source, from_read, from_read_iter, from_read_override, list,
     list_with,
 };
 use std::alloc::Global;
-use support::answers::{item, loaded, written};
+use support::answers::{items, loaded, next_item, written};
 use support::notation::pairs;
 use support::reader::{Cut, PlayedReader, Step, steps};
 
@@ -42,19 +43,20 @@ struct File<'a> {
 }
 
 impl File<'_> {
+    fn open(&self, alloc: Global, cut: Cut) -> dotenvy::Result<Iter<PlayedReader<'_>>> {
+        let reader = PlayedReader::new(&self.steps, cut);
+        match (self.dialect, cut) {
+            (Dialect::V15, Cut::Whole) => from_read_iter(alloc, reader),
+            _ => Iter::with_dialect(alloc, reader, self.dialect),
+        }
+    }
+
     fn items(&self, alloc: Global, cut: Cut) -> Result<Vec<String>> {
         let environment = environment(alloc, self.environment)?;
-        let reader = PlayedReader::new(&self.steps, cut);
-        let mut entries = match (self.dialect, cut) {
-            (Dialect::V15, Cut::Whole) => from_read_iter(alloc, reader)?,
-            _ => Iter::with_dialect(alloc, reader, self.dialect)?,
-        };
-        let mut items = Vec::new(alloc);
-        for answered in entries.items(&environment) {
-            items.push(item(alloc, &answered)?)?;
-        }
-        if entries.next_item(&environment).is_some() {
-            bail!("an item after the end");
+        let mut entries = self.open(alloc, cut)?;
+        let items = items(alloc, &mut entries, &environment)?;
+        if let Some(item) = next_item(alloc, &mut entries, &environment)? {
+            bail!("an item after the end: {item}");
         }
         Ok(items)
     }
@@ -99,7 +101,7 @@ pub fn listing<R: Source + Drop>(
 }
 
 /// The answers to a row.
-pub fn answers(alloc: Global, fields: &[&str]) -> Result<Vec<Answer>> {
+pub fn answers(alloc: Global, fields: &[&str]) -> Result<Vec<Comparison>> {
     let [
         dialect_field,
         environment,

@@ -1,8 +1,9 @@
 //! Rows of kind `layers`: readers are added one after another, and names are required of what they make.
 
-use crate::answer::{Answer, push_answer};
+use crate::answer::push_answer;
 use crate::file::{CUTS, environment};
 use anyhow::{Result, bail};
+use comparison::Comparison;
 use env_layers::{Layers, Missing, Mode};
 use std::alloc::Global;
 use support::answers::{answer, pairs};
@@ -61,7 +62,7 @@ fn required(alloc: Global, layers: &Layers, field: &str) -> Result<Vec<String>> 
 }
 
 /// The answers to a row.
-pub fn answers(alloc: Global, fields: &[&str]) -> Result<Vec<Answer>> {
+pub fn answers(alloc: Global, fields: &[&str]) -> Result<Vec<Comparison>> {
     let [before, added_field, answered, after, names, required_field] = fields else {
         bail!("{} fields in place of 6", fields.len());
     };

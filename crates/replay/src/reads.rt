@@ -1,11 +1,12 @@
 //! Rows of the kinds `reads` and `first`: which reads are made for items, for the first of them, and for a load.
 
-use crate::answer::{Answer, is_asked, push_answer};
+use crate::answer::{is_asked, push_answer};
 use crate::file::{dialect, listing};
 use anyhow::{Result, bail};
+use comparison::Comparison;
 use dotenvy::{Dialect, Environment, Iter};
 use std::alloc::Global;
-use support::answers::item;
+use support::answers::{items, next_item};
 use support::reader::{Cut, PlayedReader, Step, steps};
 use support::telling::{Telling, spelled};
 
@@ -15,12 +16,10 @@ fn of_items(alloc: Global, dialect: Dialect, steps: &[Step]) -> Result<Vec<Strin
     let mut environment = Environment::new(alloc);
     {
         let mut entries = Iter::with_dialect(alloc, &mut telling, dialect)?;
-        for item in entries.items(&environment) {
-            drop(item);
-        }
+        items(alloc, &mut entries, &environment)?;
         for _ in 0..3u8 {
-            if entries.next_item(&environment).is_some() {
-                bail!("an item after the end");
+            if let Some(item) = next_item(alloc, &mut entries, &environment)? {
+                bail!("an item after the end: {item}");
             }
         }
         entries.load(&mut environment)?;
@@ -56,16 +55,17 @@ fn of_listing(alloc: Global, dialect: Dialect, steps: &[Step]) -> Result<Vec<Str
 fn of_first(alloc: Global, dialect: Dialect, steps: &[Step]) -> Result<(Vec<String>, Vec<String>)> {
     let mut telling = Telling::new(alloc, PlayedReader::new(steps, Cut::Whole));
     let mut items = Vec::new(alloc);
-    if let Some(answered) = Iter::with_dialect(alloc, &mut telling, dialect)?.next_item(
-        &Environment::new(alloc),
-    ) {
-        items.push(item(alloc, &answered)?)?;
+    {
+        let mut entries = Iter::with_dialect(alloc, &mut telling, dialect)?;
+        if let Some(item) = next_item(alloc, &mut entries, &Environment::new(alloc))? {
+            items.push(item)?;
+        }
     }
     Ok((items, spelled(alloc, telling.into_calls())?))
 }
 
 /// The answers to a row of kind `first`.
-pub fn first_answers(alloc: Global, fields: &[&str]) -> Result<Vec<Answer>> {
+pub fn first_answers(alloc: Global, fields: &[&str]) -> Result<Vec<Comparison>> {
     let [dialect_field, steps_field, items_field, reads_field] = fields else {
         bail!("{} fields in place of 4", fields.len());
     };
@@ -84,7 +84,7 @@ pub fn first_answers(alloc: Global, fields: &[&str]) -> Result<Vec<Answer>> {
 }
 
 /// The answers to a row of kind `reads`.
-pub fn answers(alloc: Global, fields: &[&str]) -> Result<Vec<Answer>> {
+pub fn answers(alloc: Global, fields: &[&str]) -> Result<Vec<Comparison>> {
     let [dialect_field, steps_field, items, loads] = fields else {
         bail!("{} fields in place of 4", fields.len());
     };

@@ -1,17 +1,19 @@
 //! Rows of the kinds `refused_items`, `refused_load`, `refused_list` and `requests`: each request for memory of a call is
 //! refused in turn, up to a run that meets no refusal.
 
-use crate::answer::{Answer, push_answer, push_compared};
+use crate::answer::{push_answer, push_compared};
 use crate::file::dialect;
 use anyhow::{Result, bail};
+use comparison::Comparison;
 use dotenvy::{Bytes, Dialect, Environment, Error, Iter, Plain};
 use std::alloc::{AllocError, Allocator, Global};
-use support::answers::{answer, item, pairs, written};
+use support::answers::{answer, next_item, pairs, push_items, written};
+use support::environment::environment_of;
 use support::notation::{bytes, texts};
 use support::{Rationed, notation};
 
 // More requests than any call of a row makes.
-const MOST_REQUESTS: u64 = 500;
+pub const MOST_REQUESTS: u64 = 500;
 
 // A call that reads a file.
 #[derive(Clone, Copy)]
@@ -53,17 +55,6 @@ impl File {
         })
     }
 
-    // An environment of the names, which are kept in this allocator.
-    fn environment<A: Allocator + Clone>(&self, alloc: A) -> dotenvy::Result<Environment<A>, A> {
-        let mut list = Vec::new(alloc.clone()?);
-        for (name, value) in &self.names {
-            let name = String::from_str(alloc.clone()?, name.as_str())?;
-            let value = String::from_str(alloc.clone()?, value.as_str())?;
-            list.push((name, value))?;
-        }
-        Environment::from_pairs(alloc, list)
-    }
-
     fn open<A: Allocator + Clone>(&self, alloc: A) -> dotenvy::Result<Iter<Bytes<'_>, A>, A> {
         Iter::with_dialect(alloc, Bytes::new(&self.bytes), self.dialect)
     }
@@ -74,23 +65,17 @@ impl File {
         alloc: A,
         items: &mut Vec<String>,
     ) -> dotenvy::Result<(), A> {
-        let mut environment = self.environment(alloc.clone()?)?;
+        let mut environment = environment_of(alloc.clone()?, &self.names)?;
         let before = environment.len();
         let mut entries = self.open(alloc)?;
-        let mut answer = Ok(());
-        for answered in entries.items(&environment) {
-            match answered {
-                Err(Error::Memory(refused)) => answer = Err(Error::Memory(refused)),
-                _ => {
-                    let text = item(*items.allocator(), &answered)?;
-                    items.push(text)?;
-                }
-            }
+        let answer = push_items(items, &mut entries, &environment);
+        let room = *items.allocator();
+        if let Some(item) = next_item(room, &mut entries, &environment)? {
+            items.push(item)?;
         }
-        let is_any = entries.next_item(&environment).is_some();
         entries.load(&mut environment)?;
-        if is_any || environment.len() != before {
-            items.push(String::from_str(*items.allocator(), "more after the end")?)?;
+        if environment.len() != before {
+            items.push(String::from_str(room, "a name after the end")?)?;
         }
         answer
     }
@@ -130,7 +115,7 @@ impl File {
             Call::Items => self.push_items(alloc, &mut Vec::new(room)),
             Call::List => self.list(alloc, &mut Plain::new(Vec::new(room))),
             _ => {
-                let mut environment = self.environment(alloc.clone()?)?;
+                let mut environment = environment_of(alloc.clone()?, &self.names)?;
                 self.load(&mut environment, alloc, call)
             }
         };
@@ -142,7 +127,7 @@ impl File {
 }
 
 // Whether a request was refused: then the answer must be `Memory`, and else it must not.
-fn is_refused<T, A: Allocator>(
+pub fn is_refused<T, A: Allocator>(
     ration: &Rationed<Global>,
     answer: &dotenvy::Result<T, A>,
 ) -> Result<bool> {
@@ -154,7 +139,7 @@ fn is_refused<T, A: Allocator>(
 }
 
 // As many of the texts as there are of the others, from the first on.
-fn front_of(
+pub fn front_of(
     alloc: Global,
     texts: &[String],
     others: &[String],
@@ -167,7 +152,7 @@ fn front_of(
 }
 
 /// The answers to a row of kind `refused_items`.
-pub fn items_answers(alloc: Global, fields: &[&str]) -> Result<Vec<Answer>> {
+pub fn items_answers(alloc: Global, fields: &[&str]) -> Result<Vec<Comparison>> {
     let [dialect, names, file, wanted] = fields else {
         bail!("{} fields in place of 4", fields.len());
     };
@@ -201,7 +186,7 @@ fn same_state(alloc: Global, states: &[&str], left: &Vec<String>) -> Result<Vec<
 }
 
 /// The answers to a row of kind `refused_load`.
-pub fn load_answers(alloc: Global, fields: &[&str]) -> Result<Vec<Answer>> {
+pub fn load_answers(alloc: Global, fields: &[&str]) -> Result<Vec<Comparison>> {
     let [name, dialect, names, file, wanted, states @ ..] = fields else {
         bail!("{} fields in place of 6 and more", fields.len());
     };
@@ -210,7 +195,7 @@ pub fn load_answers(alloc: Global, fields: &[&str]) -> Result<Vec<Answer>> {
     let mut answers = Vec::new(alloc);
     for number in 1..MOST_REQUESTS {
         let ration = Rationed::refusing(alloc, number);
-        let before = file.environment(&ration);
+        let before = environment_of(&ration, &file.names);
         if is_refused(&ration, &before)? {
             continue;
         }
@@ -236,7 +221,7 @@ pub fn load_answers(alloc: Global, fields: &[&str]) -> Result<Vec<Answer>> {
 }
 
 /// The answers to a row of kind `refused_list`.
-pub fn list_answers(alloc: Global, fields: &[&str]) -> Result<Vec<Answer>> {
+pub fn list_answers(alloc: Global, fields: &[&str]) -> Result<Vec<Comparison>> {
     let [dialect, file, wanted] = fields else {
         bail!("{} fields in place of 3", fields.len());
     };
@@ -269,7 +254,7 @@ fn requests_of(alloc: Global, call: Call, file: &File) -> Result<u64> {
 }
 
 /// The answers to a row of kind `requests`.
-pub fn requests_answers(alloc: Global, fields: &[&str]) -> Result<Vec<Answer>> {
+pub fn requests_answers(alloc: Global, fields: &[&str]) -> Result<Vec<Comparison>> {
     let [name, dialect, names, before, lines, wanted] = fields else {
         bail!("{} fields in place of 6", fields.len());
     };

@@ -1,7 +1,8 @@
 //! Rows of kind `search`: which paths a search asks for, and what it answers.
 
-use crate::answer::{Answer, push_answer};
+use crate::answer::push_answer;
 use anyhow::{Result, bail};
+use comparison::Comparison;
 use dotenvy::search;
 use dotenvy::search::Look;
 use std::alloc::Global;
@@ -37,7 +38,7 @@ fn found(alloc: Global, answer: dotenvy::Result<PathBuf>) -> Result<Vec<String>>
 }
 
 /// The answers to a row.
-pub fn answers(alloc: Global, fields: &[&str]) -> Result<Vec<Answer>> {
+pub fn answers(alloc: Global, fields: &[&str]) -> Result<Vec<Comparison>> {
     let [directory, filename, looks_field, asked, answer] = fields else {
         bail!("{} fields in place of 5", fields.len());
     };

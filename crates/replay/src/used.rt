@@ -1,11 +1,12 @@
 //! Rows of kind `used`: items are taken of an iterator, and then what is left of it is loaded.
 
-use crate::answer::{Answer, push_answer};
+use crate::answer::push_answer;
 use crate::file::{CUTS, dialect, environment};
 use anyhow::{Result, bail};
+use comparison::Comparison;
 use dotenvy::{Dialect, Iter};
 use std::alloc::Global;
-use support::answers::{item, loaded};
+use support::answers::{loaded, next_item};
 use support::reader::{Cut, PlayedReader, Step, steps};
 
 // An iterator that was used.
@@ -32,8 +33,8 @@ impl Used<'_> {
         let mut entries = Iter::with_dialect(alloc, reader, self.dialect)?;
         let mut items = Vec::new(alloc);
         for _ in 0..self.taken {
-            items.push(match entries.next_item(&under) {
-                Some(answered) => item(alloc, &answered)?,
+            items.push(match next_item(alloc, &mut entries, &under)? {
+                Some(item) => item,
                 None => String::from_str(alloc, "none")?,
             })?;
         }
@@ -51,7 +52,7 @@ impl Used<'_> {
 }
 
 /// The answers to a row.
-pub fn answers(alloc: Global, fields: &[&str]) -> Result<Vec<Answer>> {
+pub fn answers(alloc: Global, fields: &[&str]) -> Result<Vec<Comparison>> {
     let [
         dialect_field,
         taken,

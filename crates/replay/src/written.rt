@@ -1,11 +1,12 @@
 //! Rows of the kinds `written`, `pair`, `list` and `writes`: what is written, to which writer, and what it reads back as.
 
-use crate::answer::{Answer, push_answer, push_compared};
+use crate::answer::{push_answer, push_compared};
 use crate::file::{CUTS, dialect, listing};
 use anyhow::{Result, bail};
+use comparison::Comparison;
 use dotenvy::{Bytes, Dialect, Environment, Iter, Plain, Sink, is_key};
 use std::alloc::Global;
-use support::answers::{item, written};
+use support::answers::{items, written};
 use support::notation::{pair, pairs};
 use support::reader::PlayedReader;
 use support::telling::{Telling, spelled};
@@ -40,15 +41,12 @@ fn read_back(alloc: Global, bytes: &[u8]) -> Result<Vec<String>> {
         let name = String::from_str(alloc, name)?;
         environment.set(name, String::from_str(alloc, "there")?)?;
     }
-    let mut items = Vec::new(alloc);
-    for answered in Iter::new(alloc, Bytes::new(bytes))?.items(&environment) {
-        items.push(item(alloc, &answered)?)?;
-    }
-    Ok(items)
+    let mut entries = Iter::new(alloc, Bytes::new(bytes))?;
+    Ok(items(alloc, &mut entries, &environment)?)
 }
 
 // Adds that what is listed of the bytes is listed as itself. Nothing is listed of pairs with a NUL.
-fn push_listings(answers: &mut Vec<Answer>, bytes: &[u8]) -> Result<()> {
+fn push_listings(answers: &mut Vec<Comparison>, bytes: &[u8]) -> Result<()> {
     let alloc = *answers.allocator();
     let first = listing(alloc, Bytes::new(bytes), Dialect::V15)?;
     if let [_, output] = first.as_slice() {
@@ -59,7 +57,7 @@ fn push_listings(answers: &mut Vec<Answer>, bytes: &[u8]) -> Result<()> {
 }
 
 /// The answers to a row of kind `written`.
-pub fn written_answers(alloc: Global, fields: &[&str]) -> Result<Vec<Answer>> {
+pub fn written_answers(alloc: Global, fields: &[&str]) -> Result<Vec<Comparison>> {
     let [pairs_field, bytes] = fields else {
         bail!("{} fields in place of 2", fields.len());
     };
@@ -74,7 +72,7 @@ pub fn written_answers(alloc: Global, fields: &[&str]) -> Result<Vec<Answer>> {
 }
 
 /// The answers to a row of kind `pair`.
-pub fn pair_answers(alloc: Global, fields: &[&str]) -> Result<Vec<Answer>> {
+pub fn pair_answers(alloc: Global, fields: &[&str]) -> Result<Vec<Comparison>> {
     let [pair_field, steps, answer] = fields else {
         bail!("{} fields in place of 3", fields.len());
     };
@@ -88,7 +86,7 @@ pub fn pair_answers(alloc: Global, fields: &[&str]) -> Result<Vec<Answer>> {
 }
 
 /// The answers to a row of kind `writes`.
-pub fn writes_answers(alloc: Global, fields: &[&str]) -> Result<Vec<Answer>> {
+pub fn writes_answers(alloc: Global, fields: &[&str]) -> Result<Vec<Comparison>> {
     let [pair_field, steps, writes] = fields else {
         bail!("{} fields in place of 3", fields.len());
     };
@@ -115,7 +113,7 @@ fn list_to(
 }
 
 /// The answers to a row of kind `list`.
-pub fn list_answers(alloc: Global, fields: &[&str]) -> Result<Vec<Answer>> {
+pub fn list_answers(alloc: Global, fields: &[&str]) -> Result<Vec<Comparison>> {
     let [dialect_field, reader_steps, writer_steps, answer] = fields else {
         bail!("{} fields in place of 4", fields.len());
     };

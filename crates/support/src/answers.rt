@@ -1,7 +1,7 @@
 //! Answers as texts of the notation (docs/ROWS.md, "Answers").
 
 use anyhow::Result;
-use dotenvy::{Environment, Error};
+use dotenvy::{Environment, Error, Iter, Source};
 use std::alloc::{AllocError, Allocator, Global};
 
 /// A fault: `fault at 3: TEXT` of a line, `io TimedOut`, `nul KEY` of a value with a NUL, `memory`.
@@ -38,6 +38,47 @@ pub fn item<A: Allocator>(
         Ok((key, value)) => format!(in alloc; "{key}={value}"),
         Err(error) => fault(alloc, error),
     }
+}
+
+/// The next item, or `None` where there is none.
+pub fn next_item<S: Source, A: Allocator + Clone>(
+    alloc: Global,
+    entries: &mut Iter<S, A>,
+    environment: &Environment<A>,
+) -> std::result::Result<Option<String>, AllocError> {
+    match entries.next_item(environment) {
+        Some(answered) => Ok(Some(item(alloc, &answered)?)),
+        None => Ok(None),
+    }
+}
+
+/// The items that are left.
+pub fn items<S: Source, A: Allocator + Clone>(
+    alloc: Global,
+    entries: &mut Iter<S, A>,
+    environment: &Environment<A>,
+) -> std::result::Result<Vec<String>, AllocError> {
+    let mut items = Vec::new(alloc);
+    for answered in entries.items(environment) {
+        items.push(item(alloc, &answered)?)?;
+    }
+    Ok(items)
+}
+
+/// Adds the items up to refused memory, which is the answer then.
+pub fn push_items<S: Source, A: Allocator + Clone>(
+    items: &mut Vec<String>,
+    entries: &mut Iter<S, A>,
+    environment: &Environment<A>,
+) -> dotenvy::Result<(), A> {
+    let mut answer = Ok(());
+    for answered in entries.items(environment) {
+        match answered {
+            Err(Error::Memory(refused)) => answer = Err(Error::Memory(refused)),
+            _ => items.push(item(*items.allocator(), &answered)?)?,
+        }
+    }
+    answer
 }
 
 /// The names and values, each as `A=1`.

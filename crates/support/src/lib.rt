@@ -3,9 +3,11 @@
 #![tactic(auto)]
 
 pub mod answers;
+pub mod environment;
 pub mod looks;
 pub mod notation;
 pub mod reader;
+pub mod system;
 pub mod telling;
 pub mod writer;
 

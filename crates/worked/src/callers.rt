@@ -60,10 +60,11 @@ pub fn set_items(
 #[cfg(test)]
 mod tests {
     use super::*;
-    use crate::runtime::PlayedRuntime;
     use crate::shown::{environment, pairs};
     use dotenvy::vars;
+    use std::io::ErrorKind;
     use std::test::Fail;
+    use support::system::PlayedSystem;
 
     #[test]
     fn what_is_given_can_be_set(rt: HostRuntime) -> std::result::Result<(), Fail> {
@@ -77,8 +78,9 @@ mod tests {
         assert_eq!(rt; pairs(alloc, &set)?.as_str(), "A=1; B=2; not a key=");
 
         let mut vars_set = Environment::new(alloc);
-        let runtime = PlayedRuntime::new(rt, "/nowhere");
-        set_vars(&mut vars_set, vars(&runtime, &mut copied(alloc, &two)?)?)?;
+        let mut system = PlayedSystem::new(rt);
+        system.lost = Some(ErrorKind::NotFound);
+        set_vars(&mut vars_set, vars(&system, &mut copied(alloc, &two)?)?)?;
         assert_eq!(rt; pairs(alloc, &vars_set)?.as_str(), "A=1; not a key=");
         Ok(())
     }

@@ -1,10 +1,11 @@
 //! Environments and their names.
 
-use crate::runtime::PlayedRuntime;
 use crate::shown::{environment, pairs};
 use dotenvy::{Bytes, Dialect, Environment, Iter, is_key, is_name, vars};
+use std::io::ErrorKind;
 use std::test::Fail;
 use support::answers::answer;
+use support::system::PlayedSystem;
 
 #[test]
 fn pairs_that_are_passed_by(rt: HostRuntime) -> Result<(), Fail> {
@@ -65,7 +66,9 @@ fn equal_environments(rt: HostRuntime) -> Result<(), Fail> {
         assert!(rt; one != environment(alloc, other)?, "at {other:?}");
     }
     let mut marked = one.try_clone()?;
-    let _ = vars(&PlayedRuntime::new(rt, "/nowhere"), &mut marked)?;
+    let mut system = PlayedSystem::new(rt);
+    system.lost = Some(ErrorKind::NotFound);
+    let _ = vars(&system, &mut marked)?;
     assert!(rt; marked.loaded() && marked != one);
     assert!(rt; Environment::new(alloc).is_empty() && !one.is_empty());
     Ok(())

@@ -1,5 +1,4 @@
-//! A runtime that plays a current directory, faults of looks and of openings, and the entries of the
-//! process. All else it leaves to the system, or it is never asked for it.
+//! A system that fails where a test wants it, in a current directory and with entries of the process that a test wants.
 
 ghost use Rattle.std.specs.Io.{WritesAtMost};
 
@@ -9,34 +8,38 @@ use std::fs::{File, Files, Metadata, OpenOptions};
 use std::io;
 use std::io::ErrorKind;
 
-/// A runtime over that of the test.
-#[derive(Clone, Copy)]
-pub struct PlayedRuntime<'a> {
-    pub rt: HostRuntime,
-    /// The current directory, or the kind of the fault of asking for it.
-    pub directory: Result<&'a str, ErrorKind>,
-    /// Paths at which a look fails, and the kinds of these faults.
-    pub looks: &'a [(&'a str, ErrorKind)],
+/// The system of a test, which opens its files and looks at them. It has the current directory and the entries of the process
+/// that are given here.
+#[derive(Drop)]
+pub struct PlayedSystem {
+    rt: HostRuntime,
+    /// The current directory, if it is another one.
+    pub directory: Option<String>,
+    /// The kind of the fault of asking for the current directory, if that fails.
+    pub lost: Option<ErrorKind>,
     /// The kind of the fault of each opening, if they fail.
-    pub opening: Option<ErrorKind>,
-    /// The entries of the process, each with a NUL behind it.
-    pub entries: &'a [u8],
+    pub closed: Option<ErrorKind>,
+    /// A path at which looks fail, and the kind of their fault.
+    pub hidden: Option<(String, ErrorKind)>,
+    /// The entries of the process.
+    pub entries: Vec<Vec<u8>>,
 }
 
-impl<'a> PlayedRuntime<'a> {
-    /// In this current directory, where nothing fails, and with no entries.
-    pub fn new(rt: HostRuntime, directory: &'a str) -> PlayedRuntime<'a> {
-        PlayedRuntime {
+impl PlayedSystem {
+    /// Nothing fails, and the process has no entries.
+    pub fn new(rt: HostRuntime) -> PlayedSystem {
+        PlayedSystem {
             rt,
-            directory: Ok(directory),
-            looks: &[],
-            opening: None,
-            entries: b"",
+            directory: None,
+            lost: None,
+            closed: None,
+            hidden: None,
+            entries: Vec::new(rt.alloc()),
         }
     }
 }
 
-impl Alloc for PlayedRuntime<'_> {
+impl Alloc for PlayedSystem {
     type A = Global;
 
     fn alloc(&self) -> Global {
@@ -44,7 +47,7 @@ impl Alloc for PlayedRuntime<'_> {
     }
 }
 
-impl Env for PlayedRuntime<'_> {
+impl Env for PlayedSystem {
     fn arg(&self, _i: usize, _buf: &mut [u8]) -> Result<usize, FillError> {
         Err(FillError::NotPresent)
     }
@@ -54,22 +57,25 @@ impl Env for PlayedRuntime<'_> {
     }
 
     fn var_at(&self, i: usize, buf: &mut [u8]) -> Result<usize, FillError> {
-        match self.entries.split_inclusive(|byte| *byte == 0).nth(i) {
-            Some([entry @ .., 0]) => fill(entry, buf),
-            _ => Err(FillError::NotPresent),
+        match self.entries.get(i) {
+            Some(entry) => fill(entry, buf),
+            None => Err(FillError::NotPresent),
         }
     }
 
     fn current_dir(&self, buf: &mut [u8]) -> io::Result<usize> {
-        let directory = self.directory.map_err(io::Error::from)?;
-        match fill(directory.as_bytes(), buf) {
-            Ok(length) => Ok(length),
-            Err(_) => Err(io::Error::from(ErrorKind::InvalidFilename)),
+        match (self.lost, &self.directory) {
+            (Some(kind), _) => Err(io::Error::from(kind)),
+            (None, None) => self.rt.current_dir(buf),
+            (None, Some(directory)) => match fill(directory.as_bytes(), buf) {
+                Ok(length) => Ok(length),
+                Err(_) => Err(io::Error::from(ErrorKind::InvalidFilename)),
+            },
         }
     }
 }
 
-/// Puts the bytes at the front of the buffer, and counts them.
+// Puts the bytes at the front of the buffer, and counts them.
 fn fill(bytes: &[u8], buf: &mut [u8]) -> Result<usize, FillError>
     ensures { WritesAtMost result buf.new }
 {
@@ -80,22 +86,22 @@ fn fill(bytes: &[u8], buf: &mut [u8]) -> Result<usize, FillError>
     Ok(bytes.len())
 }
 
-impl Files for PlayedRuntime<'_> {
+impl Files for PlayedSystem {
     type File = File;
 
     type Dir = File;
 
     fn open_file(&self, how: &OpenOptions, path: &str) -> io::Result<File> {
-        match self.opening {
+        match self.closed {
             Some(kind) => Err(io::Error::from(kind)),
             None => self.rt.open_file(how, path),
         }
     }
 
     fn metadata(&self, path: &str) -> io::Result<Metadata> {
-        match self.looks.iter().find(|(failing, _)| *failing == path) {
-            Some((_, kind)) => Err(io::Error::from(*kind)),
-            None => self.rt.metadata(path),
+        match &self.hidden {
+            Some((hidden, kind)) if hidden.as_str() == path => Err(io::Error::from(*kind)),
+            _ => self.rt.metadata(path),
         }
     }
 

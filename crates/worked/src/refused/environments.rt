@@ -1,11 +1,13 @@
 //! Environments whose growth is refused.
 
-use crate::refusals::{is_done, refuse_in_turn, shown};
+use crate::refused::{is_done, refuse_in_turn};
+use crate::shown::pairs;
 use dotenvy::{Environment, Error, Result, is_name};
 use std::alloc::{Allocator, Global};
 use std::process::Abort;
 use std::test::Fail;
 use support::Rationed;
+use support::environment::{copied, environment_of};
 
 /// Names enough for a map of more than one node.
 const NAMES: &str = "A B C D E F G H I J K L M N O P Q R S T U V W X Y Z";
@@ -20,7 +22,7 @@ fn set_to<A: Allocator + Clone>(
     name: &str,
     place: usize,
 ) -> Result<(), A> {
-    let key = String::from_str(alloc.clone()?, name)?;
+    let key = copied(&alloc, name)?;
     let value = place.to_string(alloc)?;
     if !is_name(key.as_str()) {
         return Err(Error::Nul(key));
@@ -35,10 +37,10 @@ fn sets_names(
 ) -> std::result::Result<bool, Fail> {
     let mut environment = Environment::new(ration);
     for (place, name) in NAMES_TWICE.split_whitespace().enumerate() {
-        let before = shown(alloc, &environment)?;
+        let before = pairs(alloc, &environment)?;
         let answer = set_to(ration, &mut environment, name, place);
         if !is_done(rt, ration, &answer) {
-            assert_eq!(rt; shown(alloc, &environment)?.as_str(), before.as_str());
+            assert_eq!(rt; pairs(alloc, &environment)?.as_str(), before.as_str());
             return Ok(false);
         }
     }
@@ -53,21 +55,20 @@ fn set(rt: HostRuntime) -> std::result::Result<(), Fail> {
     refuse_in_turn(&rt, alloc, |ration| sets_names(&rt, alloc, ration))
 }
 
-/// An environment of each name, with the value `1`.
-fn of_names<A: Allocator + Clone>(alloc: A) -> Result<Environment<A>, A> {
-    let mut list = Vec::new(alloc.clone()?);
+/// Each name, with the value `1`.
+fn names(alloc: Global) -> std::result::Result<Vec<(String, String)>, Fail> {
+    let mut names = Vec::new(alloc);
     for name in NAMES.split_whitespace() {
-        let key = String::from_str(alloc.clone()?, name)?;
-        let value = String::from_str(alloc.clone()?, "1")?;
-        list.push((key, value))?;
+        names.push((copied(&alloc, name)?, copied(&alloc, "1")?))?;
     }
-    Environment::from_pairs(alloc, list)
+    Ok(names)
 }
 
 #[test]
 fn from_pairs(rt: HostRuntime) -> std::result::Result<(), Fail> {
+    let names = names(rt.alloc())?;
     refuse_in_turn(&rt, rt.alloc(), |ration| {
-        let answer = of_names(ration);
+        let answer = environment_of(ration, &names);
         if let Ok(environment) = &answer {
             assert_eq!(rt; environment.len(), 26);
         }
@@ -79,17 +80,18 @@ fn clones_names(
     rt: &impl Abort,
     alloc: Global,
     ration: &Rationed<Global>,
+    names: &[(String, String)],
 ) -> std::result::Result<bool, Fail> {
-    let answer = of_names(ration);
+    let answer = environment_of(ration, names);
     if !is_done(rt, ration, &answer) {
         return Ok(false);
     }
     let environment = answer?;
-    let before = shown(alloc, &environment)?;
+    let before = pairs(alloc, &environment)?;
     let copy = environment.try_clone();
-    assert_eq!(rt; shown(alloc, &environment)?.as_str(), before.as_str());
+    assert_eq!(rt; pairs(alloc, &environment)?.as_str(), before.as_str());
     if let Ok(copy) = &copy {
-        assert_eq!(rt; shown(alloc, copy)?.as_str(), before.as_str());
+        assert_eq!(rt; pairs(alloc, copy)?.as_str(), before.as_str());
     }
     Ok(is_done(rt, ration, &copy))
 }
@@ -97,5 +99,10 @@ fn clones_names(
 #[test]
 fn try_clone(rt: HostRuntime) -> std::result::Result<(), Fail> {
     let alloc = rt.alloc();
-    refuse_in_turn(&rt, alloc, |ration| clones_names(&rt, alloc, ration))
+    let names = names(alloc)?;
+    refuse_in_turn(
+        &rt,
+        alloc,
+        |ration| clones_names(&rt, alloc, ration, &names),
+    )
 }

@@ -1,12 +1,13 @@
 //! Searches for a file while memory is refused.
 
-use crate::refusals::{is_refused, refuse_in_turn};
+use crate::refused::{is_refused, refuse_in_turn};
 use dotenvy::search::{Look, find};
-use std::alloc::Global;
+use std::alloc::{AllocError, Global};
 use std::path::Path;
 use std::process::Abort;
 use std::test::Fail;
 use support::Rationed;
+use support::looks::PlayedLooks;
 
 /// A search, and the paths that it asks for, in order.
 #[derive(Drop)]
@@ -18,30 +19,43 @@ struct Search<'a> {
     is_found: bool,
 }
 
+impl Search<'_> {
+    /// What each of its paths is: at the last one a file, where one is found.
+    fn looks(&self, alloc: Global) -> Result<Vec<Look>, AllocError> {
+        let mut looks = Vec::new(alloc);
+        for _ in self.candidates {
+            looks.push(Look::Other)?;
+        }
+        if self.is_found {
+            looks.pop();
+            looks.push(Look::File)?;
+        }
+        Ok(looks)
+    }
+}
+
 /// The search asks for its paths in order, for all of them where nothing is refused, and for no other.
-fn searches(rt: &impl Abort, ration: &Rationed<Global>, search: &Search) -> Result<bool, Fail> {
-    let mut asked = 0usize;
-    let mut in_order = true;
-    let directory = Path::new(search.directory);
+fn searches(
+    rt: &impl Abort,
+    alloc: Global,
+    ration: &Rationed<Global>,
+    search: &Search,
+) -> Result<bool, Fail> {
+    let mut looks = PlayedLooks::new(alloc, search.looks(alloc)?);
     let answer = find(
         ration,
-        directory,
+        Path::new(search.directory),
         Path::new(search.filename),
-        &mut |path| {
-            in_order = in_order && search.candidates.get(asked) == Some(&path.as_str());
-            asked = asked.saturating_add(1);
-            if search.is_found && asked == search.candidates.len() {
-                Look::File
-            } else {
-                Look::Other
-            }
-        },
+        &mut |path| { looks.look(path) },
     );
-    assert!(rt; in_order, "at the path of number {asked}");
+    let asked = looks.into_asked();
+    for (place, path) in asked.iter().enumerate() {
+        assert_eq!(rt; Some(&path.as_str()), search.candidates.get(place));
+    }
     if is_refused(rt, ration, &answer) {
         return Ok(false);
     }
-    assert_eq!(rt; asked, search.candidates.len());
+    assert_eq!(rt; asked.len(), search.candidates.len());
     assert_eq!(rt; answer.is_ok(), search.is_found);
     match answer {
         Ok(path) => assert_eq!(rt; Some(&path.as_str()), search.candidates.last()),
@@ -70,7 +84,11 @@ fn find_in_directories(rt: HostRuntime) -> Result<(), Fail> {
             candidates,
             is_found,
         };
-        refuse_in_turn(&rt, rt.alloc(), |ration| searches(&rt, ration, &search))?;
+        refuse_in_turn(
+            &rt,
+            rt.alloc(),
+            |ration| searches(&rt, rt.alloc(), ration, &search),
+        )?;
     }
     Ok(())
 }

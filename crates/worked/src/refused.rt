@@ -1,11 +1,20 @@
-//! Runs of a call with one request refused in each.
+//! Calls with each request for memory refused in turn.
+//!
+//! No contract can say that memory is found, so a call that always answers `Memory` meets its contract. These tests make a
+//! call again and again, and refuse its first request, its second, and so on, until one run meets no refusal: then it must
+//! succeed, and before that it must answer `Memory` and leave what it promises to leave. Rows ask the same of the calls that
+//! they can make.
 
-use dotenvy::{Environment, Error, Result};
-use std::alloc::{AllocError, Allocator, Global};
+mod environments;
+mod processes;
+mod searches;
+mod written;
+
+use dotenvy::{Error, Result};
+use std::alloc::{Allocator, Global};
 use std::process::Abort;
 use std::test::Fail;
 use support::Rationed;
-use support::answers::pairs;
 
 /// More requests than any call of these tests makes.
 pub const MOST_REQUESTS: u64 = 200;
@@ -58,25 +67,4 @@ pub fn is_done<T, A: Allocator>(
         Ok(_) => true,
         Err(error) => panic!(rt; "in place of an answer: {error}"),
     }
-}
-
-/// An environment of these names and values.
-pub fn environment_of<A: Allocator + Clone>(
-    alloc: A,
-    pairs: &[(&str, &str)],
-) -> Result<Environment<A>, A> {
-    let mut list = Vec::new(alloc.clone()?);
-    for (name, value) in pairs {
-        let name = String::from_str(alloc.clone()?, name)?;
-        list.push((name, String::from_str(alloc.clone()?, value)?))?;
-    }
-    Environment::from_pairs(alloc, list)
-}
-
-/// The names and values, as `A=1; B=2`.
-pub fn shown<A: Allocator>(
-    alloc: Global,
-    environment: &Environment<A>,
-) -> std::result::Result<String, AllocError> {
-    pairs(alloc, environment)?.join(alloc, "; ")
 }

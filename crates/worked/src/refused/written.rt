@@ -1,6 +1,6 @@
 //! A pair that is written while memory is refused: then none of it is.
 
-use crate::refusals::{MOST_REQUESTS, is_done, refuse_in_turn};
+use crate::refused::{MOST_REQUESTS, is_done, refuse_in_turn};
 use dotenvy::{Plain, is_key};
 use std::alloc::Global;
 use std::process::Abort;

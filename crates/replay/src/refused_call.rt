@@ -1,0 +1,184 @@
+//! Rows of kind `refused_call`: a call in a folder, each of its requests for memory refused in turn.
+
+use crate::answer::{push_answer, push_compared};
+use crate::call::Call;
+use crate::refused::{MOST_REQUESTS, front_of, is_refused};
+use crate::scene::{Scene, state, word_and_rest};
+use anyhow::{Context, Result, bail};
+use comparison::Comparison;
+use dotenvy::{Environment, Error, vars};
+use std::alloc::Global;
+use std::io::ErrorKind;
+use support::Rationed;
+use support::answers::fault;
+use support::environment::environment_of;
+use support::notation::{list, pairs, texts};
+use support::system::PlayedSystem;
+
+type Ration<'r> = &'r Rationed<Global>;
+
+// How a run with one request refused went.
+#[derive(Drop)]
+enum Run {
+    // The request came before the call.
+    NotYet,
+    // It was the call's, which left this state.
+    Refused(String),
+    // The call made fewer requests.
+    Done,
+}
+
+// A call, what stands before it, and what it answers and leaves.
+#[derive(Clone, Copy)]
+struct Refused<'a> {
+    rt: HostRuntime,
+    scene: &'a Scene,
+    names: &'a [(String, String)],
+    is_used: bool,
+    call: Call<'a>,
+    wanted: &'a str,
+    left: &'a str,
+}
+
+impl Refused<'_> {
+    // An environment of the names. One that was used has its mark set, and no name of a file.
+    fn environment<'r>(
+        &self,
+        ration: Ration<'r>,
+    ) -> dotenvy::Result<Environment<Ration<'r>>, Ration<'r>> {
+        let mut environment = environment_of(ration, self.names)?;
+        if self.is_used {
+            let mut system = PlayedSystem::new(self.rt);
+            system.lost = Some(ErrorKind::NotFound);
+            vars(&(&system, ration), &mut environment)?;
+        }
+        Ok(environment)
+    }
+
+    // Makes the call, and adds what it answered and left, unless a request was refused.
+    fn make<'r>(
+        &self,
+        answers: &mut Vec<Comparison>,
+        ration: Ration<'r>,
+        environment: &mut Environment<Ration<'r>>,
+    ) -> Result<bool> {
+        let alloc = *answers.allocator();
+        let mut given = Vec::new(alloc);
+        let answered = self
+            .call
+            .make(&(&self.scene.system, ration), environment, &mut given);
+        let mut got = self.scene.all_below(&given)?;
+        match answered {
+            Ok(()) => {}
+            Err(Error::Memory(_)) => {
+                let wanted = front_of(alloc, &texts(alloc, self.wanted)?, &got)?;
+                push_compared(answers, "call", "before a refusal", wanted, got)?;
+                return Ok(false);
+            }
+            Err(error) => got.push(fault(alloc, &error)?)?,
+        }
+        push_answer(answers, "call", "answered", self.wanted, got)?;
+        push_answer(
+            answers,
+            "call",
+            "left",
+            self.left,
+            state(alloc, environment)?,
+        )?;
+        Ok(true)
+    }
+
+    // Refuses the request of this number. A call to which it was refused is made once more.
+    fn run(&self, answers: &mut Vec<Comparison>, number: u64) -> Result<Run> {
+        let alloc = *answers.allocator();
+        let ration = Rationed::refusing(alloc, number);
+        let before = self.environment(&ration);
+        if is_refused(&ration, &before)? {
+            return Ok(Run::NotYet);
+        }
+        let mut environment = before?;
+        let is_done = self.make(answers, &ration, &mut environment)?;
+        if is_done == ration.has_refused() {
+            bail!("refused memory and the answer do not agree");
+        }
+        if is_done {
+            return Ok(Run::Done);
+        }
+        let left = state(alloc, &environment)?.join(alloc, "; ")?;
+        if !self.make(answers, &ration, &mut environment)? {
+            bail!("memory is refused where there is enough");
+        }
+        Ok(Run::Refused(left))
+    }
+
+    // Refuses each request of the call in turn, and compares the states that are left with these.
+    fn run_in_turn(&self, answers: &mut Vec<Comparison>, states: &[&str]) -> Result<()> {
+        let alloc = *answers.allocator();
+        let mut met: Vec<String> = Vec::new(alloc);
+        for number in 1..MOST_REQUESTS {
+            match self.run(answers, number)? {
+                Run::NotYet => {}
+                Run::Refused(state) if met.last() == Some(&state) => {}
+                Run::Refused(state) => met.push(state)?,
+                Run::Done => {
+                    return push_states(answers, states, met);
+                }
+            }
+        }
+        bail!("each run met a refusal")
+    }
+}
+
+fn push_states(answers: &mut Vec<Comparison>, states: &[&str], met: Vec<String>) -> Result<()> {
+    let alloc = *answers.allocator();
+    let mut wanted = Vec::new(alloc);
+    for state in states {
+        wanted.push(texts(alloc, state)?.join(alloc, "; ")?)?;
+    }
+    push_compared(answers, "states", "left by refusals", wanted, met)?;
+    Ok(())
+}
+
+// Plays the steps before a call.
+fn play_before(alloc: Global, scene: &mut Scene, steps: &str) -> Result<()> {
+    for step in list(alloc, steps)? {
+        if !scene.play(step)? {
+            bail!("no step before a call: {step}");
+        }
+    }
+    Ok(())
+}
+
+// The answers to the call of a row, behind its steps.
+fn call_answers(rt: HostRuntime, scene: &Scene, fields: &[&str]) -> Result<Vec<Comparison>> {
+    let [names, _steps, call_field, wanted, left, states @ ..] = fields else {
+        bail!("{} fields in place of 5 and more", fields.len());
+    };
+    let alloc = rt.alloc();
+    let (word, rest) = word_and_rest(call_field);
+    let given = scene.text(rest)?;
+    let call = Call::named(word, given.as_str()).context("no call")?;
+    let pairs = pairs(alloc, names.strip_suffix("; loaded").unwrap_or(names))?;
+    let refused = Refused {
+        rt,
+        scene,
+        names: &pairs,
+        is_used: names.ends_with("; loaded"),
+        call,
+        wanted,
+        left,
+    };
+    let mut answers = Vec::new(alloc);
+    refused.run_in_turn(&mut answers, states)?;
+    Ok(answers)
+}
+
+/// The answers to a row.
+pub fn answers(rt: HostRuntime, fields: &[&str]) -> Result<Vec<Comparison>> {
+    let steps = fields.get(1).context("no steps")?;
+    let mut scene = Scene::enter(rt)?;
+    let played = play_before(rt.alloc(), &mut scene, steps);
+    let answers = played.and_then(|()| call_answers(rt, &scene, fields));
+    scene.leave()?;
+    answers
+}

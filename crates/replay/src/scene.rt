@@ -1,0 +1,212 @@
+//! Rows of kind `files`: steps and calls in a folder, with the system around it and an environment. Rows of kind `process`:
+//! the environment that a process hands over.
+
+use crate::answer::push_answer;
+use crate::call::Call;
+use crate::file::environment;
+use anyhow::{Context, Result, bail};
+use comparison::Comparison;
+use dotenvy::{Environment, Error};
+use std::alloc::{Allocator, Global};
+use std::os::unix::fs::symlink;
+use std::path::PathBuf;
+use std::{env, fs};
+use support::answers::{fault, pairs};
+use support::notation::{bytes, kind, list, text};
+use support::system::PlayedSystem;
+
+/// Where calls on files are played: a folder of their own, which is the current directory, and a system that may fail.
+#[derive(Drop)]
+pub struct Scene {
+    rt: HostRuntime,
+    home: PathBuf,
+    folder: PathBuf,
+    pub system: PlayedSystem,
+}
+
+// The first word and the rest.
+pub fn word_and_rest<'a>(written: &'a str) -> (&'a str, &'a str) {
+    written.split_once(' ').unwrap_or((written, ""))
+}
+
+impl Scene {
+    /// An empty folder, and a system that does not fail. What a row left that stopped is removed.
+    pub fn enter(rt: HostRuntime) -> Result<Scene> {
+        let home = env::current_dir(&rt)?;
+        let folder = home.join(rt.alloc(), "scene")?;
+        if fs::exists(&rt, &folder)? {
+            fs::remove_dir_all(&rt, &folder)?;
+        }
+        fs::create_dir(&rt, &folder)?;
+        env::set_current_dir(&rt, &folder)?;
+        Ok(Scene {
+            rt,
+            home,
+            folder,
+            system: PlayedSystem::new(rt),
+        })
+    }
+
+    /// Removes the folder and all that is in it.
+    pub fn leave(self) -> Result<()> {
+        env::set_current_dir(&self.rt, &self.home)?;
+        fs::remove_dir_all(&self.rt, &self.folder)?;
+        Ok(())
+    }
+
+    /// The texts, and of paths in the folder what stands behind it.
+    pub fn all_below(&self, texts: &[String]) -> Result<Vec<String>> {
+        let alloc = self.rt.alloc();
+        let mut all = Vec::new(alloc);
+        for text in texts {
+            let text = text.as_str();
+            let below = text.strip_prefix(self.folder.as_str()).unwrap_or(text);
+            all.push(String::from_str(alloc, below)?)?;
+        }
+        Ok(all)
+    }
+
+    /// The text that a text stands for, with the folder's path in place of `%@`.
+    pub fn text(&self, written: &str) -> Result<String> {
+        let alloc = self.rt.alloc();
+        text(
+            alloc,
+            written.replace(alloc, "%@", self.folder.as_str())?.as_str(),
+        )
+    }
+
+    fn path(&self, name: &str) -> Result<PathBuf> {
+        Ok(self.folder.join(self.rt.alloc(), name)?)
+    }
+
+    /// Plays a step on the folder or the system, and tells whether this was one.
+    pub fn play(&mut self, step: &str) -> Result<bool> {
+        let (word, rest) = word_and_rest(step);
+        let (name, more) = word_and_rest(rest);
+        match word {
+            "write" => fs::write(&self.rt, self.path(name)?, bytes(self.rt.alloc(), more)?)?,
+            "folder" => fs::create_dir(&self.rt, self.path(name)?)?,
+            "link" => symlink(&self.rt, more, self.path(name)?)?,
+            "at" => self.system.directory = Some(self.path(name)?.into_string()),
+            "enter" => env::set_current_dir(&self.rt, self.path(name)?)?,
+            "lost" => self.system.lost = Some(kind(name)?),
+            "closed" => self.system.closed = Some(kind(name)?),
+            "hidden" => self.system.hidden = Some((self.path(name)?.into_string(), kind(more)?)),
+            "mended" => self.system = PlayedSystem::new(self.rt),
+            _ => return Ok(false),
+        }
+        Ok(true)
+    }
+}
+
+/// The pairs of an environment, and `loaded` where its mark is set.
+pub fn state<A: Allocator>(alloc: Global, environment: &Environment<A>) -> Result<Vec<String>> {
+    let mut state = pairs(alloc, environment)?;
+    if environment.loaded() {
+        state.push(String::from_str(alloc, "loaded")?)?;
+    }
+    Ok(state)
+}
+
+// A fault as its text and its system code: `Is a directory (os error 21), Some(21)`.
+fn printed(alloc: Global, error: &Error) -> Result<String> {
+    let code = match error {
+        Error::Io(fault) => fault.raw_os_error(),
+        _ => None,
+    };
+    Ok(format!(in alloc; "{error}, {code:?}")?)
+}
+
+// What the steps of a row answer, one after another.
+#[derive(Drop)]
+struct Play<'a> {
+    scene: Scene,
+    names: &'a str,
+    environment: Environment,
+    /// Whether faults are answered as they print.
+    prints: bool,
+    answers: Vec<String>,
+}
+
+impl Play<'_> {
+    fn play(&mut self, step: &str) -> Result<()> {
+        if self.scene.play(step)? {
+            return Ok(());
+        }
+        match step {
+            "fresh" => self.environment = environment(self.scene.rt.alloc(), self.names)?,
+            "print faults" => self.prints = true,
+            _ => self.call(step)?,
+        }
+        Ok(())
+    }
+
+    fn play_all(&mut self, steps: &[&str]) -> Result<()> {
+        for step in steps {
+            self.play(step)?;
+        }
+        Ok(())
+    }
+
+    // Makes a call: its answer, then the environment that it leaves.
+    fn call(&mut self, step: &str) -> Result<()> {
+        let alloc = self.scene.rt.alloc();
+        let (word, rest) = word_and_rest(step);
+        let given = self.scene.text(rest)?;
+        let call = Call::named(word, given.as_str()).context("no step")?;
+        let mut texts = Vec::new(alloc);
+        let answered = call.make(&self.scene.system, &mut self.environment, &mut texts);
+        match answered {
+            Ok(()) => {}
+            Err(error) if self.prints => texts.push(printed(alloc, &error)?)?,
+            Err(error) => texts.push(fault(alloc, &error)?)?,
+        }
+        self.answers.append(&mut self.scene.all_below(&texts)?)?;
+        self.answers.append(&mut state(alloc, &self.environment)?)?;
+        Ok(())
+    }
+}
+
+/// The answers to a row of kind `process`.
+pub fn process_answers(rt: HostRuntime, fields: &[&str]) -> Result<Vec<Comparison>> {
+    let [entries, wanted] = fields else {
+        bail!("{} fields in place of 2", fields.len());
+    };
+    let alloc = rt.alloc();
+    let mut system = PlayedSystem::new(rt);
+    for entry in list(alloc, entries)? {
+        system.entries.push(bytes(alloc, entry)?)?;
+    }
+    let got = state(alloc, &Environment::from_process(&system)?)?;
+    let mut answers = Vec::new(alloc);
+    push_answer(&mut answers, "process", "read", wanted, got)?;
+    Ok(answers)
+}
+
+/// The answers to a row of kind `files`.
+pub fn answers(rt: HostRuntime, fields: &[&str]) -> Result<Vec<Comparison>> {
+    let [names, steps, wanted] = fields else {
+        bail!("{} fields in place of 3", fields.len());
+    };
+    let alloc = rt.alloc();
+    let mut play = Play {
+        scene: Scene::enter(rt)?,
+        names,
+        environment: environment(alloc, names)?,
+        prints: false,
+        answers: Vec::new(alloc),
+    };
+    let played = play.play_all(&list(alloc, steps)?);
+    let Play {
+        scene,
+        names: _,
+        environment: _,
+        prints: _,
+        answers: got,
+    } = play;
+    scene.leave()?;
+    played?;
+    let mut answers = Vec::new(alloc);
+    push_answer(&mut answers, "calls", "answered", wanted, got)?;
+    Ok(answers)
+}
