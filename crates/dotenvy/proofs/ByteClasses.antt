@@ -16,6 +16,7 @@ use Rattle.std.proofs.lemmas.Bool.{false≢true}
 use Rattle.dotenvy.proofs.NameCharacters.{ascii_name}
 use Rattle.dotenvy.proofs.ByteRuns.{Tells, lead, lead_wide}
 
+-- where no byte from 128 on passes, the first byte of a wide character does not
 none_begins : (byte : ℕ → Bool) → ((b : ℕ) → 128 ≤ b → byte b ≡ false) → (c : ℕ) → 128 ≤ c → ¬ (byte (lead c) ≡ true)
 none_begins byte none c h passes = let wide = lead_wide c h in
     false≢true (sym (none (lead c) (omega (arith, wide))) ∙ passes)
@@ -38,36 +39,46 @@ tells_wide byte character narrow all passes = record {
   later = λ c b h p low below. all b low;
 }
 
+-- a byte from 128 on is no character of a key
 key_ascii : (b : ℕ) → 128 ≤ b → continues_key b ≡ false
 key_ascii b h = grind (arith, nat_tests, h)
 
+-- a byte from 128 on is neither a space nor a tab
 blank_ascii : (b : ℕ) → 128 ≤ b → is_space_or_tab b ≡ false
 blank_ascii b h = grind (arith, nat_tests, h)
 
+-- a byte from 128 on is no double quote
 quote_ascii : (b : ℕ) → 128 ≤ b → (b == double_quote) ≡ false
 quote_ascii b h = grind (arith, nat_tests, h)
 
+-- each byte from 128 on is plain, outside quotes and between double quotes
 plain_wide : (q : CodeQuoting) (b : ℕ) → 128 ≤ b → is_plain (quoting_of q) b ≡ true
 plain_wide Unquoted b h = grind (arith, nat_tests, h)
 plain_wide DoubleQuoted b h = grind (arith, nat_tests, h)
 
+-- a byte from 128 on does not pass as a character of a bare name, in either dialect
 name_ascii : (dialect : Dialect) (b : ℕ) → 128 ≤ b → is_name_byte dialect b ≡ false
 name_ascii V15 b h = grind (arith, nat_tests, h)
 name_ascii Next b h = grind (arith, nat_tests, h)
 
+-- an ASCII character that passes as a byte of a token is no blank, backslash, quote or line feed
 token_narrow : (c : ℕ) → c < 128 → is_token_byte c ≡ true → has_character Token c ≡ true
 token_narrow c small h = grind (arith, nat_tests, small, h)
 
+-- the bytes from 128 to 191, which go on with a wide character, are bytes of a token
 token_later : (b : ℕ) → 128 ≤ b → b < 192 → is_token_byte b ≡ true
 token_later b low below = grind (arith, nat_tests, low, below)
 
+-- a wide character whose first byte is a byte of a token is no blank, backslash, quote or line feed
 token_wide : (c : ℕ) → 128 ≤ c → is_token_byte (lead c) ≡ true → has_character Token c ≡ true
 unfolding encode
 token_wide c large h = grind (arith, nat_tests, large, h)
 
+-- what passes as a byte between these quotes is, as a character, neither the quote nor a backslash
 quoted_narrow : (quote c : ℕ) → in_run (Quoted quote) c ≡ true → has_character (Quoted quote) c ≡ true
 quoted_narrow quote c h = grind (arith, nat_tests, h)
 
+-- where some byte passes between these quotes, each from 128 on does
 quoted_wide : (quote b c : ℕ) → in_run (Quoted quote) b ≡ true → 128 ≤ c → in_run (Quoted quote) c ≡ true
 quoted_wide quote b c h large = grind (arith, nat_tests, h, large)
 

@@ -17,6 +17,7 @@ first_half : (a b : Bool) → T (a && b) → T a
 first_half true b h = tt
 first_half false b h = absurd h
 
+-- where both halves of a test hold, the right one does
 second_half : (a b : Bool) → T (a && b) → T b
 second_half true b h = h
 second_half false b h = absurd h

@@ -52,9 +52,11 @@ unread_lists dialect ahead held last_fault calls old (Ok done) h = absurd h
 unread_lists dialect ahead held last_fault calls old (Err e) h = λ a told entries has.
     (Fails Memory ∷ [], inr (inl (record { front = []; back = entries; cut = refl; ends = refl })), (h, refl))
 
+-- in an empty environment every name is absent
 empty_values : values_of fin.empty ≡ no_values
 empty_values = λ i name. ap (option_map chars) (fin.get-empty (slice_cmp nat_cmp) (encode_utf8_all name)) i
 
+-- where nothing is remembered, no name has a remembered text
 empty_recalled : recalled_of fin.empty ≡ no_values
 empty_recalled =
     λ i name. ap (λ o. option_map chars (option_flatten o)) (fin.get-empty (slice_cmp nat_cmp)
@@ -66,6 +68,7 @@ first_load : (read : List Entry) →
 first_load read = ap (λ look. load_result look (recalled_of fin.empty) read) empty_values
     ∙ ap (λ look. load_result no_values look read) empty_recalled
 
+-- a value that is a text, if there is one, is spelled by the bytes of its own characters
 text_again : (o : Option (List ℕ)) → ((text : List ℕ) → o ≡ Some text → IsUtf8 text) →
     option_map encode_utf8_all (option_map chars o) ≡ o
 text_again None are = refl
@@ -98,6 +101,7 @@ holds_loaded names look are keys values = λ name. at name (is_key name) refl
         ∙ sym (ap (λ o. option_map encode_utf8_all (option_map chars o)) (absent (encode_utf8_all name)
         (key_from_bytes name h)))
 
+-- after a load whose failure the error says, a listing answers it and leaves the sink as it was
 failed_after : {A W : Type 0} (held : W → Option (List ℕ)) (last_fault : W → Option ErrorKind) (calls : W →
     Option (List Call)) (old : W) (look : LookUp) (answer : Result (Unit {0}) Failure) (e : Error A) →
     IsAnswer answer (Err e) → ListsLoaded held last_fault calls old old look answer (Err e)
@@ -118,6 +122,7 @@ failed_lists dialect ahead held last_fault calls old names e loads = λ a told e
           (first_load l.0) l.2.is_answer),
     )
 
+-- after a load that did not fail and left these values, a listing is the writing of their written form
 listed_after : {A W : Type 0} (held : W → Option (List ℕ)) (last_fault : W → Option ErrorKind) (calls : W →
     Option (List Call)) (old new : W) (look : LookUp) (stop : Result (Unit {0}) Failure) (names : Texts)
     (answer : Result (Unit {0}) (Error A)) → IsAnswer {A = A} stop (Ok tt) → HoldsLoaded names look →

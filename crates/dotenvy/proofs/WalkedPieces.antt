@@ -53,10 +53,12 @@ skip-shown (x ∷ xs) ys h = at (is_whitespace x) h (skip-shown xs ys)
     at true e later = later e
     at false e later = refl
 
+-- whether a text begins with a hash is told by any front of it that is not empty
 begins-more : (xs ys : List ℕ) → xs ≢ [] → begins_with hash (xs ++ ys) ≡ begins_with hash xs
 begins-more [] ys h = absurd (h refl)
 begins-more (x ∷ xs) ys h = refl
 
+-- a text that begins with a hash is not empty
 begins_some : (xs : List ℕ) → begins_with hash xs ≡ true → xs ≢ []
 begins_some [] h = λ e. false≢true h
 begins_some (x ∷ xs) h = λ e. cc
@@ -170,6 +172,7 @@ blank-ends m seen (x ∷ xs) text blank h = at (is_whitespace x) refl blank
     at true white rest later = line_end (x == line_feed) refl white (λ some. later some rest)
     at false white rest later = cc
 
+-- what ends with a text that has a line feed has one
 no_feed-more : (xs ys : List ℕ) → no_line_feed ys ≡ false → no_line_feed (xs ++ ys) ≡ true → ⊥
 no_feed-more [] ys h k = false≢true (sym h ∙ k)
 no_feed-more (x ∷ xs) ys h k = no_feed-more xs ys h (and_right (not (x == line_feed)) (no_line_feed (xs ++ ys)) k)
@@ -204,5 +207,6 @@ pub stays-ended : (old piece : List ℕ) → WalksOn Ended old piece old Ended
 stays-ended old piece m seen cs none (other, walks) =
     (λ empty. no_comment-more cs piece none (other empty), walk-ended m old seen cs piece walks)
 
+-- a piece behind the front of a comment is not kept, and the line stays a comment
 pub stays-comment : (old piece : List ℕ) → WalksOn Comment old piece old Comment
 stays-comment old piece m seen cs none (empty, begins) = (empty, comment-more cs piece begins)

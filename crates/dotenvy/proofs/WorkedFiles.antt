@@ -31,37 +31,46 @@ decided_computed dialect bytes entries e =
       give = subst (GiveAll dialect (without_open_end logical)) e (all_give dialect (without_open_end logical));
     }
 
+-- the worked files of lines: which physical lines make a logical line
 pub lines : HaveLines
 unfolding is_name_character ucd_derived ucd_category encode is_utf8 chars
 lines = (computed V15 _ _ refl, computed V15 _ _ refl, computed V15 _ _ refl, computed V15 _ _ refl, computed V15 _ _ refl, computed V15 _ _ refl, computed V15 _ _ refl, computed V15 _ _ refl, computed V15 _ _ refl, computed V15 _ _ refl, computed V15 _ _ refl, computed V15 _ _ refl, computed V15 _ _ refl, computed V15 _ _ refl, computed V15 _ _ refl, computed V15 _ _ refl, computed V15 _ _ refl)
 
+-- the worked files of statements: keys, `export`, and lines without a statement
 pub statements : HaveStatements
 unfolding is_name_character ucd_derived ucd_category encode is_utf8 chars
 statements = (computed V15 _ _ refl, computed V15 _ _ refl, computed V15 _ _ refl)
 
+-- the worked files of values: what they mean, and the places of faults in them
 pub values : HaveValues
 unfolding is_name_character ucd_derived ucd_category encode is_utf8 chars
 values = (computed V15 _ _ refl, computed V15 _ _ refl, computed V15 _ _ refl, computed V15 _ _ refl, computed V15 _ _ refl, computed V15 _ _ refl, computed V15 _ _ refl)
 
+-- the worked files of dialects: what a file says in each of the two
 pub dialects : HaveDialects
 unfolding is_name_character ucd_derived ucd_category encode is_utf8 chars
 dialects = (computed V15 _ _ refl, computed Next _ _ refl, computed V15 _ _ refl, computed Next _ _ refl, computed V15 _ _ refl, computed Next _ _ refl, computed V15 _ _ refl, computed Next _ _ refl)
 
+-- the worked files of byte order marks: the loads drop one at the front, and iteration none
 pub marks : HaveMarks
 unfolding is_name_character ucd_derived ucd_category encode is_utf8 chars
 marks = (refl, computed V15 _ _ refl, refl, computed V15 _ _ refl, refl, refl, refl, computed V15 _ _ refl)
 
+-- the worked pairs: how an empty value is written, and one with a quote, a dollar and a backslash
 pub written : HaveWritten
 written = (refl, refl)
 
+-- the worked files of repeats: which of two values of a name counts, in iteration and in both loads
 pub repeats : HaveRepeats
 unfolding is_name_character ucd_derived ucd_category encode is_utf8 chars
 repeats = (computed V15 _ _ refl, refl, refl, refl, refl, refl, refl, refl, refl, refl, refl, refl)
 
+-- the worked files of NULs: where one stops a load, and what is set then
 pub nuls : HaveNuls
 unfolding is_name_character ucd_derived ucd_category encode is_utf8 chars
 nuls = (computed V15 _ _ refl, refl, refl, refl, refl, refl, refl, refl, refl, refl, refl)
 
+-- the worked files of decisions: what is decided of bytes whose end was not reached
 pub decisions : HaveDecisions
 unfolding is_name_character ucd_derived ucd_category encode is_utf8 chars
 decisions = (decided_computed V15 _ _ refl, decided_computed V15 _ _ refl, decided_computed V15 _ _ refl, decided_computed V15 _ _ refl)

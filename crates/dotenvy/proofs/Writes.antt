@@ -25,6 +25,7 @@ fault_told : (last : Option ErrorKind) (xs : List ℕ) (e : Error) → xs ≢ []
 fault_told last [] e some = absurd (some refl)
 fault_told last (x ∷ xs) e some = refl
 
+-- after a write that took something, the last fault is the one that was last before it
 fault_kept : (last : Option ErrorKind) (xs : List ℕ) (n : ℕ) → n ≢ 0 → fault_after last xs (Ok n) ≡ last
 fault_kept last [] n some = refl
 fault_kept last (x ∷ xs) n some = at (n == 0) refl
@@ -60,6 +61,7 @@ AllMade before after count =
     (all : List Call) → after ≡ Some all →
     (calls made : List Call) × (before ≡ Some calls) × (all ≡ calls ++ made) × (length made ≡ count) × AllMayGoOn made
 
+-- with one call more, which another may follow, one more was made, and another may follow each of them
 made_more : (before mid after : Option (List Call)) (count : ℕ) (call : Call) → AllMade before mid count →
     TellsCall mid after call →
     MayGoOn call.answer → AllMade before after (count + 1)
@@ -94,6 +96,7 @@ sending_start held last calls bytes = record {
   made = λ all is. (all, [], is, sym (append-nil all), refl, tt);
 }
 
+-- a number other than 0 is greater than 0
 positive : (n : ℕ) → n ≢ 0 → 0 < n
 positive zero some = absurd (some refl)
 positive (suc n) some = omega arith
@@ -123,6 +126,7 @@ sending_more held mid after last mid_last after_last calls mid_calls after_calls
       made = made_more calls mid_calls after_calls count (call_of (length rest) (Ok n)) s.made tells some;
     }
 
+-- after a write of some bytes that was interrupted, the last fault is an interruption
 interrupted_last : (mid_last after_last : Option ErrorKind) (rest : List ℕ) (e : Error) → rest ≢ [] →
     error_kind e ≡ Interrupted →
     after_last ≡ fault_after mid_last rest (Err e) → after_last ≡ Some Interrupted
@@ -145,6 +149,7 @@ sending_again held mid after last mid_last after_last calls mid_calls after_call
       made = made_more calls mid_calls after_calls count (call_of (length rest) (Err e)) s.made tells interrupted;
     }
 
+-- where another call may follow each of these, another may follow each but the last
 all_in_turn : (calls : List Call) → AllMayGoOn calls → OnlyLastEnds calls
 all_in_turn [] all = tt
 all_in_turn (call ∷ []) all = tt
@@ -256,6 +261,7 @@ sends_failed held last_fault calls most old mid new bytes rest count e s few wri
     (appended_same (held old) (held mid) (held new) s.front rest e s.appended write) tells (differs, refl)
     (told ∙ fault_told (last_fault mid) rest e some, differs)
 
+-- after a write that took none of some bytes, the last fault is WriteZero
 zero_told : (last : Option ErrorKind) (xs : List ℕ) → xs ≢ [] → fault_after last xs (Ok 0) ≡ Some WriteZero
 zero_told last [] some = absurd (some refl)
 zero_told last (x ∷ xs) some = refl
@@ -284,6 +290,7 @@ pub is_no_interruption : (e : Error) (kind : ErrorKind) (differs : Bool) → kin
 is_no_interruption e kind differs is test holds same = differs_true the_type kind Interrupted (sym test
     ∙ holds) (is ∙ same)
 
+-- where the test that a fault's kind is no interruption fails, it is one
 pub is_interruption : (e : Error) (kind : ErrorKind) (differs : Bool) → kind ≡ error_kind e →
     differs ≡ not (sameb the_type kind Interrupted) →
     differs ≡ false → error_kind e ≡ Interrupted

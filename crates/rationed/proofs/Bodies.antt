@@ -2,6 +2,7 @@
 use Prim.Native.Nat.{ℕ, zero, suc}
 use mir.Syntax.{Body, skip, seq, assign, block, loop, cond, switch, exit, return, call, call_v, unreachable, lend_static}
 
+-- of a row: its first statement and those after it; of a block or a loop: what it holds; of others: nothing
 abbrev parts : Body → Body × Body
 parts skip = (skip, skip)
 parts (seq x₀ x₁) = (x₀, x₁)
@@ -17,6 +18,7 @@ parts (call_v x₀ x₁ x₂ x₃) = (skip, skip)
 parts unreachable = (skip, skip)
 parts (lend_static x₀ x₁ x₂) = (skip, skip)
 
+-- the statements of a body after the first n
 abbrev pub after : ℕ → Body → Body
 after zero b = b
 after (suc n) b = after n (parts b).1
