@@ -9,15 +9,18 @@ unfoldable pub all_below : (ℕ → Bool) → ℕ → Bool
 all_below p zero = true
 all_below p (suc n) = p n && all_below p n
 
+-- a number that is less than the one after n is n, or less than n
 last_or_less : (c n : ℕ) → c < suc n → (c ≡ n) ⊎ (c < n)
 last_or_less c n less = ⊎_elim (λ l. inr l) (λ g. inl (omega (arith, less, g))) (cases_lt c n)
 
+-- a test that passes below n passes at each number below n
 pub at_each : (p : ℕ → Bool) (n : ℕ) → all_below p n ≡ true → (c : ℕ) → c < n → p c ≡ true
 unfolding all_below
 at_each p zero h c less = absurd (omega (arith, less))
 at_each p (suc n) h c less = ⊎_elim (λ e. subst (λ d. p d ≡ true) (sym e) (and_left (p n) (all_below p n) h))
     (λ l. at_each p n (and_right (p n) (all_below p n) h) c l) (last_or_less c n less)
 
+-- two truth values that are found equal are the same
 same_tests : (x y : Bool) → beq x y ≡ true → x ≡ y
 same_tests true true h = refl
 same_tests true false h = cc

@@ -26,6 +26,7 @@ use Rattle.dotenvy.proofs.Basics.{and_left, and_right, nil_of}
 use Rattle.dotenvy.specs.Errors.{IsMemory, IsIoOf}
 use Rattle.dotenvy.specs.Input.{InputState, left_of, IsTold, IsAllRead, ReadsFit, IsReadFault, IsFinal, FaultIsNext, Takes, end_reads, drop_left, used_up, IsLinePiece, MovesLine, TakesLine, begins_mark}
 
+-- the byte is a line feed
 abbrev is_lf : ℕ → Bool
 is_lf b = b == 10
 
@@ -34,6 +35,7 @@ pub whole_cons : (c : ℕ) (line : List ℕ) → (c == line_feed) ≡ false → 
 whole_cons c [] h w = cc
 whole_cons c (d ∷ line) h w = ap (λ b. not b && is_whole_line (d ∷ line)) h ∙ w
 
+-- where the place of the first line feed is within the bytes, those up to and with it are a whole line
 at_place : (xs : List ℕ) → position_or_len is_lf xs < length xs → is_whole_line (take (position_or_len is_lf xs + 1) xs) ≡ true
 at_place [] h = absurd (omega (arith, h))
 at_place (x ∷ xs) h = first (x == 10) refl h (at_place xs)
@@ -44,6 +46,7 @@ at_place (x ∷ xs) h = first (x == 10) refl h (at_place xs)
     first false e h later = let same : take (1 + position_or_len is_lf xs + 1) (x ∷ xs) ≡ x ∷ take (position_or_len is_lf xs + 1) xs = grind (arith, common_steps) in
         ap is_whole_line same ∙ whole_cons x (take (position_or_len is_lf xs + 1) xs) e (later (omega (arith, h)))
 
+-- where the place of the first line feed is not within the bytes, they have no line feed
 no_place : (xs : List ℕ) → length xs ≤ position_or_len is_lf xs → no_line_feed xs ≡ true
 no_place [] h = refl
 no_place (x ∷ xs) h = first (x == 10) refl h (no_place xs)
@@ -52,6 +55,7 @@ no_place (x ∷ xs) h = first (x == 10) refl h (no_place xs)
     first true e h later = absurd (omega (arith, h))
     first false e h later = later (omega (arith, h))
 
+-- a place that is told for the first line feed is within the bytes, and ends a whole line
 place_at : (xs : List ℕ) (i : ℕ) (b : Bool) → nat_lt (position_or_len is_lf xs) (length xs) ≡ b → cond b (Some (position_or_len is_lf xs)) None ≡ Some i → (i < length xs) × (is_whole_line (take (i + 1) xs) ≡ true)
 place_at xs i true t e =
     let at : position_or_len is_lf xs ≡ i = ap (λ o. unwrap_or o i) e in
@@ -63,10 +67,12 @@ place_at xs i false t e = absurd (none-some i e)
 pub line_found : (xs : List ℕ) (i : ℕ) → position is_lf xs ≡ Some i → (i < length xs) × (is_whole_line (take (i + 1) xs) ≡ true)
 line_found xs i e = place_at xs i _ refl e
 
+-- where no place is told for the first line feed, it is not within the bytes
 none_at : (xs : List ℕ) (b : Bool) → nat_lt (position_or_len is_lf xs) (length xs) ≡ b → cond b (Some (position_or_len is_lf xs)) None ≡ None → length xs ≤ position_or_len is_lf xs
 none_at xs true t e = absurd (none-some _ (sym e))
 none_at xs false t e = ltb-false _ _ t
 
+-- bytes in which no line feed is found have none
 pub line_not_found : (xs : List ℕ) → position is_lf xs ≡ None → no_line_feed xs ≡ true
 line_not_found xs e = no_place xs (none_at xs _ refl e)
 
@@ -78,6 +84,7 @@ not_passed p x h = at (p x) h
     at true e = absurd (e refl)
     at false e = refl
 
+-- what was found as the first byte that is a line feed, or none, is the place of the first line feed, or none
 pub found-place : (bytes : List ℕ) (found : Option ℕ) → IsFirstByte (is_byte 10) bytes found → found ≡ position is_lf bytes
 found-place bytes None none =
     let all = position_or_len_is is_lf bytes (length bytes) 0 (omega arith)
@@ -101,12 +108,15 @@ found-place bytes (Some n) (before, here) =
 abbrev pub ahead_of : List ℕ → Option ErrorKind → Ahead
 ahead_of bytes fault = record { bytes = bytes; fault = fault }
 
+-- where the bytes and the fault are those that are told, they make up what is told
 same_ahead : (a : Ahead) (bytes : List ℕ) (fault : Option ErrorKind) → bytes ≡ a.bytes → fault ≡ a.fault → Some (ahead_of bytes fault) ≡ Some a
 same_ahead a bytes fault p q = ap (λ b. Some (ahead_of b fault)) p ∙ ap (λ f. Some (ahead_of a.bytes f)) q
 
+-- where the same is told, the bytes are the same
 pub the_bytes : (a b : Ahead) → Some a ≡ Some b → a.bytes ≡ b.bytes
 the_bytes a b h = ap (λ o. (unwrap_or o b).bytes) h
 
+-- where the same is told, the fault that follows is the same, or none
 pub the_fault : (a b : Ahead) → Some a ≡ Some b → a.fault ≡ b.fault
 the_fault a b h = ap (λ o. (unwrap_or o b).fault) h
 
@@ -117,6 +127,7 @@ pub record Tells (o : Option Ahead) (unread : List ℕ) (a : Ahead) : Type 0 whe
   pub bytes : a.bytes ≡ unread ++ next.bytes
   pub fault : a.fault ≡ next.fault
 
+-- where the end was not read, what is left is told as the unread bytes, then what the source tells
 pub told_next : (e : Bool) (o : Option Ahead) (unread : List ℕ) (a : Ahead) → e ≡ false → IsTold (left_of e o unread) a → Tells o unread a
 told_next true o unread a h t = let f : true ≡ false = h in cc
 told_next false None unread a h t = absurd (none-some a t.0)
@@ -142,6 +153,7 @@ read_more_fails s v e o unread a x h n told once =
     (λ y f. inl (b.fault ∙ f.1, ap length (b.bytes ∙ ap (λ l. unread ++ l) f.0 ∙ append-nil unread) ∙ n))
     (once b.next b.is_told)
 
+-- what is left stays the same when a read puts bytes of the source behind the unread ones, or meets the end
 left_at : (e : Bool) (after : Option Ahead) (a b : Ahead) (unread some later : List ℕ) → a.bytes ≡ unread ++ b.bytes → a.fault ≡ b.fault → b.bytes ≡ some ++ later → after ≡ Some (ahead_of later b.fault) → (e ≡ true → (later ≡ []) × (b.fault ≡ None)) → left_of e after (unread ++ some) ≡ Some a
 left_at true after a b unread some later bytes fault cut left ends =
     let k = ends refl in
@@ -174,9 +186,11 @@ pub record Reading (a : Ahead) (s : InputState) (line : List ℕ) (t : InputStat
   pub none : no_line_feed line ≡ true
   pub reads : ReadsFit a s (record { bytes = left; fault = a.fault }) t
 
+-- where it is told what is left, a line of which nothing was read yet is being read
 pub reading_start : (a : Ahead) (s : InputState) → IsTold s.left a → Reading a s [] s
 reading_start a s told = record { left = a.bytes; joins = refl; is_left = told.0; none = refl; reads = omega arith }
 
+-- bytes without a line feed and a whole line behind them are a whole line
 pub whole_after : (xs line : List ℕ) → no_line_feed xs ≡ true → is_whole_line line ≡ true → is_whole_line (xs ++ line) ≡ true
 whole_after [] line h w = w
 whole_after (x ∷ xs) line h w = whole_cons x (xs ++ line) (not_both (x == line_feed) (no_line_feed xs) h) (whole_after xs line (and_right (not (x == line_feed)) (no_line_feed xs) h) w)
@@ -185,16 +199,19 @@ whole_after (x ∷ xs) line h w = whole_cons x (xs ++ line) (not_both (x == line
     not_both true c h = let f : false ≡ true = h in cc
     not_both false c h = refl
 
+-- where neither of two rows of bytes has a line feed, nor have both joined
 pub none_after : (xs ys : List ℕ) → no_line_feed xs ≡ true → no_line_feed ys ≡ true → no_line_feed (xs ++ ys) ≡ true
 none_after [] ys h k = k
 none_after (x ∷ xs) ys h k = ap (λ b. b && no_line_feed (xs ++ ys)) (and_left (not (x == line_feed)) (no_line_feed xs) h) ∙ none_after xs ys (and_right (not (x == line_feed)) (no_line_feed xs) h) k
 
+-- reads that fit the bytes that came still fit them when unread bytes are used without a read
 pub fits_moved : (a : Ahead) (s t v : InputState) (moved left now : List ℕ) → now ≡ moved ++ left → v.unread + length moved ≡ t.unread → v.reads ≡ t.reads → v.at_end ≡ t.at_end → ReadsFit a s (ahead_of now a.fault) t → ReadsFit a s (ahead_of left a.fault) v
 fits_moved a s t v moved left now cut unread reads ends fits =
     let l = ap length cut in
     let e = ap end_reads ends in
     omega (arith, fits, l, e, unread, reads, length-append moved left)
 
+-- where no line feed was met in the unread bytes, all are used and the line is still being read
 pub reading_moves : (a : Ahead) (s t v : InputState) (line : List ℕ) (whole : Bool) → whole ≡ false →
     Reading a s line t → ((b : Ahead) → t.left ≡ Some b → MovesLine b t whole v) →
     (new : List ℕ) × Reading a s new v × (v.unread ≡ 0)
@@ -212,6 +229,7 @@ reading_moves a s t v line false h r move =
       m.is_line.1,
     )
 
+-- where unread bytes up to a line feed are used, the line that was being read is taken with them
 pub reading_whole : (a : Ahead) (s t v : InputState) (line : List ℕ) (whole : Bool) → whole ≡ true →
     Reading a s line t → ((b : Ahead) → t.left ≡ Some b → MovesLine b t whole v) →
     (new : List ℕ) × TakesLine a s new v
@@ -228,6 +246,7 @@ reading_whole a s t v line true h r move =
       },
     )
 
+-- where the end was read and nothing is unread, the line that is being read is taken as it is
 pub reading_ends : (a : Ahead) (s t : InputState) (line : List ℕ) → Reading a s line t → t.unread ≡ 0 → t.at_end ≡ true → ((b : Ahead) → t.left ≡ Some b → IsAllRead b t.unread) → TakesLine a s line t
 reading_ends a s t line r zero ended all =
     let k = all (ahead_of r.left a.fault) r.is_left in record {
@@ -238,6 +257,7 @@ reading_ends a s t line r zero ended all =
       reads = r.reads;
     }
 
+-- where it was told what is left before a line, it is told what is left behind what was read of it
 reading_told : (a : Ahead) (s t : InputState) (line : List ℕ) → IsTold s.left a → (r : Reading a s line t) → IsTold t.left (ahead_of r.left a.fault)
 reading_told a s t line told r = (r.is_left, told.1)
 
@@ -245,6 +265,7 @@ reading_told a s t line told r = (r.is_left, told.1)
 pub fits_more : (a b d : Ahead) (s t v : InputState) → ReadsFit a s b t → ReadsFit b t d v → ReadsFit a s d v
 fits_more a b d s t v f g = omega (arith, f, g)
 
+-- a read that uses nothing leaves the line that is being read as it is
 pub reading_more : (a : Ahead) (s t v : InputState) (line : List ℕ) → IsTold s.left a → Reading a s line t → ((b : Ahead) → IsTold t.left b → (v.left ≡ Some b) × ReadsFit b t b v) → Reading a s line v
 reading_more a s t v line told r more =
     let m = more (ahead_of r.left a.fault) (reading_told a s t line told r) in
@@ -275,6 +296,7 @@ pub final_before : {A : Type 0} (a b : Ahead) (s t v : InputState) (P Q : List �
 final_before a b s t v P Q used e joins fault fits weaker fails =
     io_weaker (IsReadFault b t P v) (IsReadFault a s Q v) e (λ x h. fault_before a b s t v P Q used x joins fault fits (weaker (error_kind x)) h) fails
 
+-- where nothing is unread, a final fault of the next read of a line comes before any line feed
 pub reading_fails : {A : Type 0} (a : Ahead) (s t v : InputState) (line : List ℕ) (e : Error A) → IsTold s.left a → Reading a s line t → t.unread ≡ 0 → ((b : Ahead) → IsTold t.left b → IsFinal b t (λ bytes. length bytes ≡ t.unread) e v) → IsFinal a s (λ bytes. no_line_feed bytes ≡ true) e v
 reading_fails a s t v line e told r zero fails =
     let b = ahead_of r.left a.fault in
@@ -308,6 +330,7 @@ moves_line a s t piece whole left is after =
 same_test : (b c : ℕ) → (b == c) ≡ (c == b)
 same_test b c = grind (arith, nat_tests)
 
+-- bytes that are no unfinished byte order mark tell whether a mark is at the front, whatever follows them
 pub mark_decided : (unread later : List ℕ) → begins_mark unread ≡ false → starts_with nat_eq (unread ++ later) byte_order_mark ≡ starts_with nat_eq unread byte_order_mark
 mark_decided [] later h = let f : true ≡ false = h in cc
 mark_decided (b ∷ []) later h = let k : ((b == 0xEF) && true) ≡ false = h in one (0xEF == b) (ap (λ t. t && true) (same_test 0xEF b) ∙ k)
@@ -323,16 +346,19 @@ mark_decided (b ∷ c ∷ []) later h = let k : ((b == 0xEF) && ((c == 0xBB) && 
     two false u h = refl
 mark_decided (b ∷ c ∷ d ∷ unread) later h = refl
 
+-- where the unread bytes are an unfinished mark, a final fault of a read comes behind an unfinished mark
 pub deciding_fails : {A : Type 0} (a : Ahead) (s t v : InputState) (e : Error A) → ReadsFit a s a t → begins_mark (take t.unread a.bytes) ≡ true → IsFinal a t (λ bytes. length bytes ≡ t.unread) e v → IsFinal a s (λ bytes. begins_mark bytes ≡ true) e v
 deciding_fails a s t v e fits begins fails =
     final_before a a s t v (λ bytes. length bytes ≡ t.unread) (λ bytes. begins_mark bytes ≡ true) [] e refl refl fits
     (λ kind front later cut why read. ap begins_mark (sym (take-append_seam front later) ∙ ap (take (length front)) (sym cut) ∙ ap (λ n. take n a.bytes) read) ∙ begins)
     fails
 
+-- once a mark is decided, all the bytes begin with one just where the unread bytes do
 mark_test : (unread : ℕ) (a : Ahead) → IsAllRead a unread ⊎ (begins_mark (take unread a.bytes) ≡ false) → starts_with nat_eq a.bytes byte_order_mark ≡ starts_with nat_eq (take unread a.bytes) byte_order_mark
 mark_test unread a (inl all) = ap (λ l. starts_with nat_eq l byte_order_mark) (sym (take_all unread a.bytes (let l = all.0 in omega (arith, l))))
 mark_test unread a (inr differs) = ap (λ l. starts_with nat_eq l byte_order_mark) (sym (take-append-drop unread a.bytes)) ∙ mark_decided (take unread a.bytes) (drop unread a.bytes) differs
 
+-- bytes that begin with a byte order mark are three or more
 mark_long : (bytes : List ℕ) → starts_with nat_eq bytes byte_order_mark ≡ true → 3 ≤ length bytes
 mark_long [] h = let f : false ≡ true = h in cc
 mark_long (b ∷ []) h = let f = and_right (0xEF == b) false h in cc
@@ -372,6 +398,7 @@ piece_whole s unread n len told within whole =
           ∙ ap (λ k. take k a.bytes) (sym long);
     }
 
+-- unread bytes without a line feed are, all of them, a piece of a line that is not whole
 pub piece_open : (s : InputState) (unread : List ℕ) → length unread ≡ s.unread →
     ((a : Ahead) → s.left ≡ Some a → unread ≡ take s.unread a.bytes) → no_line_feed unread ≡ true →
     IsLinePiece s unread false

@@ -45,6 +45,7 @@ get-inserted m key value q =
     let tie : eq_by_cmp (slice_cmp nat_cmp) q key ≡ bytes_eq key q = (eq_by_cmp_equiv nat_list_cmp_total).symm q key ∙ is_eq-slice_cmp key q in
     fin.get-insert nat_list_cmp_total m key value q ∙ ap (λ b. cond b (Some value) (fin.get m q)) tie
 
+-- with a text, or none, inserted under a key, the key recalls that, and every other name what it did
 pub recalled-inserted : (m : Remembered) (key : List ℕ) (text : Option (List ℕ)) (q : List ℕ) → recalled (fin.insert m key text) q ≡ cond (bytes_eq key q) text (recalled m q)
 recalled-inserted m key text q = ap option_flatten (get-inserted m key text q) ∙ at (bytes_eq key q)
   where

@@ -19,6 +19,7 @@ use Rattle.dotenvy.specs.declared.text.Class.TheVariants.{Token, Quoted}
 use Rattle.dotenvy.specs.Slices.{BeginsWith, IsSpan, has_character}
 use Rattle.dotenvy.proofs.Basics.{and_left, and_right}
 
+-- two characters that pass the test for equal ones are the same
 pub same_code : (c d : ℕ) → (c == d) ≡ true → c ≡ d
 same_code c d h = grind (arith, nat_tests, h)
 
@@ -28,6 +29,7 @@ return_goes [] = refl
 return_goes (x ∷ []) = refl
 return_goes (x ∷ y ∷ xs) = ap (λ l. x ∷ l) (return_goes (y ∷ xs))
 
+-- a text that ends with no carriage return is the same without one at its end
 no_return : (cs : List ℕ) → ((front : List ℕ) → cs ≡ front ++ 13 ∷ [] → ⊥) → without_carriage_return cs ≡ cs
 no_return [] h = refl
 no_return (c ∷ []) h = at (c == 13) refl
@@ -37,10 +39,12 @@ no_return (c ∷ []) h = at (c == 13) refl
     at false e = refl
 no_return (c ∷ d ∷ cs) h = ap (λ l. c ∷ l) (no_return (d ∷ cs) (λ front e. h (c ∷ front) (ap (λ l. c ∷ l) e)))
 
+-- the byte of a carriage return spells that character alone
 chars_return : chars (13 ∷ []) ≡ 13 ∷ []
 unfolding chars
 chars_return = refl
 
+-- a text without the carriage return at its end has its characters without that one
 pub chars_without_return : (old new : List ℕ) → IsUtf8 new → old ≡ new ++ 13 ∷ [] → chars new ≡ without_carriage_return (chars old)
 chars_without_return old new u e = sym (ap (λ l. without_carriage_return (chars l)) e ∙ ap without_carriage_return (chars-append new (13 ∷ []) u ∙ ap (λ l. chars new ++ l) chars_return) ∙ return_goes (chars new))
 
@@ -52,6 +56,7 @@ chars_popped old text new n ends same len is test cut pops u =
     let some : 0 < n = let l = ap length whole in omega (arith, l, len, length-append (take (length old - 1) old) (13 ∷ [])) in
     chars_without_return old new u (whole ∙ ap (λ l. l ++ 13 ∷ []) (sym (pops some (omega (arith, last)) ∙ ap (λ k. take (k - 1) old) len)))
 
+-- a text whose bytes do not end with a carriage return has no such character at its end to lose
 pub chars_no_return : (old : List ℕ) → IsUtf8 old → ((front : List ℕ) → old ≡ front ++ 13 ∷ [] → ⊥) → chars old ≡ without_carriage_return (chars old)
 chars_no_return old u h = sym (no_return (chars old) (λ front e. h (encode_utf8_all front) (sym (encodes-chars old u) ∙ ap encode_utf8_all e ∙ encodes-append front (13 ∷ []) ∙ ap (λ l. encode_utf8_all front ++ l) (append-nil (encode 13) ∙ encode_ascii 13 (omega arith)))))
 
@@ -74,10 +79,12 @@ first_byte (c ∷ cs) = at (c == hash) (get_or bytes 0 0 == hash) refl refl
     at false true e f = let k = same_code (get_or (encode c ++ encode_utf8_all cs) 0 0) hash f in let g = char_from_byte (encode c ++ encode_utf8_all cs) (encode_utf8_all cs) c refl (omega (arith, k)) some in
         let t : (c == hash) ≡ true = ap (λ d. d == hash) g ∙ f in sym t ∙ e
 
+-- the first byte of a line trimmed at its start tells whether `#` is first after white space
 pub comment_is : (line trimmed : List ℕ) (b : Bool) → trimmed ≡ trim_start line → b ≡ (get_or trimmed 0 0 == hash) → b ≡ begins_with hash (skip_leading_whitespace (chars line))
 unfolding trim_start
 comment_is line trimmed b e h = h ∙ ap (λ t. get_or t 0 0 == hash) e ∙ first_byte (skip_leading_whitespace (chars line))
 
+-- a text that takes no bytes has no characters
 spelled_none : (cs : List ℕ) → encode_utf8_all cs ≡ [] → cs ≡ []
 spelled_none [] h = refl
 spelled_none (c ∷ cs) h =
@@ -90,13 +97,16 @@ pub blank_is : (line trimmed : List ℕ) → trimmed ≡ trim_start line → tri
 unfolding trim_start
 blank_is line trimmed e h = spelled_none (skip_leading_whitespace (chars line)) (sym e ∙ h)
 
+-- a text of which something is left without the white space at its start is not white space alone
 pub shown_is : (line trimmed : List ℕ) → trimmed ≡ trim_start line → trimmed ≢ [] → skip_leading_whitespace (chars line) ≢ []
 unfolding trim_start
 shown_is line trimmed e some h = some (e ∙ ap encode_utf8_all h)
 
+-- before a line feed the line keeps its text without one carriage return at its end
 pub kept_at_line_feed : (c : ℕ) (xs : List ℕ) → (c == line_feed) ≡ true → without_carriage_return xs ≡ kept c xs
 kept_at_line_feed c xs h = ap (λ b. cond b (without_carriage_return xs) xs) (sym h)
 
+-- before a character other than a line feed the line keeps all of its text
 pub kept_elsewhere : (c : ℕ) (xs : List ℕ) → c ≢ line_feed → xs ≡ kept c xs
 kept_elsewhere c xs h = at (c == line_feed) refl
   where
@@ -155,6 +165,7 @@ quoted_stays quote c h = at (c == quote) (c == backslash) h
     at true b e = cc
     at false true e = cc
 
+-- the longest run of a class at a text's front is passed, where each of the class leaves the mode as it is
 pub run-passes : (m : LineMode) (class : Class) (text front rest : List ℕ) → text ≡ front ++ rest → IsUtf8 front → IsUtf8 rest →
     ((c : ℕ) → has_character class c ≡ true → leads m c ≡ Some m) →
     IsSpan (has_character class) (chars text) (chars front) (chars rest) → PassesRun m text rest
@@ -166,6 +177,7 @@ run-passes m class text front rest splits u v stays span = record {
   stays = λ seen. stays_all m (has_character class) stays seen (chars front) span.pass;
 }
 
+-- where no character is passed, the mode stays and the whole text is left
 pub run-none : (m : LineMode) (text : List ℕ) → IsUtf8 text → PassesRun m text text
 run-none m text u = record {
   front = [];
@@ -183,6 +195,7 @@ pub record Walking (start : LineMode) (line : List ℕ) (m : LineMode) (rest : L
   pub rest_text : IsUtf8 rest
   pub walks : (seen : List ℕ) → walk start seen (chars line) ≡ walk m (seen ++ chars front) (chars rest)
 
+-- a walk over a text begins with nothing passed and the whole text left
 pub walking_start : (start : LineMode) (line : List ℕ) → IsUtf8 line → Walking start line start line
 walking_start start line u = record {
   front = [];
@@ -192,14 +205,17 @@ walking_start start line u = record {
   walks = λ seen. ap (λ s. walk start s (chars line)) (sym (append-nil seen) ∙ ap (λ l. seen ++ l) (sym chars-nil));
 }
 
+-- where a text begins with a character's bytes, these are a text
 pub char_text : (rest after : List ℕ) (c : ℕ) → IsUtf8 rest → rest ≡ encode c ++ after → IsUtf8 (encode c)
 char_text rest after c u e =
     let seam = IsCharBoundary-at_seam rest (encode c) after e (IsUtf8-past_char rest after c u e) in
     subst IsUtf8 (ap (take (length (encode c))) e ∙ take-append_seam (encode c) after) (IsUtf8-take rest (length (encode c)) u seam)
 
+-- the bytes of a character, where they are a text, spell that character alone
 chars_one : (c : ℕ) → IsUtf8 (encode c) → chars (encode c) ≡ c ∷ []
 chars_one c u = chars_past_char (encode c) [] c u (sym (append-nil (encode c))) ∙ ap (λ l. c ∷ l) chars-nil
 
+-- a text with a character's bytes behind it has that character behind its own
 chars_more : (front : List ℕ) (c : ℕ) → IsUtf8 front → IsUtf8 (encode c) → chars (front ++ encode c) ≡ chars front ++ c ∷ []
 chars_more front c u v = chars-append front (encode c) u ∙ ap (λ l. chars front ++ l) (chars_one c v)
 
@@ -233,6 +249,7 @@ walking_step start line rest after m n c w begins h =
           ∙ ap (λ s. walk n s (chars after)) (append_assoc seen (chars w.front) (c ∷ []) ∙ ap (λ l. seen ++ l) (sym (chars_more w.front c w.front_text one)));
     }
 
+-- a walk whose next character ends the logical line ends with that character, at the place before it
 pub walking_ends : (start : LineMode) (line rest after : List ℕ) (m : LineMode) (c : ℕ) → Walking start line m rest →
     BeginsWith rest c after → None ≡ leads m c → WalksText start line (EndedAt (length line - length rest) c)
 walking_ends start line rest after m c w begins h =
@@ -248,6 +265,7 @@ walking_ends start line rest after m c w begins h =
           ∙ ap (λ l. ended (kept c (seen ++ chars l))) (sym front),
     )
 
+-- a walk with nothing left went over the whole text, and leads to the mode that it reached
 pub walking_done : (start : LineMode) (line rest : List ℕ) (m : LineMode) → Walking start line m rest → rest ≡ [] →
     WalksText start line (Going m)
 walking_done start line rest m w h = λ seen. w.walks seen ∙ ap (λ l. walk m (seen ++ chars w.front) (chars l)) h

@@ -24,11 +24,13 @@ pub or_else-text : (x y a b : Option (List ℕ)) → x ≡ y → (is_none x ≡ 
 or_else-text x (Some v) a b h k = rw h refl
 or_else-text x None a b h k = rw h (k (ap is_none h))
 
+-- where two look-ups give a name the same text, so they do once both, or neither, give it one value
 pub with_value-text : (value : List ℕ) (x y : Option (List ℕ)) (b : Bool) → unwrap_or x [] ≡ unwrap_or y [] →
     unwrap_or (cond b (Some value) x) [] ≡ unwrap_or (cond b (Some value) y) []
 with_value-text value x y true h = refl
 with_value-text value x y false h = h
 
+-- where one test chooses a load on both sides, and the loads of each choice are the same, so are the chosen
 pick-same : (x y u v : Loaded) (b c : Bool) → b ≡ c → SameLoad x u → SameLoad y v →
     SameLoad (if b then x else y) (if c then u else v)
 pick-same x y u v true true e h k = h
@@ -36,6 +38,7 @@ pick-same x y u v false false e h k = k
 pick-same x y u v true false e h k = absurd (cc)
 pick-same x y u v false true e h k = absurd (cc)
 
+-- a load sets a name in both of two environments with the same values, or in neither
 sets-same : (mode : Mode) (e f : LookUp) (key : List ℕ) → ((n : List ℕ) → e n ≡ f n) → sets mode e key ≡ sets mode f key
 sets-same Keep e f key same = ap is_none (same key)
 sets-same Replace e f key same = refl
@@ -102,6 +105,7 @@ run-same mode e f r q (Declares key pieces ∷ entries) same texts =
     ap (λ t. unwrap_or (cond t (Some v) (r n)) []) was.1 ∙ texts n was.0
     ∙ sym (ap (λ t. unwrap_or (cond t (Some w) (q n)) []) was.1)))
 
+-- where a load is the same as a second, and that as a third, the first is the same as the third
 pub same-then : (x y z : Loaded) → SameLoad x y → SameLoad y z → SameLoad x z
 same-then x y z h k = record { env = λ n. h.env n ∙ k.env n; answer = h.answer ∙ k.answer }
 

@@ -39,9 +39,11 @@ stops look matters earlier (Declares key pieces ∷ front) others failure =
 abbrev StopsFirst : Rule → Type 0
 StopsFirst rule = (env remembered : LookUp) (front others : List Entry) (failure : Failure) → ((rule env remembered (front ++ Fails failure ∷ [])).answer ≡ Err failure) ⊎ (rule env remembered (front ++ Fails failure ∷ []) ≡ rule env remembered (front ++ others))
 
+-- `load` answers a failure, or has stopped before it, and then what follows does not count
 load_stops : StopsFirst load_result
 load_stops env remembered front others failure = ⊎_elim inl (λ same. inr (ap (λ d. record { env = or_else env (first_value d.pairs); answer = d.stop }) same)) (stops (load_look_up env remembered) (is_first_of_absent env) [] front others failure)
 
+-- `load_override` answers a failure, or has stopped before it, and then what follows does not count
 override_stops : StopsFirst override_result
 override_stops env remembered front others failure = ⊎_elim inl (λ same. inr (ap (λ d. record { env = or_else (last_value d.pairs) env; answer = d.stop }) same)) (stops (override_look_up env remembered) (λ earlier key. true) [] front others failure)
 
@@ -62,6 +64,7 @@ cut_by_memory rule env remembered front others read new answer first ends grante
     (λ same. subst (λ loaded. Leaves loaded new answer) same l)
     (first env remembered front others Memory)
 
+-- where a rule's loads stop at the first failure, one not refused memory is the load of all that is left
 loads_all : {A : Type 0} (rule : Rule) → StopsFirst rule → LoadsAllLeft rule A
 loads_all rule first s a old new answer entries can has loads granted =
     let load = loads a can.is_told entries has in
@@ -79,6 +82,7 @@ loads_all rule first s a old new answer entries can has loads granted =
 pub load_takes_all : {A : Type 0} → LoadsAllLeft load_result A
 load_takes_all = loads_all load_result load_stops
 
+-- a `load_override` that was not refused memory is the one of all that is left
 pub override_takes_all : {A : Type 0} → LoadsAllLeft override_result A
 override_takes_all = loads_all override_result override_stops
 
@@ -94,9 +98,11 @@ load_the_same rule takes_all dialect a old new other answer another can first se
     let two = fresh_takes_all rule dialect a old other another has.0 takes_all can has.1 second in
     (λ name. two.values name ∙ sym (one.values name), ((rule (values_of old) (recalled_of empty) (has.0 ++ told_fault a.fault)).answer, one.is_answer, two.is_answer))
 
+-- where no memory is refused, two calls of `load` on what a source tells, from one environment, agree
 pub loads_the_same : {A : Type 0} → LoadTheSame load_result A
 loads_the_same = load_the_same load_result load_takes_all
 
+-- where no memory is refused, two of `load_override` on what a source tells, from one environment, agree
 pub overrides_the_same : {A : Type 0} → LoadTheSame override_result A
 overrides_the_same = load_the_same override_result override_takes_all
 

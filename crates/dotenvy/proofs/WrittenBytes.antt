@@ -30,12 +30,15 @@ pair_bytes key text utf8 =
     ∙ encodes-append (chars key) (equals_sign ∷ double_quote ∷ (flat_map written_character (chars text) ++ double_quote ∷ line_feed ∷ []))
     ∙ ap (λ bs. bs ++ equals_sign ∷ double_quote ∷ left_bytes (chars text)) (encodes-chars key utf8)
 
+-- the bytes of a value's last characters are those of the first of them, as it is written, then of the others
 left_one : (c : ℕ) (cs : List ℕ) → left_bytes (c ∷ cs) ≡ encode_utf8_all (written_character c) ++ left_bytes cs
 left_one c cs = ap encode_utf8_all (append_assoc (written_character c) (flat_map written_character cs) (double_quote ∷ line_feed ∷ [])) ∙ encodes-append (written_character c) (flat_map written_character cs ++ double_quote ∷ line_feed ∷ [])
 
+-- a text of one character has that character's bytes
 plain_bytes : (c : ℕ) → encode_utf8_all (c ∷ []) ≡ encode_utf8 c
 plain_bytes c = append-nil (encode_utf8 c)
 
+-- a character, with or without a backslash before it, has its bytes, with or without that of the backslash
 character_bytes : (c : ℕ) (b : Bool) → encode_utf8_all (cond b (backslash ∷ c ∷ []) (c ∷ [])) ≡ cond b (backslash ∷ encode_utf8 c) (encode_utf8 c)
 unfolding encode
 character_bytes c true = ap (λ bs. backslash ∷ bs) (plain_bytes c)
@@ -45,9 +48,11 @@ character_bytes c false = plain_bytes c
 pub escaped_bytes : (c : ℕ) → needs_backslash c ≡ true → encode_utf8_all (written_character c) ≡ backslash ∷ encode_utf8 c
 escaped_bytes c h = character_bytes c (needs_backslash c) ∙ ap (λ b. cond b (backslash ∷ encode_utf8 c) (encode_utf8 c)) h
 
+-- a character that needs no backslash is written as its own bytes
 pub unescaped_bytes : (c : ℕ) → needs_backslash c ≡ false → encode_utf8_all (written_character c) ≡ encode_utf8 c
 unescaped_bytes c h = character_bytes c (needs_backslash c) ∙ ap (λ b. cond b (backslash ∷ encode_utf8 c) (encode_utf8 c)) h
 
+-- the count of a value's last bytes grows by those of a character in front, and by one for its backslash
 one_len : (c : ℕ) (cs : List ℕ) (left : ℕ) (b : Bool) → left ≡ length (encode_utf8_all cs) + length (filter needs_backslash cs) + 2 → length (encode_utf8_all (cond b (backslash ∷ c ∷ []) (c ∷ []))) + left ≡ length (encode_utf8 c ++ encode_utf8_all cs) + length (cond b (c ∷ filter needs_backslash cs) (filter needs_backslash cs)) + 2
 one_len c cs left true h = let k = length-append (encode_utf8 c) (encode_utf8_all cs) in let p = ap length (character_bytes c true) in omega (arith, h, k, p)
 one_len c cs left false h = let k = length-append (encode_utf8 c) (encode_utf8_all cs) in let p = ap length (character_bytes c false) in omega (arith, h, k, p)
@@ -85,6 +90,7 @@ begun_bytes key text old one two rest utf8 h k same =
     ∙ append_assoc old key (equals_sign ∷ double_quote ∷ left_bytes (chars text))
     ∙ ap (λ bs. old ++ bs) (sym (pair_bytes key text utf8))
 
+-- what is left of a text is written as its first character, then what is left behind that one
 left_next : (rest more : List ℕ) (c : ℕ) → IsUtf8 rest → rest ≡ encode_utf8 c ++ more → left_bytes (chars rest) ≡ encode_utf8_all (written_character c) ++ left_bytes (chars more)
 left_next rest more c utf8 spelled = ap left_bytes (chars_past_char rest more c utf8 spelled) ∙ left_one c (chars more)
 
@@ -102,6 +108,7 @@ next_len rest more c utf8 spelled =
     let k = length-append (encode_utf8_all (written_character c)) (left_bytes (chars more)) in
     omega (arith, h, k)
 
+-- characters that mean themselves in double quotes are written as they are, before what is left
 left_plain : (cs ds : List ℕ) → list_all is_plain_inside cs ≡ true
     → left_bytes (cs ++ ds) ≡ encode_utf8_all cs ++ left_bytes ds
 left_plain [] ds h = refl
@@ -113,6 +120,7 @@ left_plain (c ∷ cs) ds h =
     ∙ ap (λ bs. encode_utf8 c ++ bs) (left_plain cs ds (and_right (is_plain_inside c) (list_all is_plain_inside cs) h))
     ∙ sym (append_assoc (encode_utf8 c) (encode_utf8_all cs) (left_bytes ds))
 
+-- the longest front of characters that mean themselves is written as its own bytes, before what is left
 left_run : (rest plain after : List ℕ) → IsUtf8 plain
     → IsSpan is_plain_inside (chars rest) (chars plain) (chars after)
     → left_bytes (chars rest) ≡ plain ++ left_bytes (chars after)
@@ -157,6 +165,7 @@ bytes_of_first pair pairs =
     encodes-append (written_pair pair) (written_text pairs)
     ∙ ap (λ cs. encode_utf8_all cs ++ written_bytes pairs) (sym (append-nil (written_pair pair)))
 
+-- the written form of pairs is as long as that of the first and that of the others together
 first_len : (pair : List ℕ × List ℕ) (pairs : List (List ℕ × List ℕ)) → byte_len (written_text (pair ∷ pairs)) ≡ byte_len (written_text (pair ∷ [])) + byte_len (written_text pairs)
 first_len pair pairs = ap length (bytes_of_first pair pairs) ∙ length-append (written_bytes (pair ∷ [])) (written_bytes pairs)
 
@@ -164,6 +173,7 @@ first_len pair pairs = ap length (bytes_of_first pair pairs) ∙ length-append (
 left_first : (key value key' value' : List ℕ) (rest pairs : List (List ℕ × List ℕ)) → key' ≡ key → value' ≡ value → pairs ≡ (key, value) ∷ rest → texts pairs ≡ (chars key', chars value') ∷ texts rest
 left_first key value key' value' rest pairs k v first = ap texts first ∙ ap (λ t. (chars t, chars value) ∷ texts rest) (sym k) ∙ ap (λ t. (chars key', chars t) ∷ texts rest) (sym v)
 
+-- a count up to the greatest `usize` comes to the same when a part of what is left is counted first
 saturated_more : (len add new one rest left whole : ℕ) → add ≡ saturated one → new ≡ saturated (len + add) → left ≡ one + rest → saturated (len + left) ≡ saturated whole → saturated (new + rest) ≡ saturated whole
 saturated_more len add new one rest left whole h k l e = omega arith
 

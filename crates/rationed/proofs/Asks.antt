@@ -19,6 +19,7 @@ use denote.Triple.Spec.{triple_of}
 use Rattle.std.specs.contracts.cell.Cell as CE
 use Rattle.rationed.specs.contracts.refuses as TK
 
+-- the type of the count of requests that may still be made: a cell with a `u64`
 abbrev Calls : RattleType
 Calls = CE.the_row u64
 
