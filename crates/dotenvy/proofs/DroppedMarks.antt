@@ -11,6 +11,7 @@ use Rattle.dotenvy.specs.PhysicalLines.{line_texts}
 use Rattle.dotenvy.proofs.Basics.{and_left, and_right, same_from, if_true, if_false}
 use Rattle.dotenvy.proofs.LineEntries.{decided-none}
 
+-- bytes that are a front of a byte order mark, but not all of it, have no line feed once a mark is off
 mark_undecided : (bytes : List ℕ) → begins_mark bytes ≡ true → up_to_last_line_feed (without_mark bytes) ≡ []
 mark_undecided [] h = refl
 mark_undecided (b ∷ []) h = ap (λ c. up_to_last_line_feed (without_mark (c ∷ []))) (same_from b 0xEF (and_left (b == 0xEF) true h))
@@ -30,6 +31,7 @@ pub record Marked (bytes : List ℕ) : Type 0 where
   pub joins : bytes ≡ used ++ without_mark bytes
   pub stays : (more rest : List ℕ) → without_mark bytes ≡ more ++ rest → without_mark (used ++ more) ≡ more
 
+-- where bytes begin with no byte order mark, none is dropped from a front of them
 no_mark : (bytes more rest : List ℕ) → starts_with nat_eq bytes byte_order_mark ≡ false → bytes ≡ more ++ rest → without_mark more ≡ more
 no_mark bytes [] rest h e = refl
 no_mark bytes (b ∷ []) rest h e = if_false [] (b ∷ []) (starts_with nat_eq (b ∷ []) byte_order_mark) (short (0xEF == b))
@@ -45,6 +47,7 @@ no_mark bytes (b ∷ c ∷ []) rest h e = if_false [] (b ∷ c ∷ []) (starts_w
     short false u = refl
 no_mark bytes (b ∷ c ∷ d ∷ more) rest h e = if_false more (b ∷ c ∷ d ∷ more) (starts_with nat_eq (b ∷ c ∷ d ∷ more) byte_order_mark) (ap (λ bs. starts_with nat_eq bs byte_order_mark) (sym e) ∙ h)
 
+-- any bytes are what dropping a mark uses and what it leaves, and it uses the same before any front of that
 pub marked : (bytes : List ℕ) → Marked bytes
 marked bytes = at bytes (starts_with nat_eq bytes byte_order_mark) refl
   where

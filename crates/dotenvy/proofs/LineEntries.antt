@@ -29,6 +29,7 @@ pub left-none : (dialect : Dialect) (fault : Option ErrorKind) (bytes : List ℕ
 left-none dialect None bytes e f = subst (λ b. HasEntries dialect b []) (sym e) (entries-none dialect)
 left-none dialect (Some kind) bytes e f = absurd (none-some kind (sym f))
 
+-- a logical line that is no open end gives its entries before those of the later lines up to an open end
 decided_give : (dialect : Dialect) (next : Logical) (lines : List Logical) (front after : List Entry) → (IsOpen next → ⊥) → Gives dialect next front → GiveAll dialect (without_open_end lines) after → GiveAll dialect (without_open_end (next ∷ lines)) (front ++ after)
 decided_give dialect Skip lines front after no_open gives later = (front, after, gives, later, refl)
 decided_give dialect (Text text) lines front after no_open gives later = (front, after, gives, later, refl)

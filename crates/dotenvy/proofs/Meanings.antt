@@ -42,6 +42,7 @@ unwrap_or-now (Some x) default = refl
 pub found_first : (a b : Option (List ℕ)) (found : Option (Bor (List ℕ))) (x : Bor (List ℕ)) → found ≡ Some x → Some x.now ≡ a → option_copied found ≡ option_or a b
 found_first a b found x h k = ap option_copied h ∙ k ∙ sym (ap (λ o. option_or o b) (sym k) ∙ k)
 
+-- the second of two look-ups, where the first lacks the name
 pub found_second : (a b : Option (List ℕ)) (found : Option (Bor (List ℕ))) → None ≡ a → option_copied found ≡ b → option_copied found ≡ option_or a b
 found_second a b found h k = k ∙ ap (λ o. option_or o b) h
 
@@ -53,6 +54,7 @@ all_read dialect m n text rest pieces is h = is.reads ∙ ap (given pieces) h �
 pub one_more : (look_up : LookUp) (p q : List Piece) → encode_utf8_all (meaning look_up (p ++ q)) ≡ encode_utf8_all (meaning look_up p) ++ encode_utf8_all (meaning look_up q)
 one_more look_up p q = ap encode_utf8_all (meaning-append look_up p q) ∙ encodes-append (meaning look_up p) (meaning look_up q)
 
+-- two numbers, each saturated, then added and saturated again, are their sum, saturated
 saturated-add : (a b : ℕ) → min (min a (2 ^ 64 - 1) + min b (2 ^ 64 - 1)) (2 ^ 64 - 1) ≡ min (a + b) (2 ^ 64 - 1)
 saturated-add a b = omega arith
 
@@ -64,6 +66,7 @@ counted look_up p q len more bytes h k e =
     ∙ saturated-add (byte_len (meaning look_up p)) (byte_len (meaning look_up q))
     ∙ ap saturated (sym (length-append (encode_utf8_all (meaning look_up p)) (encode_utf8_all (meaning look_up q))) ∙ sym (ap length (one_more look_up p q)))
 
+-- a value that is read as these pieces measures the byte length of their meaning, saturated
 pub measured : (dialect : Dialect) (look_up : LookUp) (value : List ℕ) (pieces : List Piece) (len : ℕ) → read dialect value (base unquoted) ≡ Some pieces → len ≡ saturated (byte_len (meaning look_up pieces)) → Measures dialect look_up value (Ok len)
 measured dialect look_up value pieces len h k = subst (λ r. MatchOption r ⊥ (λ p. len ≡ saturated (byte_len (meaning look_up p)))) (sym h) k
 
@@ -79,6 +82,7 @@ room_for dialect look_up n value left p q len capacity h room = at (read dialect
         let front = ap length (one_more look_up p q) in
         omega (arith, fits, all, front, length-append (encode_utf8_all (meaning look_up (p ++ q))) (encode_utf8_all (meaning look_up more)), length-append (encode_utf8_all (meaning look_up p)) (encode_utf8_all (meaning look_up q)))
 
+-- where all that a value means fits, its next piece fits behind what the pieces before it mean
 pub room_left : (dialect : Dialect) (look_up : LookUp) (m : Mode) (value rest left : List ℕ) (n : Mode) (p q : List Piece) (piece old new : List ℕ) (old_len len capacity now : ℕ) → HasRoom dialect look_up value old_len capacity → IsReadTo dialect (base unquoted) value p m rest → IsReadTo dialect m rest q n left → piece ≡ encode_utf8_all (meaning look_up q) → new ≡ old ++ encode_utf8_all (meaning look_up p) → old_len ≡ length old → len ≡ length new → capacity ≤ now → len + length piece ≤ now
 room_left dialect look_up m value rest left n p q piece old new old_len len capacity now room is next means appended old_is len_is grown =
     let read_both = is.reads ∙ ap (given p) next.reads ∙ given-given p q (read dialect left n) in
@@ -87,5 +91,6 @@ room_left dialect look_up m value rest left n p q piece old new old_len len capa
     let bytes = ap length means in
     omega (arith, fits, total, bytes, old_is, len_is, grown, length-append old (encode_utf8_all (meaning look_up p)))
 
+-- where what pieces mean was appended, and then what more pieces mean, what all of them mean was appended
 pub appended_more : (look_up : LookUp) (p q : List Piece) (piece old now new : List ℕ) → now ≡ old ++ encode_utf8_all (meaning look_up p) → new ≡ now ++ piece → piece ≡ encode_utf8_all (meaning look_up q) → new ≡ old ++ encode_utf8_all (meaning look_up (p ++ q))
 appended_more look_up p q piece old now new h k means = k ∙ ap (λ t. t ++ piece) h ∙ append_assoc old (encode_utf8_all (meaning look_up p)) piece ∙ ap (λ t. old ++ t) (ap (λ t. encode_utf8_all (meaning look_up p) ++ t) means ∙ sym (one_more look_up p q))

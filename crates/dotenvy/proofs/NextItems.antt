@@ -70,9 +70,11 @@ passed_none a s entries is_open told has = record {
   dialect = refl;
 }
 
+-- an input is told to have at most one thing left
 some_left : (a b : Ahead) (o : Option Ahead) → o ≡ Some a → o ≡ Some b → a ≡ b
 some_left a b o h k = cc
 
+-- where no byte is left and no fault is told, there are no entries left
 no_entries : (dialect : Dialect) (fault : Option ErrorKind) (left : List ℕ) (entries : List Entry) → HasLeft dialect fault left entries → left ≡ [] → fault ≡ None → entries ≡ []
 no_entries dialect fault left entries has empty none = left_once dialect fault left entries [] has (left-none dialect fault left empty none)
 
@@ -103,9 +105,11 @@ decide_more dialect used bytes count next front first no_open always gives more 
 passed_stays : (a : Ahead) (s t : IterState) (entries : List Entry) (next : Logical) (m : InputState) → (p : Passed a s entries t) → TakesNext (record { bytes = p.left; fault = a.fault }) t.lines.input next m → DecideFirst s.dialect p.used []
 passed_stays a s t entries next m p k = elim p.stays [ inl ended ↦ absurd (k.some (no_lines a.fault p.left ended.1)) | inr first ↦ first ]
 
+-- behind the line taken the end was read, or the bytes used so far decide its entries whatever follows
 taken_stays : (a : Ahead) (s t : IterState) (entries front : List Entry) (next : Logical) (m : InputState) → (p : Passed a s entries t) → (k : TakesNext (record { bytes = p.left; fault = a.fault }) t.lines.input next m) → Gives s.dialect next front → IsAtEnd a.fault k.left m ⊎ DecideFirst s.dialect (p.used ++ k.used) front
 taken_stays a s t entries front next m p k gives = elim k.stays [ inl ended ↦ inl ended | inr always ↦ inr (decide_more s.dialect p.used k.used k.count next front (passed_stays a s t entries next m p k) always.0 always.1 gives) ]
 
+-- the bytes are those that were passed, those of the line that was taken, and those that are left
 taken_joins : (a : Ahead) (s t : IterState) (entries : List Entry) (next : Logical) (m : InputState) → (p : Passed a s entries t) → (k : TakesNext (record { bytes = p.left; fault = a.fault }) t.lines.input next m) → a.bytes ≡ (p.used ++ k.used) ++ k.left
 taken_joins a s t entries next m p k = p.joins ∙ ap (λ bytes. p.used ++ bytes) k.joins ∙ sym (append_assoc p.used k.used k.left)
 
@@ -198,6 +202,7 @@ fault_added names a s t v m entries (EnvVar e) p k goes_on remembered lines dial
 fault_added names a s t v m entries (Nul key) p k goes_on remembered lines dialect = absurd k
 fault_added names a s t v m entries (Memory e) p k goes_on remembered lines dialect = absurd k
 
+-- logical lines that have failed stay failed, whatever fault was given
 after_failed : {A : Type 0} (e : Error A) (m : LinesState) → m.stage ≡ Failed → (lines_after e m).stage ≡ Failed
 after_failed (LineParse text index) m h = h
 after_failed (Io e) m h = h
@@ -205,6 +210,7 @@ after_failed (EnvVar e) m h = h
 after_failed (Nul key) m h = h
 after_failed (Memory e) m h = refl
 
+-- no fault that is given changes the input of the logical lines
 after_input : {A : Type 0} (e : Error A) (m : LinesState) → (lines_after e m).input ≡ m.input
 after_input (LineParse text index) m = refl
 after_input (Io e) m = refl
