@@ -21,6 +21,7 @@ use Rattle.dotenvy.specs.NextPiece.{IsReadTo, GivesPiece}
 use Rattle.dotenvy.proofs.Basics.{and_left, and_right, both, same_from}
 use Rattle.dotenvy.proofs.NextPiece.{one, read_on}
 
+-- the character is a backslash
 abbrev is_backslash : ℕ → Bool
 is_backslash c = c == backslash
 
@@ -38,6 +39,7 @@ encoded (c ∷ row) h =
     subst (λ d. encode_utf8 d ++ encode_utf8_all row ≡ d ∷ row) (sym e)
     (ap (λ bs. backslash ∷ bs) (encoded row (and_right (is_backslash c) (list_all is_backslash row) h)))
 
+-- each of a row of backslashes is a Unicode scalar value
 are_scalars : (row : List ℕ) → list_all is_backslash row ≡ true → scalars row ≡ true
 are_scalars [] h = refl
 are_scalars (c ∷ row) h =
@@ -49,6 +51,7 @@ are_scalars (c ∷ row) h =
 characters : (row : List ℕ) → list_all is_backslash row ≡ true → chars row ≡ row
 characters row h = ap chars (sym (encoded row h)) ∙ chars-encodes row (are_scalars row h)
 
+-- a run longer than a number begins with what passes, and has that number at least behind it
 taken_more : (p : Bool) (i more : ℕ) → suc i ≤ cond p (1 + more) 0 → (p ≡ true) × (i ≤ more)
 taken_more true i more h = (refl, omega (arith, h))
 taken_more false i more h = absurd (omega (arith, h))
@@ -77,12 +80,14 @@ begins_escape : (dialect : Dialect) (q : Quoting) → goes dialect (base q) back
 begins_escape dialect unquoted = refl
 begins_escape dialect double_quoted = refl
 
+-- behind a backslash, another is read as the text of one, and a part may begin after it
 escaped_one : (dialect : Dialect) (q : Quoting) (c : ℕ) (cs : List ℕ) → is_backslash c ≡ true
     → IsReadTo dialect (escaping q) (c ∷ cs) (Text (backslash ∷ []) ∷ []) (base q) cs
 escaped_one dialect q c cs h =
     subst (λ d. IsReadTo dialect (escaping q) (d ∷ cs) (Text (backslash ∷ []) ∷ []) (base q) cs)
     (sym (same_from c backslash h)) (one dialect (escaping q) (base q) backslash cs (Text (backslash ∷ []) ∷ []) refl)
 
+-- where a part may begin, a backslash begins an escape, and gives no piece yet
 escape_begun : (dialect : Dialect) (q : Quoting) (c : ℕ) (cs : List ℕ) → is_backslash c ≡ true
     → IsReadTo dialect (base q) (c ∷ cs) [] (escaping q) cs
 escape_begun dialect q c cs h =

@@ -72,9 +72,11 @@ shut_gives : {A : Type 0} (names : Texts) (s : IterState) (given : List (Given A
 shut_gives names s [] shut gives = refl
 shut_gives names s (item ∷ given) shut (t, next, later) = absurd (none-some item (sym (next.1 shut).0))
 
+-- a stage that has ended is not open
 ended_shut : (s : Stage) → s ≡ Ended → s ≡ Open → ⊥
 ended_shut s is e = let f : Ended ≡ Open = sym is ∙ e in cc
 
+-- a stage that has failed is not open
 failed_shut : (s : Stage) → s ≡ Failed → s ≡ Open → ⊥
 failed_shut s is e = let f : Failed ≡ Open = sym is ∙ e in cc
 

@@ -13,15 +13,19 @@ use Rattle.dotenvy.specs.declared.errors.Error.{Error}
 use Rattle.dotenvy.specs.Environment.{name_ok}
 use Rattle.dotenvy.specs.NextItem.{GivesName}
 
+-- a character that begins a key may also stand later in one
 begins-continues : (c : ℕ) → begins_key c ≡ true → continues_key c ≡ true
 begins-continues c h = grind (arith, nat_tests, h)
 
+-- a character of a key is an ASCII one
 continues-ascii : (c : ℕ) → continues_key c ≡ true → c < 128
 continues-ascii c h = grind (arith, nat_tests, h)
 
+-- a character of a key is no `=`
 continues-no_equals : (c : ℕ) → continues_key c ≡ true → (c == equals_sign) ≡ false
 continues-no_equals c h = grind (arith, nat_tests, h)
 
+-- a character of a key is no NUL
 continues-no_nul : (c : ℕ) → continues_key c ≡ true → (c == 0) ≡ false
 continues-no_nul c h = grind (arith, nat_tests, h)
 
@@ -39,6 +43,7 @@ none-continuing b other (c ∷ cs) h =
     let parts = and_parts (continues_key c) (list_all continues_key cs) h in
     ap (λ t. t || list_any (λ c. c == b) cs) (other c parts.0) ∙ none-continuing b other cs parts.1
 
+-- each character of a key, the first one too, may stand later in a key
 key-continues : (cs : List ℕ) → is_key cs ≡ true → list_all continues_key cs ≡ true
 key-continues [] h = refl
 key-continues (c ∷ cs) h =
@@ -53,6 +58,7 @@ encodes-key cs h = encodes-continuing cs (key-continues cs h)
 pub chars-key : (bs : List ℕ) → IsUtf8 bs → is_key (chars bs) ≡ true → chars bs ≡ bs
 chars-key bs utf8 h = sym (encodes-key (chars bs) h) ∙ encodes-chars bs utf8
 
+-- the characters of a key, taken as bytes, are a name: not empty, without `=` and NUL
 name_from_key : (cs : List ℕ) → is_key cs ≡ true → name_ok cs ≡ true
 name_from_key [] h = h
 name_from_key (c ∷ cs) h =

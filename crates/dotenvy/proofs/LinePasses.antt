@@ -39,19 +39,23 @@ front_and_left text left front u v h =
     ∙ length-append (encode_utf8_all front) (encode_utf8_all (chars left))
     ∙ ap (λ t. byte_len front + length t) (encodes-chars left v)
 
+-- a text without characters has no bytes
 no_bytes : (text : List ℕ) → IsUtf8 text → chars text ≡ [] → length text ≡ 0
 no_bytes text u h = ap length (sym (encodes-chars text u) ∙ ap encode_utf8_all h)
 
+-- bytes whose number is zero are none
 no_length : (text : List ℕ) → length text ≡ 0 → text ≡ []
 no_length [] h = refl
 no_length (b ∷ text) h = absurd (omega (arith, h))
 
+-- where a place is the length itself, the index is the other number
 same_length : (n k : ℕ) → cond (n == n) k n ≡ k
 same_length n k = rw (same n) refl
   where
     same : (n : ℕ) → (n == n) ≡ true
     same n = grind (arith, nat_tests)
 
+-- where a place is below the length, the index is the place itself
 other_length : (n m k : ℕ) → n < m → cond (n == m) k n ≡ n
 other_length n m k h = rw (differ n m h) refl
   where
@@ -73,6 +77,7 @@ left_counts value left front value_count left_count u some h a b =
     at [] k = absurd (some (no_bytes left u k))
     at (c ∷ cs) k = let e = ap length k in omega (arith, e, b)
 
+-- where some of a value is left at its fault, the index is its characters less those that are left
 pub index_before : (value left front : List ℕ) (value_count left_count : ℕ) → IsUtf8 left → length left ≢ 0 → chars value ≡ front ++ chars left → value_count ≡ length (chars value) → left_count ≡ length (chars left) → value_count - left_count ≡ value_index (chars value) (length front)
 index_before value left front value_count left_count u some h a b =
     let counts = left_counts value left front value_count left_count u some h a b in
@@ -93,9 +98,11 @@ means_pieces dialect look_up value len h = at (read dialect value (base unquoted
     at None e k = absurd k
     at (Some pieces) e k = (pieces, value-read dialect value pieces e, k)
 
+-- a text that is neither empty nor a comment, and is measured, is declared of the key with its length
 pub assigned_value : (dialect : Dialect) (look_up : LookUp) (key text : Bor (List ℕ)) (len : ℕ) → is_empty_or_comment (chars text.now) ≡ false → MeansBytes dialect look_up (chars text.now) len → ScansAssigned dialect look_up (chars key.now) (chars text.now) (Ok (record { key = key; value = Some (record { text = text; len = len }) }))
 assigned_value dialect look_up key text len some h = let m = means_pieces dialect look_up (chars text.now) len h in (refl, m.0, (ap not some, refl, m.1, m.2))
 
+-- where a text that is no comment and not empty stops being a value, its fault has the text and that index
 pub assigned_fault : (dialect : Dialect) (look_up : LookUp) (key : List ℕ) (text : Bor (List ℕ)) (left : List ℕ) (index : ℕ) → is_empty_or_comment (chars text.now) ≡ false → StopsAt dialect (base unquoted) (chars text.now) left → ((front : List ℕ) → chars text.now ≡ front ++ left → index ≡ value_index (chars text.now) (length front)) → ScansAssigned dialect look_up key (chars text.now) (Err (record { text = text; index = index }))
 assigned_fault dialect look_up key text left index some stops counts = (
   refl,
@@ -118,12 +125,14 @@ declared dialect look_up line key rest declaration some parsed is = record {
   is_assigned = is.2;
 }
 
+-- a line that assigns what has a fault says that fault
 pub value_fault : (dialect : Dialect) (look_up : LookUp) (line key rest : List ℕ) (fault : Fault) → is_nothing (drop_trailing_whitespace line) ≡ false → parse (drop_trailing_whitespace line) ≡ assigns key rest → ScansAssigned dialect look_up key rest (Err fault) → Scans dialect look_up line (Err fault)
 value_fault dialect look_up line key rest fault some parsed is = subst (λ t. Says dialect line (SaysFault t fault.index)) (sym is.0) (
   ap not some,
   inr (record { key = key; statement = parse-statement (drop_trailing_whitespace line) key rest parsed; assigned = is.1.assigned; none = is.1.none; place = is.1.place; is_place = is.1.is_place; index_is = is.1.index_is }),
 )
 
+-- what is left at a fault in a statement is the back of its text
 pub left_of_statement : (text left : List ℕ) → parse text ≡ fails left → (front : List ℕ) × (text ≡ front ++ left)
 left_of_statement text left h = let f = parse-fault text left h in (f.1, f.2)
 
@@ -143,6 +152,7 @@ says-no_statement dialect line front left some h e =
       }),
     )
 
+-- a line that is neither nothing nor a statement has its fault at the bytes before what is left
 pub statement_fault : (dialect : Dialect) (line left : List ℕ) (index : ℕ) → is_nothing (drop_trailing_whitespace line) ≡ false → parse (drop_trailing_whitespace line) ≡ fails left → ((front : List ℕ) → drop_trailing_whitespace line ≡ front ++ left → index ≡ byte_len front) → Says dialect line (SaysFault line index)
 statement_fault dialect line left index some parsed counts = let f = left_of_statement (drop_trailing_whitespace line) left parsed in subst (λ n. Says dialect line (SaysFault line n)) (sym (counts f.0 f.1)) (says-no_statement dialect line f.0 left some parsed f.1)
 
@@ -183,6 +193,7 @@ pair_answer dialect look_up line declaration copies is are = (
   (refl, chars-spelled (string_bytes copies.value) (meaning look_up is.pieces) (IsUtf8-string_bytes copies.value) are.value),
 )
 
+-- a line with a declaration, trimmed, is a statement of the copied key and of what is assigned
 pub pair_statement : {A : Type 0} (dialect : Dialect) (look_up : LookUp) (line : List ℕ) (declaration : Declaration) (copies : Copies A) (is : IsDeclared dialect look_up line declaration) → AreCopiesOf look_up declaration is.pieces copies → IsStatement (drop_trailing_whitespace line) (chars (string_bytes copies.key)) is.rest
 pair_statement dialect look_up line declaration copies is are = subst (λ k. IsStatement (drop_trailing_whitespace line) (chars k) is.rest) (sym are.key) is.statement
 

@@ -32,6 +32,7 @@ front-valid bytes n valid =
       longest = λ m more within. valid.longest m (omega (arith, more, long));
     }
 
+-- bytes that are text are themselves their longest front that is text
 pub front-whole : (bytes : List ℕ) → IsUtf8 bytes → IsTextFront bytes bytes
 front-whole bytes text = record {
   text = text;
@@ -62,6 +63,7 @@ pub record FirstCharacter (bytes : List ℕ) : Type 0 where
   pub within : count ≤ length bytes
   pub text : IsUtf8 (take count bytes)
 
+-- bytes that are text, and not none, begin with a character
 first_character : (bytes : List ℕ) → bytes ≢ [] → IsUtf8 bytes → FirstCharacter bytes
 first_character bytes some text = at (chars bytes) (encodes-chars bytes text)
   where
@@ -107,10 +109,12 @@ none-front (x ∷ xs) ys h = at (not (x == line_feed)) h (none-front xs ys)
     at true e later = later e
     at false e later = absurd (false≢true e)
 
+-- the back of bytes without a line feed has none
 pub none-back : (xs ys : List ℕ) → no_line_feed (xs ++ ys) ≡ true → no_line_feed ys ≡ true
 none-back [] ys h = h
 none-back (x ∷ xs) ys h = none-back xs ys (and_right (not (x == line_feed)) (no_line_feed (xs ++ ys)) h)
 
+-- a whole line has a line feed
 whole-none : (xs : List ℕ) → is_whole_line xs ≡ true → no_line_feed xs ≡ true → ⊥
 whole-none [] h k = false≢true h
 whole-none (x ∷ []) h k = at (x == line_feed) h (and_left (not (x == line_feed)) true k)
@@ -133,6 +137,7 @@ whole-front (x ∷ z ∷ xs) (y ∷ ys) some h =
     let later = whole-front (z ∷ xs) (y ∷ ys) some (and_right (not (x == line_feed)) (is_whole_line ((z ∷ xs) ++ y ∷ ys)) h) in
     ap (λ b. b && no_line_feed (z ∷ xs)) first ∙ later
 
+-- what is left of a whole line that is cut before its end is a whole line
 pub whole-back : (xs ys : List ℕ) → ys ≢ [] → is_whole_line (xs ++ ys) ≡ true → is_whole_line ys ≡ true
 whole-back [] ys some h = h
 whole-back (x ∷ xs) [] some h = absurd (some refl)
@@ -189,10 +194,12 @@ pub some_line : (line : List ℕ) → is_whole_line line ≡ true → line ≢ [
 some_line [] h = λ e. false≢true h
 some_line (x ∷ line) h = λ e. cc
 
+-- bytes that are not none have a length of one at least
 long : (xs : List ℕ) → xs ≢ [] → 1 ≤ length xs
 long [] h = absurd (h refl)
 long (x ∷ xs) h = omega arith
 
+-- bytes with a length of one at least are not none
 some_bytes : (xs : List ℕ) → 1 ≤ length xs → xs ≢ []
 some_bytes [] h = absurd (omega (arith, h))
 some_bytes (x ∷ xs) h = λ e. cc

@@ -65,6 +65,7 @@ load_of mode s old a entries = record {
 abbrev run_all : Load → List Entry → Loaded
 run_all l entries = run l.mode l.env l.remembered entries
 
+-- the entries one by one, from here on: over the environment and the remembered values as they are by now
 abbrev run_on : Load → Texts → Remembered → List Entry → Loaded
 run_on l names recall entries = run l.mode (values_of names) (recalled_of recall) entries
 
@@ -174,6 +175,7 @@ ends_final l b t v P names recall (error.EnvVar x) k same told stops (inr io) = 
 ends_final l b t v P names recall (error.Nul x) k same told stops (inr io) = absurd io
 ends_final l b t v P names recall (error.Memory x) k same told stops (inr io) = absurd io
 
+-- to be open is not to have ended
 open_ended : Open ≡ Ended → ⊥
 open_ended h = cc
 
@@ -350,6 +352,7 @@ record TakesText (dialect : Dialect) (a : Ahead) (s : InputState) (text : List �
   gives : Gives dialect next (outcome_entries outcome)
   goes_on : GoesOn m
 
+-- a text that the splitter answers is that of a logical line taken, which gives what the text says
 takes_line : (A : Type 0) (dialect : Dialect) (a : Ahead) (s : InputState) (text : List ℕ) (outcome : Outcome)
     (m : LinesState) → AdvanceIs {A = A} a s (Some (Ok tt)) text m → Says dialect (chars text) outcome →
     TakesText dialect a s text outcome m
@@ -519,6 +522,7 @@ loads_refused mode s old e is =
     λ a told entries has.
     ends_memory (load_of mode s old a entries) old s.remembered e (none_done mode s old a entries) is
 
+-- where a load leaves and answers the same as another, the other does as the first
 pub same-back : (x y : Loaded) → SameLoad x y → SameLoad y x
 same-back x y h = record { env = λ n. sym (h.env n); answer = sym h.answer }
 

@@ -106,6 +106,7 @@ module _ (Z : Al) {M : Type 1} {𝓤 : Ura M} (𝓛 : Logic 𝓤) (at_mem : Memo
         nothing ! $ feq_i ! (List Val) (vunit ∷ []) (vunit ∷ []) refl $ nothing ! $ nothing ! $ fjoin ! $ nothing ! $ fjoin ! $ nothing ! $ fjoin ! $ nothing ! $ fjoin ! $ join ! $
         move ! (2 ∷ 3 ∷ []) $ join ! $ join ! $ done !)))))
 
+-- where the inner allocator keeps its contract of `deallocate`, so does the rationed one
 pub deallocate_spec : {M : Type 1} → stated.statement M
 unfolding tables_of
 deallocate_spec 𝓤 𝓛 𝓜 𝓡 wired Y L g d d' met _ =
