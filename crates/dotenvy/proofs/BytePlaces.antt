@@ -25,6 +25,7 @@ places_kept test front (b ∷ back) =
     ap (λ x. length (cond (test x) (length front ∷ later) later)) (get_or-append_seam front b back 0)
     ∙ counted (test b) (length front) b later (filter test back) same
 
+-- a count less nothing is that count
 nothing_less : (n : ℕ) → n - 0 ≡ n
 nothing_less n = omega arith
 

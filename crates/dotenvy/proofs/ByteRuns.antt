@@ -39,17 +39,21 @@ bytes_of x y z c = cond x (c ∷ []) (cond y ((192 + c / 64) ∷ (128 + c % 64) 
     (cond z ((224 + c / 4096) ∷ (128 + c / 64 % 64) ∷ (128 + c % 64) ∷ [])
     ((240 + c / 262144) ∷ (128 + c / 4096 % 64) ∷ (128 + c / 64 % 64) ∷ (128 + c % 64) ∷ [])))
 
+-- 128 and a remainder by 64 make a byte from 128 to 191, as the later bytes of a wide character are
 is_later : (n : ℕ) → (128 ≤ 128 + n % 64) × (128 + n % 64 < 192)
 is_later n = (omega arith, omega arith)
 
+-- where all bytes from 128 to 191 pass, so does 128 and a remainder by 64
 later_pass : (byte : ℕ → Bool) (n : ℕ) → ((b : ℕ) → 128 ≤ b → b < 192 → byte b ≡ true) → byte (128 + n % 64) ≡ true
 later_pass byte n later = later (128 + n % 64) (is_later n).0 (is_later n).1
 
+-- where all bytes from 128 to 191 pass, so do the last two bytes of a character of three bytes or four
 two_pass : (byte : ℕ → Bool) (c : ℕ) → ((b : ℕ) → 128 ≤ b → b < 192 → byte b ≡ true)
     → (byte (128 + c / 64 % 64) && (byte (128 + c % 64) && true)) ≡ true
 two_pass byte c later = both (byte (128 + c / 64 % 64)) (byte (128 + c % 64) && true)
     (later_pass byte (c / 64) later) (both (byte (128 + c % 64)) true (later_pass byte c later) refl)
 
+-- where the bytes from 128 to 191 pass, and a character's first byte, all its bytes do, whatever its size
 bytes_pass : (byte : ℕ → Bool) (x y z : Bool) (c : ℕ) → ((b : ℕ) → 128 ≤ b → b < 192 → byte b ≡ true)
     → byte (get_or (bytes_of x y z c) 0 0) ≡ true → list_all byte (bytes_of x y z c) ≡ true
 bytes_pass byte true y z c later h = both (byte c) true h refl
@@ -69,16 +73,19 @@ encoded_pass : (byte : ℕ → Bool) (c : ℕ) → ((b : ℕ) → 128 ≤ b → 
 unfolding encode
 encoded_pass byte c later h = bytes_pass byte (ltb c 128) (ltb c 2048) (ltb c 65536) c later h
 
+-- a run of bytes that pass, put before others, lengthens the run at their front by its own length
 passed_over : (byte : ℕ → Bool) (xs ys : List ℕ) → list_all byte xs ≡ true
     → prefix_len byte (xs ++ ys) ≡ length xs + prefix_len byte ys
 passed_over byte [] ys h = omega arith
 passed_over byte (x ∷ xs) ys h = let k = passed_over byte xs ys (and_right (byte x) (list_all byte xs) h) in
     if_true (1 + prefix_len byte (xs ++ ys)) 0 (byte x) (and_left (byte x) (list_all byte xs) h) ∙ omega (arith, k)
 
+-- where the first byte fails, the run at the front is empty
 stopped : (byte : ℕ → Bool) (xs : List ℕ) → byte (get_or xs 0 0) ≡ false → prefix_len byte xs ≡ 0
 stopped byte [] h = refl
 stopped byte (x ∷ xs) h = if_false (1 + prefix_len byte xs) 0 (byte x) h
 
+-- what begins with the bytes of a character begins with that character's first byte
 lead-append : (c : ℕ) (bs : List ℕ) → get_or (encode c ++ bs) 0 0 ≡ lead c
 lead-append c bs = get_or-append (encode c) bs 0 0
     (let n = length-encode c in let some = len_utf8_bounds c in omega (arith, n, some.0))
@@ -91,6 +98,7 @@ record IsRun (byte character : ℕ → Bool) (cs : List ℕ) : Type 0 where
   pass : list_all character front ≡ true
   len : prefix_len byte (encode_utf8_all cs) ≡ length (encode_utf8_all front)
 
+-- where bytes tell characters: one whose first byte passes is one that passes, and all its bytes pass
 character_passes : (byte character : ℕ → Bool) → Tells byte character → (c : ℕ) → scalar c ≡ true
     → byte (lead c) ≡ true → (character c ≡ true) × (list_all byte (encode c) ≡ true)
 character_passes byte character tells c is h = at (ltb c 128) refl
@@ -107,6 +115,7 @@ character_passes byte character tells c is h = at (ltb c 128) refl
         let high : 128 ≤ c = grind (arith, nat_tests, large) in
         (tells.wide c high is h, encoded_pass byte c (λ b low below. tells.later c b high h low below) h)
 
+-- where bytes tell characters, the bytes that pass at a text's front are whole characters that pass
 run : (byte character : ℕ → Bool) → Tells byte character → (cs : List ℕ) → scalars cs ≡ true → IsRun byte character cs
 run byte character tells [] are = record { front = []; rest = []; spelled = refl; pass = refl; len = refl }
 run byte character tells (c ∷ cs) are = at (byte (lead c)) refl
@@ -131,11 +140,13 @@ run byte character tells (c ∷ cs) are = at (byte (lead c)) refl
               ∙ sym (length-append (encode c) (encode_utf8_all more.front));
         }
 
+-- where two texts joined have Unicode scalar values alone, so has the first
 scalars_left : (xs ys : List ℕ) → scalars (xs ++ ys) ≡ true → scalars xs ≡ true
 scalars_left [] ys h = refl
 scalars_left (x ∷ xs) ys h = both (scalar x) (scalars xs) (and_left (scalar x) (scalars (xs ++ ys)) h)
     (scalars_left xs ys (and_right (scalar x) (scalars (xs ++ ys)) h))
 
+-- where two texts joined have Unicode scalar values alone, so has the second
 scalars_right : (xs ys : List ℕ) → scalars (xs ++ ys) ≡ true → scalars ys ≡ true
 scalars_right [] ys h = h
 scalars_right (x ∷ xs) ys h = scalars_right xs ys (and_right (scalar x) (scalars (xs ++ ys)) h)
@@ -169,10 +180,12 @@ prefix_len_same p q same [] = refl
 prefix_len_same p q same (b ∷ bs) = ap (λ t. cond t (1 + prefix_len p bs) 0) (same b)
     ∙ ap (λ n. cond (q b) (1 + n) 0) (prefix_len_same p q same bs)
 
+-- a truth value denied twice is itself
 not_twice : (b : Bool) → not (not b) ≡ b
 not_twice true = refl
 not_twice false = refl
 
+-- a place up to the length, told only where it is less, is itself once the length stands for none told
 unwrap_cut : (n length : ℕ) → n ≤ length → unwrap_or (cond (ltb n length) (Some n) None) length ≡ n
 unwrap_cut n length h = grind (arith, nat_tests, h)
 
@@ -185,6 +198,7 @@ run_to_position byte bytes found e =
     (prefix_len-le-length (λ b. not (not (byte b))) bytes)
     ∙ prefix_len_same (λ b. not (not (byte b))) byte (λ b. not_twice (byte b)) bytes
 
+-- where a truth value isn't true, its denial is
 passes_where_not : (b : Bool) → ¬ (b ≡ true) → not b ≡ true
 passes_where_not true h = absurd (h refl)
 passes_where_not false h = refl
@@ -198,9 +212,11 @@ run_to_byte test bytes (Some n) found = sym
     (prefix_len_is (λ b. not (test b)) bytes n 0 (let l = found.0.high in omega (arith, l))
     (λ k h. passes_where_not (test (get_or bytes k 0)) (found.0.before k (omega arith) h)) (λ h. ap not found.1))
 
+-- a number below 128 passes the test for that
 is_small : (c : ℕ) → c < 128 → nat_lt c 128 ≡ true
 is_small c h = grind (arith, nat_tests, h)
 
+-- a number from 128 on fails the test for one below 128
 is_large : (c : ℕ) → 128 ≤ c → nat_lt c 128 ≡ false
 is_large c h = grind (arith, nat_tests, h)
 
@@ -218,10 +234,12 @@ run_quoted quote bytes found small h =
     run_to_byte (is_byte2 quote backslash) bytes found h
     ∙ ap (λ t. prefix_len (λ b. t && not (b == quote || b == backslash)) bytes) (sym (is_small quote small))
 
+-- where no byte can pass, the run at the front is empty
 no_run : (bytes : List ℕ) → 0 ≡ prefix_len (λ x. false) bytes
 no_run [] = refl
 no_run (b ∷ bytes) = refl
 
+-- where the quote isn't ASCII, the run of bytes between quotes counts as empty
 pub no_quoted_run : (quote : ℕ) (bytes : List ℕ) → 128 ≤ quote → 0 ≡ prefix_len (in_run (Quoted quote)) bytes
 no_quoted_run quote bytes large = no_run bytes
     ∙ ap (λ t. prefix_len (λ b. t && not (b == quote || b == backslash)) bytes) (sym (is_large quote large))
@@ -233,6 +251,7 @@ pub record Passed (passes : ℕ → Bool) (text rest : List ℕ) : Type 0 where
   pub utf8 : IsUtf8 front
   pub pass : list_all passes (chars front) ≡ true
 
+-- where all of the text is left, what stands before it is empty, and passes
 pub passed_none : (passes : ℕ → Bool) (text : List ℕ) → Passed passes text text
 passed_none passes text = record {
   front = [];
@@ -242,6 +261,7 @@ passed_none passes text = record {
       subst (λ cs. list_all passes cs ≡ true) (sym chars-nil) refl;
 }
 
+-- where each of two lists has only what passes, so have both joined
 all_append : (passes : ℕ → Bool) (xs ys : List ℕ) → list_all passes xs ≡ true → list_all passes ys ≡ true
     → list_all passes (xs ++ ys) ≡ true
 all_append passes [] ys h k = k
@@ -249,6 +269,7 @@ all_append passes (x ∷ xs) ys h k = both (passes x) (list_all passes (xs ++ ys
     (and_left (passes x) (list_all passes xs) h)
     (all_append passes xs ys (and_right (passes x) (list_all passes xs) h) k)
 
+-- a text more whose characters pass, next in what is left of the text, may be passed too
 passed_text : (passes : ℕ → Bool) (text rest more after : List ℕ) → Passed passes text rest → rest ≡ more ++ after
     → IsUtf8 more → list_all passes (chars more) ≡ true → Passed passes text after
 passed_text passes text rest more after passed parts utf8 pass = record {
@@ -296,14 +317,17 @@ passed_all passes text after front rest len passed e f r h =
       longest = subst (λ bs. not (begins_passing passes (chars bs)) ≡ true) (sym same_rest) h;
     }
 
+-- where nothing is left, no character that passes stands next
 pub none_next : (passes : ℕ → Bool) (after : List ℕ) → after ≡ [] → not (begins_passing passes (chars after)) ≡ true
 none_next passes after e = subst (λ cs. not (begins_passing passes cs) ≡ true) (sym (ap chars e ∙ chars-nil)) refl
 
+-- where the next character fails, none that passes stands next
 pub fails_next : (passes : ℕ → Bool) (after rest : List ℕ) (c : ℕ) → BeginsWith after c rest → passes c ≡ false
     → not (begins_passing passes (chars after)) ≡ true
 fails_next passes after rest c begins h =
     subst (λ cs. not (begins_passing passes cs) ≡ true) (sym begins.characters) (ap not h)
 
+-- behind a run and one character more, less is left than before the run
 pub fewer : (rest after next : List ℕ) (len c : ℕ) → after ≡ drop len rest → BeginsWith after c next
     → length next < length rest
 fewer rest after next len c e begins =
@@ -311,6 +335,7 @@ fewer rest after next len c e begins =
     len_utf8_bounds c in
     let d = ap length e in let k = length-drop len rest in omega (arith, l, a, n, some.0, d, k)
 
+-- bytes of which none passes add nothing to the later ones that are kept
 none_kept : (p : ℕ → Bool) (bs ds : List ℕ) → list_all (λ b. not (p b)) bs ≡ true → filter p (bs ++ ds) ≡ filter p ds
 none_kept p [] ds h = refl
 none_kept p (b ∷ bs) ds h =
@@ -340,6 +365,7 @@ characters_kept p ascii text utf8 = ap (filter p) (sym (encodes-chars text utf8)
     all [] = refl
     all (c ∷ cs) = one c cs (all cs) (ltb c 128) refl
 
+-- where a search for bytes that fail finds none, here or later, this byte passes and the later ones do
 none_more : (n : ℕ) (p more : Bool) (found : Option ℕ) → (found ≡ None → more ≡ true)
     → cond (not p) (Some n) found ≡ None → (p && more) ≡ true
 none_more n true more found later h = later h

@@ -13,6 +13,7 @@ use Rattle.dotenvy.specs.Reading.{HasLeft}
 use Rattle.dotenvy.proofs.EntriesOnce.{some_length, next_positive}
 use Rattle.dotenvy.proofs.DecidedFront.{front_is}
 
+-- what a line says adds one entry at most
 outcome_one : (outcome : Outcome) → length (outcome_entries outcome) ≤ 1
 outcome_one Nothing = omega arith
 outcome_one (Pair key pieces) = omega arith
@@ -25,6 +26,7 @@ gives_one dialect (Text text) entries (outcome, says, is) = let l = ap length is
 gives_one dialect (Open text n) entries gives = let l = ap length gives in omega (arith, l)
 gives_one dialect Broken entries gives = let l = ap length gives in omega (arith, l)
 
+-- logical lines give no more entries than there are lines
 give_count : (dialect : Dialect) (lines : List Logical) (entries : List Entry) → GiveAll dialect lines entries → length entries ≤ length lines
 give_count dialect [] entries gives = let l = ap length gives in omega (arith, l)
 give_count dialect (next ∷ lines) entries (front, after, gives, later, is) =
@@ -37,6 +39,7 @@ lines_count lines [] are = omega arith
 lines_count lines (next ∷ logical) (some, k, is, later) =
     omega (arith, some_length lines some, next_positive lines k next some is, length-drop k lines, lines_count (drop k lines) logical later)
 
+-- the logical lines before an open end are no more than all of them
 closed_count : (lines : List Logical) → length (without_open_end lines) ≤ length lines
 closed_count [] = omega arith
 closed_count (Skip ∷ lines) = omega (arith, closed_count lines)
@@ -44,12 +47,14 @@ closed_count (Text text ∷ lines) = omega (arith, closed_count lines)
 closed_count (Open text n ∷ lines) = omega arith
 closed_count (Broken ∷ lines) = omega (arith, closed_count lines)
 
+-- bytes up to their last line feed have no more physical lines than all the bytes
 front_count : (bytes : List ℕ) → length (physical_lines (up_to_last_line_feed bytes)) ≤ length (physical_lines bytes)
 front_count bytes =
     let front = front_is bytes in
     let l = ap (λ t. length (physical_lines t)) front.joins ∙ ap length (front.ends front.after) in
     omega (arith, l, length-append (physical_lines (up_to_last_line_feed bytes)) (physical_lines front.after))
 
+-- there are as many texts of physical lines, broken ones counted, as physical lines
 texts_count : (bytes : List ℕ) → length (line_texts bytes) ≡ length (physical_lines bytes)
 texts_count bytes = length-map (physical_lines bytes) line_text
 

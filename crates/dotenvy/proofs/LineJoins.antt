@@ -38,6 +38,7 @@ use Rattle.dotenvy.proofs.Splitting.{IsGoing, going_start, IsWalked, walk-is}
 use Rattle.dotenvy.proofs.SplitLines.{left_after, left_after_broken, line_is_one, at_input_end, at_end, reads_all, next-skip, next-text, next-open, next-broken}
 use Rattle.dotenvy.proofs.Inputs.{ahead_of, fits_more, final_before}
 
+-- the texts of physical lines, in order, with none where a line is broken
 abbrev Lines : Type 0
 Lines = List (Option (List ℕ))
 
@@ -51,6 +52,7 @@ up_to_whole (c ∷ d ∷ line) left h = at (c == line_feed) (and_left (not (c ==
     at true h e = let f : false ≡ true = h in cc
     at false h e = ap (before_some c) e
 
+-- bytes without a line feed have nothing up to their last one
 up_to_none : (bytes : List ℕ) → no_line_feed bytes ≡ true → up_to_last_line_feed bytes ≡ []
 up_to_none [] h = refl
 up_to_none (c ∷ bytes) h = at (c == line_feed) (and_left (not (c == line_feed)) (no_line_feed bytes) h) (up_to_none bytes (and_right (not (c == line_feed)) (no_line_feed bytes) h))
@@ -59,14 +61,17 @@ up_to_none (c ∷ bytes) h = at (c == line_feed) (and_left (not (c == line_feed)
     at true h e = let f : false ≡ true = h in cc
     at false h e = ap (before_some c) e
 
+-- a line with its line feed is the first of the whole lines, whether or not a fault follows
 whole_line_texts : (fault : Option ErrorKind) (line left : List ℕ) → is_whole_line line ≡ true → line_texts (whole_before fault (line ++ left)) ≡ line_text line ∷ line_texts (whole_before fault left)
 whole_line_texts None line left h = ap (map line_text) (whole_line line left h)
 whole_line_texts (Some kind) line left h = ap line_texts (up_to_whole line left h) ∙ ap (map line_text) (whole_line line (up_to_last_line_feed left) h)
 
+-- where no fault follows, bytes that are one line, with a line feed or without, are one whole line
 last_line_texts : (fault : Option ErrorKind) (line : List ℕ) → is_last_line line ≡ true → fault ≡ None → line_texts (whole_before fault line) ≡ line_text line ∷ []
 last_line_texts None line h e = ap (map line_text) (last_line line h)
 last_line_texts (Some kind) line h e = absurd (none-some kind (sym e))
 
+-- where no bytes are left there are no whole lines, whether or not a fault follows
 no_texts : (fault : Option ErrorKind) → line_texts (whole_before fault []) ≡ []
 no_texts None = refl
 no_texts (Some kind) = refl
@@ -77,10 +82,12 @@ record Parts (b : Ahead) (line left : List ℕ) (v : InputState) : Type 0 where
   texts : whole_lines b ≡ line_text line ∷ whole_lines (ahead_of left b.fault)
   ends : IsAtEnd b.fault left v ⊎ (is_whole_line line ≡ true)
 
+-- some bytes without a line feed are one line, which lacks it
 last_of : (line : List ℕ) → line ≢ [] → no_line_feed line ≡ true → is_last_line line ≡ true
 last_of [] some h = absurd (some refl)
 last_of (c ∷ line) some h = one_last c line h
 
+-- a line of some bytes that was taken is the first physical line, and those behind it are left
 parts : (b : Ahead) (t v : InputState) (line : List ℕ) → line ≢ [] → (k : TakesLine b t line v) → Parts b line k.left v
 parts b t v line some k = at k.is_line
   where
@@ -127,6 +134,7 @@ pub record Joining (a : Ahead) (s : InputState) (seen : List ℕ) (m : LineMode)
   pub ends : IsAtEnd a.fault left t ⊎ AreWhole used taken seen
   pub reads : ReadsFit a s (record { bytes = left; fault = a.fault }) t
 
+-- at the start no text was taken, all is left, and the walk is outside
 joining_start : (a : Ahead) (s : InputState) → IsTold s.left a → Joining a s [] Outside s
 joining_start a s told = record {
   taken = [];
@@ -150,20 +158,25 @@ pub joining_empty : (a : Ahead) (s : InputState) (text : List ℕ) → text ≡ 
 joining_empty a s text empty told =
     subst (λ seen. Joining a s seen Outside s) (sym (ap chars empty ∙ chars-nil)) (joining_start a s told)
 
+-- where the input tells what it has left, it does so behind the texts that were taken
 pub joining_told : (a : Ahead) (s t : InputState) (seen : List ℕ) (m : LineMode) → IsTold s.left a → (j : Joining a s seen m t) → IsTold t.left (record { bytes = j.left; fault = a.fault })
 joining_told a s t seen m told j = (j.is_left, told.1)
 
+-- what follows the element behind the first n is what follows the first n and one more
 drop_one : {A : Type 0} (n : ℕ) (xs : List A) (y : A) (ys : List A) → y ∷ ys ≡ drop n xs → ys ≡ drop (suc n) xs
 drop_one zero xs y ys e = ap (drop 1) e
 drop_one (suc n) [] y ys e = cc
 drop_one (suc n) (x ∷ xs) y ys e = drop_one n xs y ys e
 
+-- a line in UTF-8 that has bytes has characters
 chars_some : (line : List ℕ) → IsUtf8 line → line ≢ [] → chars line ≢ []
 chars_some line u some h = some (sym (encodes-chars line u) ∙ ap encode_utf8_all h)
 
+-- the text of a line in UTF-8 is its characters
 text_of : (line : List ℕ) → IsUtf8 line → line_text line ≡ Some (chars line)
 text_of line u = ap (λ b. cond b (Some (chars line)) None) (is_utf8-from_IsUtf8 line u)
 
+-- a line that isn't UTF-8 has no text
 no_text : (line : List ℕ) → ¬ (IsUtf8 line) → line_text line ≡ None
 no_text line h = at (is_utf8 line) refl
   where
@@ -171,12 +184,15 @@ no_text line h = at (is_utf8 line) refl
     at true e = absurd (h (IsUtf8-from_is_utf8 line e))
     at false e = refl
 
+-- a text that stands next may be counted among those before it
 one_more : (taken : List (List ℕ)) (t : List ℕ) (ls : Lines) → map Some taken ++ Some t ∷ ls ≡ map Some (taken ++ t ∷ []) ++ ls
 one_more taken t ls = sym (append_assoc (map Some taken) (Some t ∷ []) ls) ∙ ap (λ l. l ++ ls) (sym (map-append Some taken (t ∷ [])))
 
+-- texts joined with one text more are those joined, and then that one
 concat_more : (taken : List (List ℕ)) (t : List ℕ) → concat (taken ++ t ∷ []) ≡ concat taken ++ t
 concat_more taken t = concat-append taken (t ∷ []) ∙ ap (λ x. concat taken ++ x) (append-nil t)
 
+-- texts with one text more are one more of them
 length_more : (taken : List (List ℕ)) (t : List ℕ) → length (taken ++ t ∷ []) ≡ suc (length taken)
 length_more taken t = omega (arith, length-append taken (t ∷ []))
 
@@ -186,6 +202,7 @@ record Next (a : Ahead) (taken : List (List ℕ)) (line left : List ℕ) (v : In
   lines : whole_lines a ≡ map Some taken ++ line_text line ∷ whole_lines (ahead_of left a.fault)
   ends : IsAtEnd a.fault left v ⊎ (is_whole_line line ≡ true)
 
+-- a line taken behind texts that go on is the next physical line, and those behind it are left
 next_of : (a : Ahead) (s t v : InputState) (seen line : List ℕ) (m : LineMode) → line ≢ [] → (j : Joining a s seen m t) → (k : TakesLine (ahead_of j.left a.fault) t line v) → Next a j.taken line k.left v
 next_of a s t v seen line m some j k =
     let p = parts (ahead_of j.left a.fault) t v line some k in record {
@@ -194,6 +211,7 @@ next_of a s t v seen line m some j k =
       ends = p.ends;
     }
 
+-- lines with one more among them are not none
 some_after : (xs : Lines) (y : Option (List ℕ)) (ys : Lines) → xs ++ y ∷ ys ≢ []
 some_after [] y ys h = cc
 some_after (x ∷ xs) y ys h = cc
@@ -203,10 +221,12 @@ not_skipped : (all : Lines) (taken : List (List ℕ)) (text : List ℕ) (ls : Li
 not_skipped all [] text ls e shown comment = λ h. let k : begins_with hash (skip_leading_whitespace text) ≡ true = subst IsSkipped e h in let f : true ≡ false = sym k ∙ comment refl in cc
 not_skipped all (t ∷ taken) text ls e shown comment = shown (λ h. cc)
 
+-- a first line that is broken is no comment, nor is a text taken before a broken line, if it was none
 not_skipped_broken : (all : Lines) (taken : List (List ℕ)) (ls : Lines) → all ≡ map Some taken ++ None ∷ ls → (taken ≢ [] → ¬ (IsSkipped all)) → ¬ (IsSkipped all)
 not_skipped_broken all [] ls e shown = λ h. subst IsSkipped e h
 not_skipped_broken all (t ∷ taken) ls e shown = shown (λ h. cc)
 
+-- where two texts joined are empty, so is the second
 second_nil : (xs ys : List ℕ) → xs ++ ys ≡ [] → ys ≡ []
 second_nil [] ys h = h
 second_nil (x ∷ xs) ys h = cc
@@ -218,6 +238,7 @@ record Among (a : Ahead) (seen : List ℕ) (taken : List (List ℕ)) (line left 
   one : IsOneLine (chars line)
   ends : IsAtEnd a.fault left v ⊎ (is_whole_line line ≡ true)
 
+-- a line in UTF-8, taken behind texts that go on, stands as one line behind them among all whole lines
 among : (a : Ahead) (s t v : InputState) (seen line : List ℕ) (m : LineMode) → line ≢ [] → IsUtf8 line → (j : Joining a s seen m t) → (k : TakesLine (ahead_of j.left a.fault) t line v) → Among a seen j.taken line k.left v
 among a s t v seen line m some u j k =
     let n = next_of a s t v seen line m some j k in
@@ -229,10 +250,12 @@ among a s t v seen line m some u j k =
       ends = n.ends;
     }
 
+-- a line that isn't empty, with what follows it, isn't empty
 nothing_left : (line left : List ℕ) → line ≢ [] → line ++ left ≢ []
 nothing_left [] left some h = some refl
 nothing_left (c ∷ line) left some h = cc
 
+-- a line with its line feed is the first line so far, and the others are those of what follows it
 lines_first : (line more : List ℕ) → is_whole_line line ≡ true → lines_so_far (line ++ more) ≡ line_text line ∷ lines_so_far more
 lines_first line more w = ap line_texts (up_to_whole line more w) ∙ ap (map line_text) (whole_line line (up_to_last_line_feed more) w)
 
@@ -249,10 +272,12 @@ more_whole used line taken seen u w h = record {
 whole_so_far : (a : Ahead) (s t v : InputState) (seen line : List ℕ) (m : LineMode) → line ≢ [] → (j : Joining a s seen m t) → TakesLine (ahead_of j.left a.fault) t line v → AreWhole j.used j.taken seen
 whole_so_far a s t v seen line m some j k = elim j.ends [ inl f ↦ absurd (nothing_left line k.left some (sym k.joins ∙ f.1)) | inr h ↦ h ]
 
+-- where texts were taken, they and any other lines are not none
 some_texts : (taken : List (List ℕ)) (ls : Lines) → taken ≢ [] → map Some taken ++ ls ≢ []
 some_texts [] ls some h = some refl
 some_texts (t ∷ taken) ls some h = cc
 
+-- texts with one text more are not none
 some_taken : (taken : List (List ℕ)) (t : List ℕ) → taken ++ t ∷ [] ≢ []
 some_taken [] t h = cc
 some_taken (u ∷ taken) t h = cc
@@ -262,6 +287,7 @@ skipped_same : (taken : List (List ℕ)) (ls ms : Lines) → taken ≢ [] → Is
 skipped_same [] ls ms some h = absurd (some refl)
 skipped_same (t ∷ taken) ls ms some h = h
 
+-- the lines behind a broken one have no say in whether the first line is skipped
 skipped_before_broken : (taken : List (List ℕ)) (ls ms : Lines) → IsSkipped (map Some taken ++ None ∷ ls) → IsSkipped (map Some taken ++ None ∷ ms)
 skipped_before_broken [] ls ms h = h
 skipped_before_broken (t ∷ taken) ls ms h = h
@@ -276,12 +302,14 @@ text_always bytes taken text ls some lines shown whole = λ more.
       ap (drop (length taken)) e ∙ left_after taken ms,
     )
 
+-- where bytes are one whole line that is a comment, that line is skipped, whatever follows the bytes
 skip_always : (bytes text : List ℕ) → ((more : List ℕ) → lines_so_far (bytes ++ more) ≡ Some text ∷ lines_so_far more) → begins_with hash (skip_leading_whitespace text) ≡ true → IsNextAlways bytes 1 Skip
 skip_always bytes text lines comment = λ more.
     let e = lines more in
     let ms = lines_so_far more in
     (λ h. some_after [] (Some text) ms (sym e ∙ h), subst (λ l. IsNext l 1 Skip) (sym e) (next-skip text ms comment), ap (drop 1) e)
 
+-- bytes of texts that go on, then a broken line: a broken logical line, whatever follows the bytes
 broken_always : (bytes : List ℕ) (taken : List (List ℕ)) (m : LineMode) (ls : Lines) → ((more : List ℕ) → lines_so_far (bytes ++ more) ≡ map Some taken ++ None ∷ lines_so_far more) → ¬ (IsSkipped (map Some taken ++ None ∷ ls)) → IsGoing (concat taken) m → IsNextAlways bytes (suc (length taken)) Broken
 broken_always bytes taken m ls lines shown goes = λ more.
     let e = lines more in
@@ -396,6 +424,7 @@ joining_breaks a s t v seen line m some broken j k =
       reads = fits_more a (ahead_of j.left a.fault) (ahead_of k.left a.fault) s t v j.reads k.reads;
     }
 
+-- where no whole lines are left behind the texts that were taken, they are all of them
 all_taken : (a : Ahead) (s t : InputState) (seen : List ℕ) (m : LineMode) (j : Joining a s seen m t) → whole_lines (ahead_of j.left a.fault) ≡ [] → whole_lines a ≡ map Some j.taken
 all_taken a s t seen m j none = j.lines ∙ ap (λ ls. map Some j.taken ++ ls) none ∙ append-nil (map Some j.taken)
 
@@ -433,6 +462,7 @@ joining_end a s t v seen m begun j k =
     no_lines [] h = refl
     no_lines (t ∷ ts) h = cc
 
+-- at the end of input, what was begun is a whole logical line where the walk is outside, else an open end
 joining_begun : (a : Ahead) (s t v : InputState) (text : List ℕ) (m : LineMode) → chars text ≢ [] →
     length text ≡ byte_len (chars text) → (j : Joining a s (chars text) m t) →
     TakesLine (record { bytes = j.left; fault = a.fault }) t [] v → TakesJoined a s (begun_at_end m) text v
@@ -474,11 +504,13 @@ undecided seen m used front taken joined is_going shown whole none count next so
     at (inl h) = absurd (some (e ∙ ap (map Some) h))
     at (inr h) = open_next (not_outside seen m is_going h)
 
+-- a first line that is skipped is so with more lines behind
 skipped_more : (lines more : Lines) → IsSkipped lines → IsSkipped (lines ++ more)
 skipped_more [] more h = absurd h
 skipped_more (None ∷ lines) more h = h
 skipped_more (Some t ∷ lines) more h = h
 
+-- a final fault met before a line feed, behind texts that go on, comes before a logical line is whole
 pub joining_fails : {A : Type 0} (a : Ahead) (s t v : InputState) (seen : List ℕ) (m : LineMode) (e : Error A) → (j : Joining a s seen m t) → IsFinal (record { bytes = j.left; fault = a.fault }) t (λ bytes. no_line_feed bytes ≡ true) e v → IsFinal a s IsUndecided e v
 joining_fails a s t v seen m e j fails =
     let b = ahead_of j.left a.fault in
@@ -494,6 +526,7 @@ joining_fails a s t v seen m e j fails =
         let empty = ap length (sym cut ∙ f.1) in
         absurd (omega (arith, each, read, empty, length-append front later))
 
+-- a text in UTF-8 that isn't empty has characters
 pub begun_chars : (text : List ℕ) → IsUtf8 text → text ≢ [] → chars text ≢ []
 begun_chars text u some h = some (sym (encodes-chars text u) ∙ ap encode_utf8_all h)
 
@@ -546,9 +579,11 @@ line-of-none b s t left fits empty none at_last = record {
   reads = fits;
 }
 
+-- where all that an input can have left is no bytes and no fault, it is told that nothing is left
 left_at_end : (t : InputState) (left : List ℕ) (fault : Option ErrorKind) → t.left ≡ Some (ahead_of left fault) → ((b : Ahead) → t.left ≡ Some b → (b.bytes ≡ []) × (b.fault ≡ None)) → t.left ≡ Some (ahead_of [] None)
 left_at_end t left fault is all = let e = all (ahead_of left fault) is in is ∙ ap (λ l. Some (ahead_of l fault)) e.0 ∙ ap (λ f. Some (ahead_of [] f)) e.1
 
+-- lines whose stage is ended once all is used up, and else open, go on, or have ended with nothing left
 goes_on : (t : InputState) (stage : Stage) (used_up : Bool) (left : List ℕ) (fault : Option ErrorKind) → stage ≡ cond used_up Ended stage_open → t.left ≡ Some (ahead_of left fault) → ((b : Ahead) → t.left ≡ Some b → used_up ≡ true → (b.bytes ≡ []) × (b.fault ≡ None)) → GoesOn (record { input = t; stage = stage })
 goes_on t stage true left fault e is all = inr (e, left_at_end t left fault is (λ b h. all b h refl))
 goes_on t stage false left fault e is all = inl e
