@@ -221,7 +221,7 @@ not_skipped : (all : Lines) (taken : List (List ℕ)) (text : List ℕ) (ls : Li
 not_skipped all [] text ls e shown comment = λ h. let k : begins_with hash (skip_leading_whitespace text) ≡ true = subst IsSkipped e h in let f : true ≡ false = sym k ∙ comment refl in cc
 not_skipped all (t ∷ taken) text ls e shown comment = shown (λ h. cc)
 
--- a first line that is broken is no comment, nor is a text taken before a broken line, if it was none
+-- where a broken line follows the texts taken, of which the first is no comment, no comment is skipped
 not_skipped_broken : (all : Lines) (taken : List (List ℕ)) (ls : Lines) → all ≡ map Some taken ++ None ∷ ls → (taken ≢ [] → ¬ (IsSkipped all)) → ¬ (IsSkipped all)
 not_skipped_broken all [] ls e shown = λ h. subst IsSkipped e h
 not_skipped_broken all (t ∷ taken) ls e shown = shown (λ h. cc)
@@ -579,7 +579,7 @@ line-of-none b s t left fits empty none at_last = record {
   reads = fits;
 }
 
--- where all that an input can have left is no bytes and no fault, it is told that nothing is left
+-- an input that tells what it has left, which is no bytes and no fault, has nothing left
 left_at_end : (t : InputState) (left : List ℕ) (fault : Option ErrorKind) → t.left ≡ Some (ahead_of left fault) → ((b : Ahead) → t.left ≡ Some b → (b.bytes ≡ []) × (b.fault ≡ None)) → t.left ≡ Some (ahead_of [] None)
 left_at_end t left fault is all = let e = all (ahead_of left fault) is in is ∙ ap (λ l. Some (ahead_of l fault)) e.0 ∙ ap (λ f. Some (ahead_of [] f)) e.1
 

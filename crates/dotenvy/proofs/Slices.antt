@@ -13,12 +13,15 @@ use Rattle.dotenvy.specs.Characters.{begins_with}
 use Rattle.dotenvy.proofs.Basics.{both, same_from}
 use Rattle.dotenvy.specs.Slices.{BeginsWith, IsSpan, begins_passing}
 
+-- a text that begins with a character's bytes begins with that character, and a text follows
 pub begins_with_first : (text rest : List ℕ) (c : ℕ) → IsUtf8 text → text ≡ encode_utf8 c ++ rest → BeginsWith text c rest
 begins_with_first text rest c u h = record { bytes = h; follows = IsUtf8-past_char text rest c u h; characters = chars_past_char text rest c u h }
 
+-- a text without bytes has no characters
 pub no_characters : (text : List ℕ) → text ≡ [] → chars text ≡ []
 no_characters text h = ap chars h ∙ chars-nil
 
+-- a truth value whose denial is false is true
 not_not : (b : Bool) → not b ≡ false → b ≡ true
 not_not true h = refl
 not_not false h = cc
@@ -28,6 +31,7 @@ all_pass : (passes : ℕ → Bool) (cs : List ℕ) → NonePass (λ c. not (pass
 all_pass passes [] h = refl
 all_pass passes (c ∷ cs) h = both (passes c) (list_all passes cs) (not_not (passes c) h.0) (all_pass passes cs h.1)
 
+-- in a text where no character fails, all its characters pass
 pub characters_pass : (passes : ℕ → Bool) (text : List ℕ) → IsUtf8 text → NoCharPasses (λ c. not (passes c)) text → list_all passes (chars text) ≡ true
 characters_pass passes text u h = subst (λ cs. list_all passes cs ≡ true) (chars_from_encodes h.0 text u h.1) (all_pass passes h.0 h.2)
 
@@ -52,6 +56,7 @@ found_span passes text front rest i j u b f r h p =
       longest = subst (λ cs. not (begins_passing passes cs) ≡ true) (sym first) p.1;
     }
 
+-- where none of the characters passes, each of them fails
 none_pass : (passes : ℕ → Bool) (cs : List ℕ) → NonePass passes cs → list_all (λ c. not (passes c)) cs ≡ true
 none_pass passes [] h = refl
 none_pass passes (c ∷ cs) h = both (not (passes c)) (list_all (λ c. not (passes c)) cs) (ap not h.0) (none_pass passes cs h.1)
@@ -67,6 +72,7 @@ pub record IsCut (c : ℕ) (text front rest : List ℕ) : Type 0 where
   pub front_utf8 : IsUtf8 front
   pub rest_utf8 : IsUtf8 rest
 
+-- a text cut at the first place of an ASCII character has it nowhere before, and a text on each side
 pub cut_once : (c : ℕ) (text front rest : List ℕ) (i j : ℕ) → IsUtf8 text → c < 128 → NoCharPasses (λ d. d == c) (take i text) → HasCharAt c text i j → front ≡ take i text → rest ≡ drop j text → IsCut c text front rest
 cut_once c text front rest i j u small none at f r =
     let first : drop i text ≡ c ∷ drop j text = at.split ∙ ap (λ e. e ++ drop j text) (encode_ascii c small) in
@@ -98,5 +104,6 @@ not_first c text u h = at (chars text) (encodes-chars text u)
 pub past_first : (text rest : List ℕ) (c : ℕ) → IsUtf8 text → text ≡ encode_utf8 c ++ rest → IsCharBoundary text (len_utf8 c)
 past_first text rest c u h = subst (IsCharBoundary text) (omega arith) (IsCharBoundary-past_char text rest 0 c (omega arith) u h)
 
+-- the first bytes of a text, as many as its first character has, are those of that character
 pub take_first : (text rest : List ℕ) (c : ℕ) → text ≡ encode_utf8 c ++ rest → take (len_utf8 c) text ≡ encode_utf8 c
 take_first text rest c h = ap (λ n. take n text) (sym (length-encode c)) ∙ ap (take (length (encode_utf8 c))) h ∙ take-append_seam (encode_utf8 c) rest

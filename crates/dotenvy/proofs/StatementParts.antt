@@ -13,15 +13,19 @@ use lib.Utf8.{scalar, encode}
 use Rattle.dotenvy.specs.Slices.{IsSpan, begins_passing}
 use Rattle.dotenvy.specs.ParseStatement.{export, Parsed, fails, key_run, key_left, key_then, equals_then}
 
+-- where a test is true, the first of two is chosen
 pub choose_true : {A : Type 0} (x y : A) (b : Bool) → b ≡ true → cond b x y ≡ x
 choose_true x y b h = ap (λ t. cond t x y) h
 
+-- where a test is false, the second of two is chosen
 pub choose_false : {A : Type 0} (x y : A) (b : Bool) → b ≡ false → cond b x y ≡ y
 choose_false x y b h = ap (λ t. cond t x y) h
 
+-- characters that aren't the same fail the test for that
 pub not_same : (c d : ℕ) → c ≢ d → (c == d) ≡ false
 not_same c d h = grind (arith, nat_tests, h)
 
+-- characters that are the same pass the test for that
 pub same : (c d : ℕ) → c ≡ d → (c == d) ≡ true
 same c d h = grind (arith, nat_tests, h)
 
@@ -34,6 +38,7 @@ run_of (c ∷ front) rest h l =
     let later = run_of front rest (and_right (continues_key c) (list_all continues_key front) h) l in
     (choose_true _ _ (continues_key c) here ∙ ap (λ t. c ∷ t) later.0, choose_true _ _ (continues_key c) here ∙ later.1)
 
+-- a character that begins a key may also go on with one
 key_continues : (c : ℕ) → begins_key c ≡ true → continues_key c ≡ true
 key_continues c h = rw h refl
 
@@ -46,6 +51,7 @@ key_then-span (c ∷ cs) front rest next h is =
     let left : rest ≡ key_left cs = sym parts.1 ∙ ap key_left (sym is.spelled) ∙ choose_true _ _ (continues_key c) (key_continues c h) in
     ap (λ f. next f rest) run ∙ ap (next (c ∷ key_run cs)) left ∙ sym (choose_true _ _ (begins_key c) h)
 
+-- where no key begins, a fault is parsed, and all of the text is left
 pub key_then-fails : (text : List ℕ) (next : List ℕ → List ℕ → Parsed) → begins_passing begins_key text ≡ false → fails text ≡ key_then text next
 key_then-fails [] next h = refl
 key_then-fails (c ∷ cs) next h = sym (choose_false _ _ (begins_key c) h)
@@ -54,9 +60,11 @@ key_then-fails (c ∷ cs) next h = sym (choose_false _ _ (begins_key c) h)
 pub equals_then-none : (text : List ℕ) (next : List ℕ → Parsed) (other : Parsed) → text ≡ [] → other ≡ equals_then text next other
 equals_then-none text next other e = sym (ap (λ t. equals_then t next other) e)
 
+-- where `=` stands next, parsing goes on behind it
 pub equals_then-equals : (text cs : List ℕ) (c : ℕ) (next : List ℕ → Parsed) (other : Parsed) → text ≡ c ∷ cs → c ≡ equals_sign → next cs ≡ equals_then text next other
 equals_then-equals text cs c next other e h = sym (ap (λ t. equals_then t next other) e ∙ choose_true _ _ (c == equals_sign) (same c equals_sign h))
 
+-- a text of Unicode scalar values has such alone without the white space at its front
 scalars-skip : (cs : List ℕ) → all_scalars cs ≡ true → all_scalars (skip_leading_whitespace cs) ≡ true
 scalars-skip [] h = refl
 scalars-skip (c ∷ cs) h = at (is_whitespace c) (scalars-skip cs (and_right (scalar c) (all_scalars cs) h))
@@ -70,6 +78,7 @@ pub chars-trim_start : (text trimmed : List ℕ) → IsUtf8 text → trimmed ≡
 unfolding trim_start
 chars-trim_start text trimmed u h = ap chars h ∙ chars-encodes (skip_leading_whitespace (chars text)) (scalars-skip (chars text) (scalars-chars text u))
 
+-- a text of Unicode scalar values has such alone without the white space at its end
 scalars-drop : (cs : List ℕ) → all_scalars cs ≡ true → all_scalars (drop_trailing_whitespace cs) ≡ true
 scalars-drop [] h = refl
 scalars-drop (c ∷ cs) h = at (is_whitespace c && length (drop_trailing_whitespace cs) == 0) (both (scalar c) (all_scalars (drop_trailing_whitespace cs)) (and_left (scalar c) (all_scalars cs) h) (scalars-drop cs (and_right (scalar c) (all_scalars cs) h)))
@@ -83,10 +92,12 @@ pub chars-trim_end : (text trimmed : List ℕ) → IsUtf8 text → trimmed ≡ t
 unfolding trim_end
 chars-trim_end text trimmed u h = ap chars h ∙ chars-encodes (drop_trailing_whitespace (chars text)) (scalars-drop (chars text) (scalars-chars text u))
 
+-- the codes of `export`, taken as bytes, are its characters
 export_characters : chars export ≡ export
 unfolding chars
 export_characters = refl
 
+-- the codes of `export`, taken as characters, are its bytes
 export_bytes : encode_utf8_all export ≡ export
 unfolding encode
 export_bytes = refl

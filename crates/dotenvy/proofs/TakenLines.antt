@@ -41,6 +41,7 @@ starts_blank m seen true none some =
 starts_blank m seen false none some =
     (λ empty. absurd (some refl empty), ap (walk m seen) chars-nil, sym (append-nil seen) ∙ ap (λ l. seen ++ l) (sym chars-nil))
 
+-- where unread bytes stand next, a physical line begins with nothing of it taken
 pub in_line-start : (m : LineMode) (seen : List ℕ) (a : Ahead) (s : InputState) (first : Bool) → IsTold s.left a →
     (first ≡ true → seen ≡ []) → (first ≡ false → seen ≢ []) → 0 < s.unread → InLine m seen a s (starting m first) seen s
 in_line-start m seen a s first told none some waits = record {
@@ -70,6 +71,7 @@ record Pieced (m : LineMode) (seen : List ℕ) (a : Ahead) (s : InputState) (p :
   none : no_line_feed front ≡ true
   stands : Stands after piece left a.fault t
 
+-- the front of a line and one more piece, taken and walked, are together a text that was walked
 pieced : (m : LineMode) (seen : List ℕ) (a : Ahead) (s t u : InputState) (p q : Progress) (text new : List ℕ) (after : After) →
     (i : InLine m seen a s p text t) →
     ((b : Ahead) → t.left ≡ Some b → (piece : List ℕ) × TakesPiece b t piece after u × WalksOn p text (chars piece) new q) →
@@ -175,6 +177,7 @@ in_line-breaks m seen a s t u v p q text new told i taken skips =
       },
     )
 
+-- a final fault while the rest of a broken line is passed by came before its line feed
 pub in_line-break-fails : {A : Type 0} (m : LineMode) (seen : List ℕ) (a : Ahead) (s t u v : InputState) (p q : Progress) (text new : List ℕ) (e : Error A) →
     IsTold s.left a → InLine m seen a s p text t →
     ((b : Ahead) → t.left ≡ Some b → (piece : List ℕ) × TakesPiece b t piece Broken u × WalksOn p text (chars piece) new q) →
@@ -215,6 +218,7 @@ in_line-more m seen a s t u v p q text new told i taken grows more =
     waits [] (x ∷ piece) some count e = cc
     waits (x ∷ front) piece some count e = cc
 
+-- a final fault while more of the line is read came before its line feed
 pub in_line-fails : {A : Type 0} (m : LineMode) (seen : List ℕ) (a : Ahead) (s t u v : InputState) (p q : Progress) (text new : List ℕ) (e : Error A) →
     IsTold s.left a → InLine m seen a s p text t →
     ((b : Ahead) → t.left ≡ Some b → (piece : List ℕ) × TakesPiece b t piece Unread u × WalksOn p text (chars piece) new q) →
