@@ -56,33 +56,27 @@ fn items_by_byte(alloc: Global, file: Vec<u8>) -> Result<Vec<String>> {
     items(alloc, PlayedReader::new(&steps, Cut::ByByte))
 }
 
-/// The answers to a row of kind `cut`.
-pub fn items_answers(alloc: Global, fields: &[&str]) -> Result<Vec<Comparison>> {
+/// Plays a row of kind `cut`.
+pub fn play_items(answers: &mut Vec<Comparison>, fields: &[&str]) -> Result<()> {
+    let alloc = *answers.allocator();
     let [front, back, wanted] = fields else {
         bail!("{} fields in place of 3", fields.len());
     };
     let front = bytes(alloc, front)?;
     let back = bytes(alloc, back)?;
-    let mut answers = Vec::new(alloc);
     for cut in CUTS {
         for before in 0..=back.len() {
             let file = fill_up(alloc, &front, cut.saturating_sub(before), &back)?;
             let wanted = with_letters(alloc, wanted, file.letters)?;
             let got = items(alloc, Bytes::new(&file.bytes))?;
-            push_answer(&mut answers, "items", "of a cut", wanted.as_str(), got)?;
+            push_answer(answers, "items", "of a cut", wanted.as_str(), got)?;
         }
     }
     let file = fill_up(alloc, &front, 8_192, &back)?;
     let wanted = with_letters(alloc, wanted, file.letters)?;
     let got = items_by_byte(alloc, file.bytes)?;
-    push_answer(
-        &mut answers,
-        "items",
-        "one byte a read",
-        wanted.as_str(),
-        got,
-    )?;
-    Ok(answers)
+    push_answer(answers, "items", "one byte a read", wanted.as_str(), got)?;
+    Ok(())
 }
 
 // What a load gives of the file behind its first item.
@@ -97,21 +91,21 @@ fn load_behind_an_item(alloc: Global, file: &[u8]) -> Result<Vec<String>> {
     Ok(loaded(alloc, &answer, &environment)?)
 }
 
-/// The answers to a row of kind `cut_load`.
-pub fn load_answers(alloc: Global, fields: &[&str]) -> Result<Vec<Comparison>> {
+/// Plays a row of kind `cut_load`.
+pub fn play_load(answers: &mut Vec<Comparison>, fields: &[&str]) -> Result<()> {
+    let alloc = *answers.allocator();
     let [back, wanted] = fields else {
         bail!("{} fields in place of 2", fields.len());
     };
     let mut line_end_and_back = vec![in alloc; b'\n']?;
     line_end_and_back.extend_from_slice(&bytes(alloc, back)?)?;
-    let mut answers = Vec::new(alloc);
     for cut in CUTS {
         for before in 0..line_end_and_back.len() {
             let begin = cut.saturating_sub(before).saturating_sub(1);
             let file = fill_up(alloc, b"F=", begin, &line_end_and_back)?;
             let got = load_behind_an_item(alloc, &file.bytes)?;
-            push_answer(&mut answers, "load", "of a cut", wanted, got)?;
+            push_answer(answers, "load", "of a cut", wanted, got)?;
         }
     }
-    Ok(answers)
+    Ok(())
 }

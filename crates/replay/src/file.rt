@@ -100,8 +100,9 @@ pub fn listing<R: Source + Drop>(
     written(alloc, &answer, writer.into_inner())
 }
 
-/// The answers to a row.
-pub fn answers(alloc: Global, fields: &[&str]) -> Result<Vec<Comparison>> {
+/// Plays a row, and adds its answers.
+pub fn play(answers: &mut Vec<Comparison>, fields: &[&str]) -> Result<()> {
+    let alloc = *answers.allocator();
     let [
         dialect_field,
         environment,
@@ -119,22 +120,21 @@ pub fn answers(alloc: Global, fields: &[&str]) -> Result<Vec<Comparison>> {
         environment,
         steps: steps(alloc, steps_field)?,
     };
-    let mut answers = Vec::new(alloc);
     for (cut, way) in CUTS {
         if is_asked(items) {
-            push_answer(&mut answers, "items", way, items, file.items(alloc, cut)?)?;
+            push_answer(answers, "items", way, items, file.items(alloc, cut)?)?;
         }
         if is_asked(load) {
-            push_answer(&mut answers, "load", way, load, file.load(alloc, cut)?)?;
+            push_answer(answers, "load", way, load, file.load(alloc, cut)?)?;
         }
         if is_asked(load_override) {
             let got = file.load_override(alloc, cut)?;
-            push_answer(&mut answers, "load_override", way, load_override, got)?;
+            push_answer(answers, "load_override", way, load_override, got)?;
         }
         if is_asked(listing) {
             let got = file.listing(alloc, cut)?;
-            push_answer(&mut answers, "listing", way, listing, got)?;
+            push_answer(answers, "listing", way, listing, got)?;
         }
     }
-    Ok(answers)
+    Ok(())
 }

@@ -7,31 +7,35 @@ use crate::{
 use anyhow::{Context, Result, bail};
 use comparison::{Comparison, differences};
 
-// The answers to a row that asks the library.
-fn answers_of(rt: HostRuntime, kind: &str, fields: &[&str]) -> Result<Vec<Comparison>> {
-    let alloc = rt.alloc();
+// Plays a row that asks the library.
+fn play_library(
+    answers: &mut Vec<Comparison>,
+    rt: HostRuntime,
+    kind: &str,
+    fields: &[&str],
+) -> Result<()> {
     match kind {
-        "file" => file::answers(alloc, fields),
-        "used" => used::answers(alloc, fields),
-        "written" => written::written_answers(alloc, fields),
-        "pair" => written::pair_answers(alloc, fields),
-        "list" => written::list_answers(alloc, fields),
-        "writes" => written::writes_answers(alloc, fields),
-        "reads" => reads::answers(alloc, fields),
-        "first" => reads::first_answers(alloc, fields),
-        "search" => search::answers(alloc, fields),
-        "layers" => layers::answers(alloc, fields),
-        "cut" => cut::items_answers(alloc, fields),
-        "cut_load" => cut::load_answers(alloc, fields),
-        "refused_items" => refused::items_answers(alloc, fields),
-        "refused_load" => refused::load_answers(alloc, fields),
-        "refused_list" => refused::list_answers(alloc, fields),
-        "requests" => refused::requests_answers(alloc, fields),
-        "bytes" => notation::bytes_answers(alloc, fields),
-        "steps" => notation::steps_answers(alloc, fields),
-        "files" => scene::answers(rt, fields),
-        "process" => scene::process_answers(rt, fields),
-        "refused_call" => refused_call::answers(rt, fields),
+        "file" => file::play(answers, fields),
+        "used" => used::play(answers, fields),
+        "written" => written::play_written(answers, fields),
+        "pair" => written::play_pair(answers, fields),
+        "list" => written::play_list(answers, fields),
+        "writes" => written::play_writes(answers, fields),
+        "reads" => reads::play(answers, fields),
+        "first" => reads::play_first(answers, fields),
+        "search" => search::play(answers, fields),
+        "layers" => layers::play(answers, fields),
+        "cut" => cut::play_items(answers, fields),
+        "cut_load" => cut::play_load(answers, fields),
+        "refused_items" => refused::play_items(answers, fields),
+        "refused_load" => refused::play_load(answers, fields),
+        "refused_list" => refused::play_list(answers, fields),
+        "requests" => refused::play_requests(answers, fields),
+        "bytes" => notation::play_bytes(answers, fields),
+        "steps" => notation::play_steps(answers, fields),
+        "files" => scene::play(answers, rt, fields),
+        "process" => scene::play_process(answers, rt, fields),
+        "refused_call" => refused_call::play(answers, rt, fields),
         _ => bail!("no kind of row is called {kind}"),
     }
 }
@@ -39,9 +43,10 @@ fn answers_of(rt: HostRuntime, kind: &str, fields: &[&str]) -> Result<Vec<Compar
 // What `replay` itself says of the row behind its name: `right`, `wrong`, or `no row`.
 fn told(rt: HostRuntime, fields: &[&str]) -> Result<&'static str> {
     let (kind, fields) = fields.split_first().context("no row in a row")?;
-    let Ok(answers) = answers_of(rt, kind, fields) else {
+    let mut answers = Vec::new(rt.alloc());
+    if play_library(&mut answers, rt, kind, fields).is_err() {
         return Ok("no row");
-    };
+    }
     if differences(rt.alloc(), &answers)?.is_empty() {
         Ok("right")
     } else {
@@ -50,19 +55,27 @@ fn told(rt: HostRuntime, fields: &[&str]) -> Result<&'static str> {
 }
 
 // The answer to a row that asks what is told of another one.
-fn told_answers(rt: HostRuntime, wanted: &str, fields: &[&str]) -> Result<Vec<Comparison>> {
+fn play_told(
+    answers: &mut Vec<Comparison>,
+    rt: HostRuntime,
+    wanted: &str,
+    fields: &[&str],
+) -> Result<()> {
     let alloc = rt.alloc();
     let got = vec![in alloc; String::from_str(alloc, told(rt, fields)?)?]?;
-    let mut answers = Vec::new(alloc);
-    push_answer(&mut answers, "row", "told", wanted, got)?;
-    Ok(answers)
+    push_answer(answers, "row", "told", wanted, got)
 }
 
-/// The answers to a row.
-pub fn answers(rt: HostRuntime, kind: &str, fields: &[&str]) -> Result<Vec<Comparison>> {
+/// Plays a row, and adds its answers.
+pub fn play(
+    answers: &mut Vec<Comparison>,
+    rt: HostRuntime,
+    kind: &str,
+    fields: &[&str],
+) -> Result<()> {
     match kind {
-        "wrong" => told_answers(rt, "wrong", fields),
-        "no_row" => told_answers(rt, "no row", fields),
-        _ => answers_of(rt, kind, fields),
+        "wrong" => play_told(answers, rt, "wrong", fields),
+        "no_row" => play_told(answers, rt, "no row", fields),
+        _ => play_library(answers, rt, kind, fields),
     }
 }

@@ -34,13 +34,13 @@ fn layer(alloc: Global, written: &str) -> Result<(Mode, Vec<Step>)> {
 
 // What is answered to each layer.
 fn added(alloc: Global, layers: &mut Layers, field: &str, cut: Cut) -> Result<Vec<String>> {
-    let mut answers = Vec::new(alloc);
+    let mut texts = Vec::new(alloc);
     for written in list(alloc, field)? {
         let (mode, steps) = layer(alloc, written)?;
         let answered = layers.add(alloc, PlayedReader::new(&steps, cut), mode);
-        answers.push(answer(alloc, &answered)?)?;
+        texts.push(answer(alloc, &answered)?)?;
     }
-    Ok(answers)
+    Ok(texts)
 }
 
 // `ok`, or `missing` and the names.
@@ -61,20 +61,20 @@ fn required(alloc: Global, layers: &Layers, field: &str) -> Result<Vec<String>> 
     Ok(texts)
 }
 
-/// The answers to a row.
-pub fn answers(alloc: Global, fields: &[&str]) -> Result<Vec<Comparison>> {
+/// Plays a row, and adds its answers.
+pub fn play(answers: &mut Vec<Comparison>, fields: &[&str]) -> Result<()> {
+    let alloc = *answers.allocator();
     let [before, added_field, answered, after, names, required_field] = fields else {
         bail!("{} fields in place of 6", fields.len());
     };
-    let mut answers = Vec::new(alloc);
     for (cut, way) in CUTS {
         let mut layers = Layers::new(environment(alloc, before)?);
         let got = added(alloc, &mut layers, added_field, cut)?;
-        push_answer(&mut answers, "layers", way, answered, got)?;
+        push_answer(answers, "layers", way, answered, got)?;
         let got = required(alloc, &layers, names)?;
-        push_answer(&mut answers, "required", way, required_field, got)?;
+        push_answer(answers, "required", way, required_field, got)?;
         let got = pairs(alloc, &layers.into_environment())?;
-        push_answer(&mut answers, "environment", way, after, got)?;
+        push_answer(answers, "environment", way, after, got)?;
     }
-    Ok(answers)
+    Ok(())
 }

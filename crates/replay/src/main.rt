@@ -22,7 +22,7 @@ mod written;
 use anyhow::{Context, Result, bail};
 use comparison::tell_differences;
 use counts::Counts;
-use kinds::answers;
+use kinds::play;
 use row::Row;
 use std::process::ExitCode;
 use std::{env, fs};
@@ -32,10 +32,8 @@ fn play_line(rt: HostRuntime, line: &str, counts: &mut Counts) -> Result<()> {
     let Some(row) = Row::parse(rt.alloc(), line)? else {
         return Ok(());
     };
-    let answers = answers(rt, row.kind, row.fields.as_slice()).context(format_args!(
-        "{}",
-        row.name
-    ))?;
+    let mut answers = Vec::new(rt.alloc());
+    play(&mut answers, rt, row.kind, row.fields.as_slice()).context(format_args!("{}", row.name))?;
     counts.add(tell_differences(&rt, row.name, &answers)?);
     Ok(())
 }

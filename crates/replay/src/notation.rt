@@ -18,8 +18,9 @@ fn hex(alloc: Global, bytes: &[u8]) -> std::result::Result<String, AllocError> {
     Ok(hex)
 }
 
-/// The answers to a row of kind `bytes`.
-pub fn bytes_answers(alloc: Global, fields: &[&str]) -> Result<Vec<Comparison>> {
+/// Plays a row of kind `bytes`.
+pub fn play_bytes(answers: &mut Vec<Comparison>, fields: &[&str]) -> Result<()> {
+    let alloc = *answers.allocator();
     let [texts, wanted] = fields else {
         bail!("{} fields in place of 2", fields.len());
     };
@@ -27,9 +28,8 @@ pub fn bytes_answers(alloc: Global, fields: &[&str]) -> Result<Vec<Comparison>> 
     for written in list(alloc, texts)? {
         got.push(hex(alloc, &bytes(alloc, written)?)?)?;
     }
-    let mut answers = Vec::new(alloc);
-    push_answer(&mut answers, "texts", "as bytes", wanted, got)?;
-    Ok(answers)
+    push_answer(answers, "texts", "as bytes", wanted, got)?;
+    Ok(())
 }
 
 // The first seven reads of two bytes each.
@@ -41,25 +41,19 @@ fn reads(alloc: Global, steps: &[Step], cut: Cut) -> Result<Vec<String>> {
     spelled(alloc, telling.into_calls())
 }
 
-/// The answers to a row of kind `steps`.
-pub fn steps_answers(alloc: Global, fields: &[&str]) -> Result<Vec<Comparison>> {
+/// Plays a row of kind `steps`.
+pub fn play_steps(answers: &mut Vec<Comparison>, fields: &[&str]) -> Result<()> {
+    let alloc = *answers.allocator();
     let [steps_field, whole, by_byte, interrupted] = fields else {
         bail!("{} fields in place of 4", fields.len());
     };
     let steps = steps(alloc, steps_field)?;
-    let mut answers = Vec::new(alloc);
     for (cut, way, wanted) in [
         (Cut::Whole, "in whole reads", whole),
         (Cut::ByByte, "one byte a read", by_byte),
         (Cut::Interrupted, "with interruptions", interrupted),
     ] {
-        push_answer(
-            &mut answers,
-            "reads",
-            way,
-            wanted,
-            reads(alloc, &steps, cut)?,
-        )?;
+        push_answer(answers, "reads", way, wanted, reads(alloc, &steps, cut)?)?;
     }
-    Ok(answers)
+    Ok(())
 }

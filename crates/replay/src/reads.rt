@@ -64,42 +64,36 @@ fn of_first(alloc: Global, dialect: Dialect, steps: &[Step]) -> Result<(Vec<Stri
     Ok((items, spelled(alloc, telling.into_calls())?))
 }
 
-/// The answers to a row of kind `first`.
-pub fn first_answers(alloc: Global, fields: &[&str]) -> Result<Vec<Comparison>> {
+/// Plays a row of kind `first`.
+pub fn play_first(answers: &mut Vec<Comparison>, fields: &[&str]) -> Result<()> {
+    let alloc = *answers.allocator();
     let [dialect_field, steps_field, items_field, reads_field] = fields else {
         bail!("{} fields in place of 4", fields.len());
     };
     let steps = steps(alloc, steps_field)?;
     let (items, reads) = of_first(alloc, dialect(dialect_field)?, &steps)?;
-    let mut answers = Vec::new(alloc);
-    push_answer(&mut answers, "item", "first", items_field, items)?;
-    push_answer(
-        &mut answers,
-        "reads",
-        "of the first item",
-        reads_field,
-        reads,
-    )?;
-    Ok(answers)
+    push_answer(answers, "item", "first", items_field, items)?;
+    push_answer(answers, "reads", "of the first item", reads_field, reads)?;
+    Ok(())
 }
 
-/// The answers to a row of kind `reads`.
-pub fn answers(alloc: Global, fields: &[&str]) -> Result<Vec<Comparison>> {
+/// Plays a row of kind `reads`.
+pub fn play(answers: &mut Vec<Comparison>, fields: &[&str]) -> Result<()> {
+    let alloc = *answers.allocator();
     let [dialect_field, steps_field, items, loads] = fields else {
         bail!("{} fields in place of 4", fields.len());
     };
     let dialect = dialect(dialect_field)?;
     let steps = steps(alloc, steps_field)?;
-    let mut answers = Vec::new(alloc);
     if is_asked(items) {
         let got = of_items(alloc, dialect, &steps)?;
-        push_answer(&mut answers, "reads", "of items", items, got)?;
+        push_answer(answers, "reads", "of items", items, got)?;
     }
     let got = of_load(alloc, dialect, &steps, false)?;
-    push_answer(&mut answers, "reads", "of load", loads, got)?;
+    push_answer(answers, "reads", "of load", loads, got)?;
     let got = of_load(alloc, dialect, &steps, true)?;
-    push_answer(&mut answers, "reads", "of load_override", loads, got)?;
+    push_answer(answers, "reads", "of load_override", loads, got)?;
     let got = of_listing(alloc, dialect, &steps)?;
-    push_answer(&mut answers, "reads", "of list_with", loads, got)?;
-    Ok(answers)
+    push_answer(answers, "reads", "of list_with", loads, got)?;
+    Ok(())
 }

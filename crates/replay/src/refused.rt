@@ -151,24 +151,23 @@ pub fn front_of(
     Ok(front)
 }
 
-/// The answers to a row of kind `refused_items`.
-pub fn items_answers(alloc: Global, fields: &[&str]) -> Result<Vec<Comparison>> {
+/// Plays a row of kind `refused_items`.
+pub fn play_items(answers: &mut Vec<Comparison>, fields: &[&str]) -> Result<()> {
+    let alloc = *answers.allocator();
     let [dialect, names, file, wanted] = fields else {
         bail!("{} fields in place of 4", fields.len());
     };
     let file = File::parse(alloc, dialect, names, file)?;
     let all = texts(alloc, wanted)?;
-    let mut answers = Vec::new(alloc);
     for number in 1..MOST_REQUESTS {
         let ration = Rationed::refusing(alloc, number);
         let mut items = Vec::new(alloc);
         let answer = file.push_items(&ration, &mut items);
         if !is_refused(&ration, &answer)? {
-            push_answer(&mut answers, "items", "in all", wanted, items)?;
-            return Ok(answers);
+            return push_answer(answers, "items", "in all", wanted, items);
         }
         let front = front_of(alloc, &all, &items)?;
-        push_compared(&mut answers, "items", "before a refusal", front, items)?;
+        push_compared(answers, "items", "before a refusal", front, items)?;
     }
     bail!("each run met a refusal")
 }
@@ -185,58 +184,91 @@ fn same_state(alloc: Global, states: &[&str], left: &Vec<String>) -> Result<Vec<
     Ok(wanted)
 }
 
-/// The answers to a row of kind `refused_load`.
-pub fn load_answers(alloc: Global, fields: &[&str]) -> Result<Vec<Comparison>> {
-    let [name, dialect, names, file, wanted, states @ ..] = fields else {
-        bail!("{} fields in place of 6 and more", fields.len());
-    };
-    let load = call_named(name)?;
-    let file = File::parse(alloc, dialect, names, file)?;
-    let mut answers = Vec::new(alloc);
-    for number in 1..MOST_REQUESTS {
+// A load, and what it answers and leaves.
+#[derive(Clone, Copy)]
+struct RefusedLoad<'a> {
+    load: Call,
+    file: &'a File,
+    answer: &'a str,
+    states: &'a [&'a str],
+}
+
+impl RefusedLoad<'_> {
+    // Loads with the request of this number refused, and tells whether none was.
+    fn run(&self, answers: &mut Vec<Comparison>, number: u64) -> Result<bool> {
+        let alloc = *answers.allocator();
         let ration = Rationed::refusing(alloc, number);
-        let before = environment_of(&ration, &file.names);
+        let before = environment_of(&ration, &self.file.names);
         if is_refused(&ration, &before)? {
-            continue;
+            return Ok(false);
         }
         let mut environment = before?;
-        let answered = file.load(&mut environment, &ration, load);
+        let answered = self.file.load(&mut environment, &ration, self.load);
         let left = pairs(alloc, &environment)?;
-        if !is_refused(&ration, &answered)? {
-            let got = vec![in alloc; answer(alloc, &answered)?]?;
-            push_answer(&mut answers, "load", "answered", wanted, got)?;
-            push_answer(
-                &mut answers,
-                "load",
-                "left",
-                states.last().unwrap_or(&""),
-                left,
-            )?;
-            return Ok(answers);
+        let is_refused = is_refused(&ration, &answered)?;
+        if is_refused {
+            self.push_refused(answers, left)?;
+        } else {
+            self.push_done(answers, answer(alloc, &answered)?, left)?;
         }
-        let state = same_state(alloc, states, &left)?;
-        push_compared(&mut answers, "load", "left at a refusal", state, left)?;
+        Ok(!is_refused)
+    }
+
+    fn push_refused(&self, answers: &mut Vec<Comparison>, left: Vec<String>) -> Result<()> {
+        let state = same_state(*answers.allocator(), self.states, &left)?;
+        push_compared(answers, "load", "left at a refusal", state, left)?;
+        Ok(())
+    }
+
+    fn push_done(
+        &self,
+        answers: &mut Vec<Comparison>,
+        answered: String,
+        left: Vec<String>,
+    ) -> Result<()> {
+        let got = vec![in *answers.allocator(); answered]?;
+        push_answer(answers, "load", "answered", self.answer, got)?;
+        let state = self.states.last().unwrap_or(&"");
+        push_answer(answers, "load", "left", state, left)
+    }
+}
+
+/// Plays a row of kind `refused_load`.
+pub fn play_load(answers: &mut Vec<Comparison>, fields: &[&str]) -> Result<()> {
+    let [name, dialect, names, file, answer, states @ ..] = fields else {
+        bail!("{} fields in place of 6 and more", fields.len());
+    };
+    let file = File::parse(*answers.allocator(), dialect, names, file)?;
+    let refused = RefusedLoad {
+        load: call_named(name)?,
+        file: &file,
+        answer,
+        states,
+    };
+    for number in 1..MOST_REQUESTS {
+        if refused.run(answers, number)? {
+            return Ok(());
+        }
     }
     bail!("each run met a refusal")
 }
 
-/// The answers to a row of kind `refused_list`.
-pub fn list_answers(alloc: Global, fields: &[&str]) -> Result<Vec<Comparison>> {
+/// Plays a row of kind `refused_list`.
+pub fn play_list(answers: &mut Vec<Comparison>, fields: &[&str]) -> Result<()> {
+    let alloc = *answers.allocator();
     let [dialect, file, wanted] = fields else {
         bail!("{} fields in place of 3", fields.len());
     };
     let file = File::parse(alloc, dialect, "", file)?;
-    let mut answers = Vec::new(alloc);
     for number in 1..MOST_REQUESTS {
         let ration = Rationed::refusing(alloc, number);
         let mut writer = Plain::new(Vec::new(alloc));
         let answered = file.list(&ration, &mut writer);
         let got = written(alloc, &answered, writer.into_inner())?;
         if !is_refused(&ration, &answered)? {
-            push_answer(&mut answers, "listing", "in all", wanted, got)?;
-            return Ok(answers);
+            return push_answer(answers, "listing", "in all", wanted, got);
         }
-        push_answer(&mut answers, "listing", "at a refusal", "memory", got)?;
+        push_answer(answers, "listing", "at a refusal", "memory", got)?;
     }
     bail!("each run met a refusal")
 }
@@ -253,8 +285,9 @@ fn requests_of(alloc: Global, call: Call, file: &File) -> Result<u64> {
     bail!("each run met a refusal")
 }
 
-/// The answers to a row of kind `requests`.
-pub fn requests_answers(alloc: Global, fields: &[&str]) -> Result<Vec<Comparison>> {
+/// Plays a row of kind `requests`.
+pub fn play_requests(answers: &mut Vec<Comparison>, fields: &[&str]) -> Result<()> {
+    let alloc = *answers.allocator();
     let [name, dialect, names, before, lines, wanted] = fields else {
         bail!("{} fields in place of 6", fields.len());
     };
@@ -268,7 +301,6 @@ pub fn requests_answers(alloc: Global, fields: &[&str]) -> Result<Vec<Comparison
     file.bytes.extend_from_slice(&bytes(alloc, lines)?)?;
     let requests = requests_of(alloc, call, &file)?.saturating_sub(alone);
     let got = vec![in alloc; requests.to_string(alloc)?]?;
-    let mut answers = Vec::new(alloc);
-    push_answer(&mut answers, "requests", "of the lines", wanted, got)?;
-    Ok(answers)
+    push_answer(answers, "requests", "of the lines", wanted, got)?;
+    Ok(())
 }

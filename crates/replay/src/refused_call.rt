@@ -150,7 +150,12 @@ fn play_before(alloc: Global, scene: &mut Scene, steps: &str) -> Result<()> {
 }
 
 // The answers to the call of a row, behind its steps.
-fn call_answers(rt: HostRuntime, scene: &Scene, fields: &[&str]) -> Result<Vec<Comparison>> {
+fn push_call(
+    answers: &mut Vec<Comparison>,
+    rt: HostRuntime,
+    scene: &Scene,
+    fields: &[&str],
+) -> Result<()> {
     let [names, _steps, call_field, wanted, left, states @ ..] = fields else {
         bail!("{} fields in place of 5 and more", fields.len());
     };
@@ -168,17 +173,15 @@ fn call_answers(rt: HostRuntime, scene: &Scene, fields: &[&str]) -> Result<Vec<C
         wanted,
         left,
     };
-    let mut answers = Vec::new(alloc);
-    refused.run_in_turn(&mut answers, states)?;
-    Ok(answers)
+    refused.run_in_turn(answers, states)
 }
 
-/// The answers to a row.
-pub fn answers(rt: HostRuntime, fields: &[&str]) -> Result<Vec<Comparison>> {
+/// Plays a row, and adds its answers.
+pub fn play(answers: &mut Vec<Comparison>, rt: HostRuntime, fields: &[&str]) -> Result<()> {
     let steps = fields.get(1).context("no steps")?;
     let mut scene = Scene::enter(rt)?;
     let played = play_before(rt.alloc(), &mut scene, steps);
-    let answers = played.and_then(|()| call_answers(rt, &scene, fields));
+    let pushed = played.and_then(|()| push_call(answers, rt, &scene, fields));
     scene.leave()?;
-    answers
+    pushed
 }

@@ -119,7 +119,7 @@ fn printed(alloc: Global, error: &Error) -> Result<String> {
 
 // What the steps of a row answer, one after another.
 #[derive(Drop)]
-struct Play<'a> {
+struct Act<'a> {
     scene: Scene,
     names: &'a str,
     environment: Environment,
@@ -128,7 +128,7 @@ struct Play<'a> {
     answers: Vec<String>,
 }
 
-impl Play<'_> {
+impl Act<'_> {
     fn play(&mut self, step: &str) -> Result<()> {
         if self.scene.play(step)? {
             return Ok(());
@@ -167,8 +167,8 @@ impl Play<'_> {
     }
 }
 
-/// The answers to a row of kind `process`.
-pub fn process_answers(rt: HostRuntime, fields: &[&str]) -> Result<Vec<Comparison>> {
+/// Plays a row of kind `process`.
+pub fn play_process(answers: &mut Vec<Comparison>, rt: HostRuntime, fields: &[&str]) -> Result<()> {
     let [entries, wanted] = fields else {
         bail!("{} fields in place of 2", fields.len());
     };
@@ -178,35 +178,33 @@ pub fn process_answers(rt: HostRuntime, fields: &[&str]) -> Result<Vec<Compariso
         system.entries.push(bytes(alloc, entry)?)?;
     }
     let got = state(alloc, &Environment::from_process(&system)?)?;
-    let mut answers = Vec::new(alloc);
-    push_answer(&mut answers, "process", "read", wanted, got)?;
-    Ok(answers)
+    push_answer(answers, "process", "read", wanted, got)?;
+    Ok(())
 }
 
-/// The answers to a row of kind `files`.
-pub fn answers(rt: HostRuntime, fields: &[&str]) -> Result<Vec<Comparison>> {
+/// Plays a row of kind `files`.
+pub fn play(answers: &mut Vec<Comparison>, rt: HostRuntime, fields: &[&str]) -> Result<()> {
     let [names, steps, wanted] = fields else {
         bail!("{} fields in place of 3", fields.len());
     };
     let alloc = rt.alloc();
-    let mut play = Play {
+    let mut act = Act {
         scene: Scene::enter(rt)?,
         names,
         environment: environment(alloc, names)?,
         prints: false,
         answers: Vec::new(alloc),
     };
-    let played = play.play_all(&list(alloc, steps)?);
-    let Play {
+    let played = act.play_all(&list(alloc, steps)?);
+    let Act {
         scene,
         names: _,
         environment: _,
         prints: _,
         answers: got,
-    } = play;
+    } = act;
     scene.leave()?;
     played?;
-    let mut answers = Vec::new(alloc);
-    push_answer(&mut answers, "calls", "answered", wanted, got)?;
-    Ok(answers)
+    push_answer(answers, "calls", "answered", wanted, got)?;
+    Ok(())
 }

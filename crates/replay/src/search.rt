@@ -37,8 +37,9 @@ fn found(alloc: Global, answer: dotenvy::Result<PathBuf>) -> Result<Vec<String>>
     Ok(vec![in alloc; text]?)
 }
 
-/// The answers to a row.
-pub fn answers(alloc: Global, fields: &[&str]) -> Result<Vec<Comparison>> {
+/// Plays a row, and adds its answers.
+pub fn play(answers: &mut Vec<Comparison>, fields: &[&str]) -> Result<()> {
+    let alloc = *answers.allocator();
     let [directory, filename, looks_field, asked, answer] = fields else {
         bail!("{} fields in place of 5", fields.len());
     };
@@ -51,8 +52,7 @@ pub fn answers(alloc: Global, fields: &[&str]) -> Result<Vec<Comparison>> {
         Path::new(filename.as_str()),
         &mut |path| { played.look(path) },
     );
-    let mut answers = Vec::new(alloc);
-    push_answer(&mut answers, "path", "found", answer, found(alloc, got)?)?;
-    push_answer(&mut answers, "paths", "asked", asked, played.into_asked())?;
-    Ok(answers)
+    push_answer(answers, "path", "found", answer, found(alloc, got)?)?;
+    push_answer(answers, "paths", "asked", asked, played.into_asked())?;
+    Ok(())
 }

@@ -51,8 +51,9 @@ impl Used<'_> {
     }
 }
 
-/// The answers to a row.
-pub fn answers(alloc: Global, fields: &[&str]) -> Result<Vec<Comparison>> {
+/// Plays a row, and adds its answers.
+pub fn play(answers: &mut Vec<Comparison>, fields: &[&str]) -> Result<()> {
+    let alloc = *answers.allocator();
     let [
         dialect_field,
         taken,
@@ -73,20 +74,13 @@ pub fn answers(alloc: Global, fields: &[&str]) -> Result<Vec<Comparison>> {
         steps: steps(alloc, steps_field)?,
         into,
     };
-    let mut answers = Vec::new(alloc);
     for (cut, way) in CUTS {
         let kept = used.play(alloc, cut, false)?;
-        push_answer(&mut answers, "items", way, items, kept.items)?;
-        push_answer(&mut answers, "load", way, load, kept.load)?;
+        push_answer(answers, "items", way, items, kept.items)?;
+        push_answer(answers, "load", way, load, kept.load)?;
         let replaced = used.play(alloc, cut, true)?;
-        push_answer(&mut answers, "items", way, items, replaced.items)?;
-        push_answer(
-            &mut answers,
-            "load_override",
-            way,
-            load_override,
-            replaced.load,
-        )?;
+        push_answer(answers, "items", way, items, replaced.items)?;
+        push_answer(answers, "load_override", way, load_override, replaced.load)?;
     }
-    Ok(answers)
+    Ok(())
 }

@@ -56,23 +56,24 @@ fn push_listings(answers: &mut Vec<Comparison>, bytes: &[u8]) -> Result<()> {
     Ok(())
 }
 
-/// The answers to a row of kind `written`.
-pub fn written_answers(alloc: Global, fields: &[&str]) -> Result<Vec<Comparison>> {
+/// Plays a row of kind `written`.
+pub fn play_written(answers: &mut Vec<Comparison>, fields: &[&str]) -> Result<()> {
+    let alloc = *answers.allocator();
     let [pairs_field, bytes] = fields else {
         bail!("{} fields in place of 2", fields.len());
     };
     let output = written_pairs(alloc, pairs_field)?;
-    let mut answers = Vec::new(alloc);
     let got = read_back(alloc, &output)?;
-    push_answer(&mut answers, "pairs", "read back", pairs_field, got)?;
-    push_listings(&mut answers, &output)?;
+    push_answer(answers, "pairs", "read back", pairs_field, got)?;
+    push_listings(answers, &output)?;
     let got = vec![in alloc; String::from_utf8(output)?]?;
-    push_answer(&mut answers, "pairs", "written", bytes, got)?;
-    Ok(answers)
+    push_answer(answers, "pairs", "written", bytes, got)?;
+    Ok(())
 }
 
-/// The answers to a row of kind `pair`.
-pub fn pair_answers(alloc: Global, fields: &[&str]) -> Result<Vec<Comparison>> {
+/// Plays a row of kind `pair`.
+pub fn play_pair(answers: &mut Vec<Comparison>, fields: &[&str]) -> Result<()> {
+    let alloc = *answers.allocator();
     let [pair_field, steps, answer] = fields else {
         bail!("{} fields in place of 3", fields.len());
     };
@@ -80,13 +81,13 @@ pub fn pair_answers(alloc: Global, fields: &[&str]) -> Result<Vec<Comparison>> {
     let mut writer = Plain::new(PlayedWriter::new(alloc, writer::steps(alloc, steps)?));
     let answered = write_pair(alloc, &mut writer, key.as_str(), value.as_str())?;
     let got = written(alloc, &answered, writer.into_inner().into_taken())?;
-    let mut answers = Vec::new(alloc);
-    push_answer(&mut answers, "pair", "written", answer, got)?;
-    Ok(answers)
+    push_answer(answers, "pair", "written", answer, got)?;
+    Ok(())
 }
 
-/// The answers to a row of kind `writes`.
-pub fn writes_answers(alloc: Global, fields: &[&str]) -> Result<Vec<Comparison>> {
+/// Plays a row of kind `writes`.
+pub fn play_writes(answers: &mut Vec<Comparison>, fields: &[&str]) -> Result<()> {
+    let alloc = *answers.allocator();
     let [pair_field, steps, writes] = fields else {
         bail!("{} fields in place of 3", fields.len());
     };
@@ -94,10 +95,9 @@ pub fn writes_answers(alloc: Global, fields: &[&str]) -> Result<Vec<Comparison>>
     let played = PlayedWriter::new(alloc, writer::steps(alloc, steps)?);
     let mut telling = Telling::new(alloc, Plain::new(played));
     let _ = write_pair(alloc, &mut telling, key.as_str(), value.as_str())?;
-    let mut answers = Vec::new(alloc);
     let got = spelled(alloc, telling.into_calls())?;
-    push_answer(&mut answers, "writes", "of a pair", writes, got)?;
-    Ok(answers)
+    push_answer(answers, "writes", "of a pair", writes, got)?;
+    Ok(())
 }
 
 // What `list_with` answers and writes of these steps to a writer of those.
@@ -112,17 +112,17 @@ fn list_to(
     written(alloc, &answer, writer.into_inner().into_taken())
 }
 
-/// The answers to a row of kind `list`.
-pub fn list_answers(alloc: Global, fields: &[&str]) -> Result<Vec<Comparison>> {
+/// Plays a row of kind `list`.
+pub fn play_list(answers: &mut Vec<Comparison>, fields: &[&str]) -> Result<()> {
+    let alloc = *answers.allocator();
     let [dialect_field, reader_steps, writer_steps, answer] = fields else {
         bail!("{} fields in place of 4", fields.len());
     };
     let steps = reader::steps(alloc, reader_steps)?;
     let dialect = dialect(dialect_field)?;
-    let mut answers = Vec::new(alloc);
     for (cut, way) in CUTS {
         let got = list_to(alloc, dialect, PlayedReader::new(&steps, cut), writer_steps)?;
-        push_answer(&mut answers, "list", way, answer, got)?;
+        push_answer(answers, "list", way, answer, got)?;
     }
-    Ok(answers)
+    Ok(())
 }
