@@ -43,7 +43,7 @@ when_false x y false h = refl
 pub some_same : {A : Type 0} (x y : A) → ◌≡◌ {A = Option A} (Some x) (Some y) → x ≡ y
 some_same x y h = cc
 
--- equal codes, by the test
+-- codes that pass the test for equal ones are the same
 pub same_from : (c d : ℕ) → (c == d) ≡ true → c ≡ d
 same_from c d h = grind (arith, nat_tests, h)
 
@@ -52,7 +52,7 @@ pub not_false : (b : Bool) → not b ≡ false → b ≡ true
 not_false true h = refl
 not_false false h = cc
 
--- a choice whose test is known
+-- a choice whose test holds is its first answer
 pub if_true : {A : Type 0} (x y : A) (b : Bool) → b ≡ true → cond b x y ≡ x
 if_true x y true h = refl
 if_true x y false h = cc
@@ -62,7 +62,6 @@ pub if_false : {A : Type 0} (x y : A) (b : Bool) → b ≡ false → cond b x y 
 if_false x y false h = refl
 if_false x y true h = cc
 
--- a test for emptiness
 -- a list without length has nothing
 pub nil_of : (xs : List ℕ) → length xs ≡ 0 → xs ≡ []
 nil_of [] h = refl
@@ -73,6 +72,7 @@ pub more_some : (xs ys : List ℕ) → xs ≢ [] → xs ++ ys ≢ []
 more_some [] ys h = absurd (h refl)
 more_some (x ∷ xs) ys h = λ e. cc
 
+-- A test for emptiness.
 -- a list whose length was tested to be zero is empty
 pub tested_empty : (xs : List ℕ) (n : ℕ) (b : Bool) → b ≡ (n == 0) → n ≡ length xs → b ≡ true → xs ≡ []
 tested_empty xs n b test len is = let zero' : n ≡ 0 = (let t : (n == 0) ≡ true = sym test ∙ is in grind (arith, nat_tests, t)) in nil_of xs (sym len ∙ zero')
@@ -83,7 +83,7 @@ tested_some xs n b test len is =
     let some : 0 < n = (let t : (n == 0) ≡ false = sym test ∙ is in grind (arith, nat_tests, t)) in
     (some, λ h. let l = ap length h in omega (arith, some, len, l))
 
--- a weaker fact of the value, if there is one
+-- where a fact of each value makes another, it does so of the value that is there, if there is one
 pub ok-weaker : {T E : Type 0} (P Q : T → Type 0) (r : Result T E) → ((x : T) → P x → Q x) → IfOk r P → IfOk r Q
 ok-weaker P Q (Ok x) f h = f x h
 ok-weaker P Q (Err e) f h = tt

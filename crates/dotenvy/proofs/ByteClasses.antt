@@ -21,7 +21,7 @@ none_begins : (byte : ℕ → Bool) → ((b : ℕ) → 128 ≤ b → byte b ≡ 
 none_begins byte none c h passes = let wide = lead_wide c h in
     false≢true (sym (none (lead c) (omega (arith, wide))) ∙ passes)
 
--- no byte of a wide character passes
+-- where no byte from 128 on passes, a test of bytes that tells ASCII characters tells all
 tells_ascii : (byte character : ℕ → Bool) → ((c : ℕ) → c < 128 → byte c ≡ true → character c ≡ true)
     → ((b : ℕ) → 128 ≤ b → byte b ≡ false) → Tells byte character
 tells_ascii byte character narrow none = record {
@@ -30,7 +30,7 @@ tells_ascii byte character narrow none = record {
   later = λ c b h passes low below. absurd (none_begins byte none c h passes);
 }
 
--- each byte of a wide character passes, as it does
+-- where all bytes from 128 on and all wide characters pass, a test of bytes that tells ASCII ones tells all
 tells_wide : (byte character : ℕ → Bool) → ((c : ℕ) → c < 128 → byte c ≡ true → character c ≡ true)
     → ((b : ℕ) → 128 ≤ b → byte b ≡ true) → ((c : ℕ) → 128 ≤ c → character c ≡ true) → Tells byte character
 tells_wide byte character narrow all passes = record {
@@ -82,7 +82,7 @@ quoted_narrow quote c h = grind (arith, nat_tests, h)
 quoted_wide : (quote b c : ℕ) → in_run (Quoted quote) b ≡ true → 128 ≤ c → in_run (Quoted quote) c ≡ true
 quoted_wide quote b c h large = grind (arith, nat_tests, h, large)
 
--- for each class
+-- of each class the test of bytes tells the test of characters
 pub tells : (class : Class) → Tells (in_run class) (has_character class)
 tells Key = tells_ascii continues_key continues_key (λ c small h. h) key_ascii
 tells (Name dialect) = tells_ascii (is_name_byte dialect) (is_name_character dialect) (ascii_name dialect)

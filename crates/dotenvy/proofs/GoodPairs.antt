@@ -12,7 +12,7 @@ use Rattle.std.specs.declared.cmp.Ordering.TheVariants.{Less, Equal, Greater}
 use Rattle.dotenvy.specs.Environment.{Env, IsEnvironment, AreGood, name_ok, value_ok, pair_ok}
 use Rattle.dotenvy.proofs.Basics.{and_left, and_right}
 
--- the left and the right half of a test
+-- where both halves of a test hold, the left one does
 first_half : (a b : Bool) → T (a && b) → T a
 first_half true b h = tt
 first_half false b h = absurd h
@@ -39,7 +39,7 @@ below_none name (pair ∷ pairs) h =
     [ Less ↦ λ l. below_none name pairs (second_half _ _ h) | Equal ↦ λ l. absurd l | Greater ↦ λ l. absurd l ]
     (first_half _ _ h)
 
--- the look-up of a name behind the first pair
+-- a value found behind a pair whose name is below all others is found with that pair in front, too
 found_later : (first : List ℕ × List ℕ) (pairs : List (List ℕ × List ℕ)) (name value : List ℕ) →
     T (below_all (slice_cmp nat_cmp) first.0 pairs) → find (slice_cmp nat_cmp) name pairs ≡ Some value →
     find (slice_cmp nat_cmp) name (first ∷ pairs) ≡ Some value
@@ -84,7 +84,7 @@ first_is_good name value pairs good = and_left (name_ok name) (value_ok value) (
   value,
 )) (list_all pair_ok pairs) good)
 
--- and the others are good
+-- where pairs are good, so are those behind the first
 pub others_are_good : (name value : List ℕ) (pairs : List (List ℕ × List ℕ)) → AreGood ((name, value) ∷ pairs) →
     AreGood pairs
 others_are_good name value pairs good = and_right (pair_ok (name, value)) (list_all pair_ok pairs) good

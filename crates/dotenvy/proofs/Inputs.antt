@@ -30,7 +30,7 @@ use Rattle.dotenvy.specs.Input.{InputState, left_of, IsTold, IsAllRead, ReadsFit
 abbrev is_lf : ℕ → Bool
 is_lf b = b == 10
 
--- a character before a whole line
+-- a whole line with a character before it that is no line feed is a whole line
 pub whole_cons : (c : ℕ) (line : List ℕ) → (c == line_feed) ≡ false → is_whole_line line ≡ true → is_whole_line (c ∷ line) ≡ true
 whole_cons c [] h w = cc
 whole_cons c (d ∷ line) h w = ap (λ b. not b && is_whole_line (d ∷ line)) h ∙ w
@@ -76,7 +76,7 @@ none_at xs false t e = ltb-false _ _ t
 pub line_not_found : (xs : List ℕ) → position is_lf xs ≡ None → no_line_feed xs ≡ true
 line_not_found xs e = no_place xs (none_at xs _ refl e)
 
--- the first byte that is found is the first line feed
+-- where it isn't so that a test holds, it is false
 not_passed : (p : ℕ → Bool) (x : ℕ) → ¬ (p x ≡ true) → p x ≡ false
 not_passed p x h = at (p x) h
   where
@@ -135,7 +135,7 @@ told_next false (Some b) unread a h t =
     let f = the_fault (ahead_of (unread ++ b.bytes) b.fault) a t.0 in
     record { next = b; is_told = (refl, λ i. t.1 (sym f ∙ i)); bytes = sym (the_bytes (ahead_of (unread ++ b.bytes) b.fault) a t.0); fault = sym f }
 
--- a weaker fact of a fault
+-- where a fact of each fault makes another, refused memory or such a fault is that or one of the other
 pub io_weaker : {A : Type 0} (P Q : IoError → Type 0) (e : Error A) → ((x : IoError) → P x → Q x) → IsMemory e ⊎ IsIoOf P e → IsMemory e ⊎ IsIoOf Q e
 io_weaker P Q (LineParse t i) f h = h
 io_weaker P Q (Io x) f (inl m) = inl m
@@ -145,7 +145,7 @@ io_weaker P Q (Nul k) f h = h
 io_weaker P Q (Memory m) f (inl u) = inl u
 io_weaker P Q (Memory m) f (inr i) = inr i
 
--- a read that fails
+-- a read that fails is a final fault, met behind as many bytes as are unread
 pub read_more_fails : {A : Type 0} (s v : InputState) (e : Bool) (o : Option Ahead) (unread : List ℕ) (a : Ahead) (x : Error A) → e ≡ false → length unread ≡ s.unread → IsTold (left_of e o unread) a → ((b : Ahead) → IsTold o b → IsMemory x ⊎ IsIoOf (FaultIsNext b) x) → IsFinal a s (λ bytes. length bytes ≡ s.unread) x v
 read_more_fails s v e o unread a x h n told once =
     let b = told_next e o unread a h told in
@@ -161,7 +161,7 @@ left_at true after a b unread some later bytes fault cut left ends =
 left_at false after a b unread some later bytes fault cut left ends =
     ap (λ o. left_of false o (unread ++ some)) left ∙ same_ahead a ((unread ++ some) ++ later) b.fault (append_assoc unread some later ∙ ap (λ l. unread ++ l) (sym cut) ∙ sym bytes) (sym fault)
 
--- a read that gives something, or the end
+-- a read that gives something, or the end, leaves what is told as it was, and fits the bytes that are left
 pub read_more_gives : (s t : InputState) (e at_end : Bool) (o after : Option Ahead) (old new : List ℕ) (a : Ahead) →
     e ≡ false → s.at_end ≡ e → t.at_end ≡ at_end → length old ≡ s.unread → t.unread ≡ length new →
     s.reads ≡ t.reads + 1 → t.left ≡ left_of at_end after new → IsTold (left_of e o old) a →
@@ -261,7 +261,7 @@ reading_ends a s t line r zero ended all =
 reading_told : (a : Ahead) (s t : InputState) (line : List ℕ) → IsTold s.left a → (r : Reading a s line t) → IsTold t.left (ahead_of r.left a.fault)
 reading_told a s t line told r = (r.is_left, told.1)
 
--- the reads of one step after another
+-- reads that fit the bytes of one step, and reads that fit those of the next, fit those of both
 pub fits_more : (a b d : Ahead) (s t v : InputState) → ReadsFit a s b t → ReadsFit b t d v → ReadsFit a s d v
 fits_more a b d s t v f g = omega (arith, f, g)
 
@@ -290,7 +290,7 @@ fault_before a b s t v P Q used x joins fault fits weaker (inr (kind, met)) =
       },
     )
 
--- so of a final fault
+-- a final fault after some bytes were used is one of all bytes, where P of those after them makes Q of all
 pub final_before : {A : Type 0} (a b : Ahead) (s t v : InputState) (P Q : List ℕ → Type 0) (used : List ℕ) (e : Error A) → a.bytes ≡ used ++ b.bytes → a.fault ≡ b.fault → ReadsFit a s b t →
     ((kind : ErrorKind) (front later : List ℕ) → b.bytes ≡ front ++ later → (b.fault ≡ Some kind) ⊎ (t.reads + t.unread + end_reads t.at_end ≤ length front) → P front → Q (used ++ front)) → IsFinal b t P e v → IsFinal a s Q e v
 final_before a b s t v P Q used e joins fault fits weaker fails =
@@ -304,7 +304,7 @@ reading_fails a s t v line e told r zero fails =
     (λ kind front later cut why none. ap no_line_feed (ap (λ l. line ++ l) (nil_of front (none ∙ zero)) ∙ append-nil line) ∙ r.none)
     (fails b (reading_told a s t line told r))
 
--- a piece of a line that is used
+-- where a piece of a line is used up, the line moves on by it
 pub moves_line : (a : Ahead) (s t : InputState) (piece : List ℕ) (whole : Bool) → s.left ≡ Some a →
     IsLinePiece s piece whole → t ≡ used_up (length piece) s → MovesLine a s whole t
 moves_line a s t piece whole left is after =
@@ -326,7 +326,7 @@ moves_line a s t piece whole left is after =
     lines true whole = whole
     lines false is_all = (is_all.0, let n = is_all.1 in let u = ap (λ v. v.unread) after in omega (arith, n, u))
 
--- the bytes that were read decide whether a mark stands there
+-- whether two codes are the same is tested alike in either order
 same_test : (b c : ℕ) → (b == c) ≡ (c == b)
 same_test b c = grind (arith, nat_tests)
 
@@ -365,7 +365,7 @@ mark_long (b ∷ []) h = let f = and_right (0xEF == b) false h in cc
 mark_long (b ∷ c ∷ []) h = let f = and_right (0xBB == c) false (and_right (0xEF == b) ((0xBB == c) && false) h) in cc
 mark_long (b ∷ c ∷ d ∷ bytes) h = omega arith
 
--- the mark is dropped where it stands
+-- once a mark is decided and dropped where it stands, the bytes without a mark are left
 pub deciding_done : (a : Ahead) (s t v : InputState) (is_mark : Bool) → t.left ≡ Some a → ReadsFit a s a t → IsAllRead a t.unread ⊎ (begins_mark (take t.unread a.bytes) ≡ false) → is_mark ≡ starts_with nat_eq (take t.unread a.bytes) byte_order_mark → (is_mark ≡ true → 3 ≤ t.unread) → v ≡ cond is_mark (used_up 3 t) t →
     (v.left ≡ Some (ahead_of (without_mark a.bytes) a.fault)) × ReadsFit a s (ahead_of (without_mark a.bytes) a.fault) v
 deciding_done a s t v is_mark left fits decided test long after = at is_mark (starts_with nat_eq a.bytes byte_order_mark) (mark_test t.unread a decided ∙ sym test) refl long after
@@ -386,7 +386,7 @@ deciding_done a s t v is_mark left fits decided test long after = at is_mark (st
     at true false e is wide now = cc
     at false true e is wide now = cc
 
--- the first line of the unread bytes, or all of them
+-- a whole line at the front of the unread bytes is a piece of a line that is whole
 pub piece_whole : (s : InputState) (unread : List ℕ) (n : ℕ) → length unread ≡ s.unread →
     ((a : Ahead) → s.left ≡ Some a → unread ≡ take s.unread a.bytes) → n ≤ length unread →
     is_whole_line (take n unread) ≡ true → IsLinePiece s (take n unread) true
@@ -408,7 +408,7 @@ piece_open s unread len told none = record {
   told = λ a left. told a left ∙ ap (λ k. take k a.bytes) (sym len);
 }
 
--- a fault before any byte, where none is unread
+-- where no byte is unread, a final fault of a read comes before any byte
 pub waiting_fails : {A : Type 0} (a : Ahead) (s t v : InputState) (e : Error A) → ReadsFit a s a t → t.unread ≡ 0 →
     IsFinal a t (λ bytes. length bytes ≡ t.unread) e v → IsFinal a s (λ bytes. bytes ≡ []) e v
 waiting_fails a s t v e fits zero fails =

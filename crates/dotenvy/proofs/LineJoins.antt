@@ -42,7 +42,7 @@ use Rattle.dotenvy.proofs.Inputs.{ahead_of, fits_more, final_before}
 abbrev Lines : Type 0
 Lines = List (Option (List ℕ))
 
--- bytes up to their last line feed
+-- up to their last line feed, a line with its line feed and more bytes are that line and what those have
 up_to_whole : (line left : List ℕ) → is_whole_line line ≡ true → up_to_last_line_feed (line ++ left) ≡ line ++ up_to_last_line_feed left
 up_to_whole [] left h = let f : false ≡ true = h in cc
 up_to_whole (c ∷ []) left h = ap (λ b. cond b (c ∷ up_to_last_line_feed left) (before_some c (up_to_last_line_feed left))) h
@@ -105,7 +105,7 @@ parts b t v line some k = at k.is_line
           ends = inl (fault, empty, at_last);
         }
 
--- nothing was left
+-- where a line of no bytes was taken, no byte and no fault was left, and the end was read
 none_parts : (b : Ahead) (t v : InputState) → (k : TakesLine b t [] v) → (b.bytes ≡ []) × (k.left ≡ []) × (b.fault ≡ None) × (v.at_end ≡ true)
 none_parts b t v k = at k.is_line
   where
@@ -152,7 +152,7 @@ joining_start a s told = record {
   reads = omega arith;
 }
 
--- where nothing is in the line buffer
+-- where nothing is in the line buffer, no text was taken, and the walk is outside
 pub joining_empty : (a : Ahead) (s : InputState) (text : List ℕ) → text ≡ [] → IsTold s.left a →
     Joining a s (chars text) Outside s
 joining_empty a s text empty told =
@@ -196,7 +196,7 @@ concat_more taken t = concat-append taken (t ∷ []) ∙ ap (λ x. concat taken 
 length_more : (taken : List (List ℕ)) (t : List ℕ) → length (taken ++ t ∷ []) ≡ suc (length taken)
 length_more taken t = omega (arith, length-append taken (t ∷ []))
 
--- one more line that is a text
+-- one more line, a text or a broken one, stands next behind the texts taken, and those behind it are left
 record Next (a : Ahead) (taken : List (List ℕ)) (line left : List ℕ) (v : InputState) : Type 0 where
   rest : physical_lines left ≡ drop (suc (length taken)) (physical_lines a.bytes)
   lines : whole_lines a ≡ map Some taken ++ line_text line ∷ whole_lines (ahead_of left a.fault)
@@ -216,7 +216,7 @@ some_after : (xs : Lines) (y : Option (List ℕ)) (ys : Lines) → xs ++ y ∷ y
 some_after [] y ys h = cc
 some_after (x ∷ xs) y ys h = cc
 
--- the first line is no comment
+-- where the first text, of those taken or else the next one, is no comment, no comment is skipped
 not_skipped : (all : Lines) (taken : List (List ℕ)) (text : List ℕ) (ls : Lines) → all ≡ map Some taken ++ Some text ∷ ls → (taken ≢ [] → ¬ (IsSkipped all)) → (taken ≡ [] → begins_with hash (skip_leading_whitespace text) ≡ false) → ¬ (IsSkipped all)
 not_skipped all [] text ls e shown comment = λ h. let k : begins_with hash (skip_leading_whitespace text) ≡ true = subst IsSkipped e h in let f : true ≡ false = sym k ∙ comment refl in cc
 not_skipped all (t ∷ taken) text ls e shown comment = shown (λ h. cc)
@@ -231,7 +231,7 @@ second_nil : (xs ys : List ℕ) → xs ++ ys ≡ [] → ys ≡ []
 second_nil [] ys h = h
 second_nil (x ∷ xs) ys h = cc
 
--- the line as a text among all lines
+-- one more line in UTF-8 stands as one line behind the texts taken, and those behind it are left
 record Among (a : Ahead) (seen : List ℕ) (taken : List (List ℕ)) (line left : List ℕ) (v : InputState) : Type 0 where
   rest : physical_lines left ≡ drop (suc (length taken)) (physical_lines a.bytes)
   lines : whole_lines a ≡ map Some taken ++ Some (chars line) ∷ whole_lines (ahead_of left a.fault)
@@ -259,7 +259,7 @@ nothing_left (c ∷ line) left some h = cc
 lines_first : (line more : List ℕ) → is_whole_line line ≡ true → lines_so_far (line ++ more) ≡ line_text line ∷ lines_so_far more
 lines_first line more w = ap line_texts (up_to_whole line more w) ∙ ap (map line_text) (whole_line line (up_to_last_line_feed more) w)
 
--- one more whole line
+-- whole lines, and one more line in UTF-8 with its line feed, are whole lines with its text behind theirs
 more_whole : (used line : List ℕ) (taken : List (List ℕ)) (seen : List ℕ) → IsUtf8 line → is_whole_line line ≡ true → AreWhole used taken seen → AreWhole (used ++ line) (taken ++ chars line ∷ []) (seen ++ chars line)
 more_whole used line taken seen u w h = record {
   ends = inr (ends_join seen (chars line) (whole_ends (chars line) (whole_chars line (is_utf8-from_IsUtf8 line u) w)));
@@ -268,7 +268,7 @@ more_whole used line taken seen u w h = record {
       ∙ one_more taken (chars line) (lines_so_far more);
 }
 
--- before a line the end was not read
+-- where one more line of some bytes was taken, the bytes used before it are whole lines with the texts taken
 whole_so_far : (a : Ahead) (s t v : InputState) (seen line : List ℕ) (m : LineMode) → line ≢ [] → (j : Joining a s seen m t) → TakesLine (ahead_of j.left a.fault) t line v → AreWhole j.used j.taken seen
 whole_so_far a s t v seen line m some j k = elim j.ends [ inl f ↦ absurd (nothing_left line k.left some (sym k.joins ∙ f.1)) | inr h ↦ h ]
 
@@ -292,7 +292,7 @@ skipped_before_broken : (taken : List (List ℕ)) (ls ms : Lines) → IsSkipped 
 skipped_before_broken [] ls ms h = h
 skipped_before_broken (t ∷ taken) ls ms h = h
 
--- whole lines stay what they are, whatever follows them
+-- where bytes are whole lines that make a logical line, they make it whatever follows the bytes
 text_always : (bytes : List ℕ) (taken : List (List ℕ)) (text : List ℕ) (ls : Lines) → taken ≢ [] → ((more : List ℕ) → lines_so_far (bytes ++ more) ≡ map Some taken ++ lines_so_far more) → ¬ (IsSkipped (map Some taken ++ ls)) → ((last : Type 0) → IsWhole (concat taken) text last) → IsNextAlways bytes (length taken) (Text text)
 text_always bytes taken text ls some lines shown whole = λ more.
     let e = lines more in
@@ -319,7 +319,7 @@ broken_always bytes taken m ls lines shown goes = λ more.
       ap (drop (suc (length taken))) e ∙ left_after_broken taken ms,
     )
 
--- a line that goes on
+-- a line after which the walk goes on is one more text taken, and the walk goes on from its new mode
 pub joining_goes : (a : Ahead) (s t v : InputState) (seen line : List ℕ) (m n : LineMode) → line ≢ [] → IsUtf8 line → (seen ≡ [] → begins_with hash (skip_leading_whitespace (chars line)) ≡ false) → walk m seen (chars line) ≡ going n → (j : Joining a s seen m t) → TakesLine (record { bytes = j.left; fault = a.fault }) t line v → Joining a s (seen ++ chars line) n v
 joining_goes a s t v seen line m n some u comment walks j k =
     let p = among a s t v seen line m some u j k in record {
@@ -338,7 +338,7 @@ joining_goes a s t v seen line m n some u comment walks j k =
       reads = fits_more a (ahead_of j.left a.fault) (ahead_of k.left a.fault) s t v j.reads k.reads;
     }
 
--- a line that ends the logical line
+-- where a line ends the logical line, that is taken as the next one, with the text that is kept
 pub joining_ends : (a : Ahead) (s t v : InputState) (seen line text : List ℕ) (m : LineMode) → line ≢ [] → IsUtf8 line → (seen ≡ [] → begins_with hash (skip_leading_whitespace (chars line)) ≡ false) → walk m seen (chars line) ≡ ended text → (j : Joining a s seen m t) → TakesLine (record { bytes = j.left; fault = a.fault }) t line v → TakesNext a s (Text text) v
 joining_ends a s t v seen line text m some u comment walks j k =
     let p = among a s t v seen line m some u j k in
@@ -369,7 +369,7 @@ joining_ends a s t v seen line text m some u comment walks j k =
       reads = fits_more a (ahead_of j.left a.fault) (ahead_of k.left a.fault) s t v j.reads k.reads;
     }
 
--- a first line that is a comment
+-- where the first line is a comment, it is taken as the next logical line, and skipped
 pub joining_skips : (a : Ahead) (s t v : InputState) (seen line : List ℕ) (m : LineMode) → line ≢ [] → IsUtf8 line → seen ≡ [] → begins_with hash (skip_leading_whitespace (chars line)) ≡ true → (j : Joining a s seen m t) → TakesLine (record { bytes = j.left; fault = a.fault }) t line v → TakesNext a s Skip v
 joining_skips a s t v seen line m some u empty comment j k =
     let p = among a s t v seen line m some u j k in
@@ -395,7 +395,7 @@ joining_skips a s t v seen line m some u empty comment j k =
       reads = fits_more a (ahead_of j.left a.fault) (ahead_of k.left a.fault) s t v j.reads k.reads;
     }
 
--- a line that is broken
+-- where a line isn't UTF-8, the next logical line that is taken is broken
 pub joining_breaks : (a : Ahead) (s t v : InputState) (seen line : List ℕ) (m : LineMode) → line ≢ [] → ¬ (IsUtf8 line) → (j : Joining a s seen m t) → TakesLine (record { bytes = j.left; fault = a.fault }) t line v → TakesNext a s Broken v
 joining_breaks a s t v seen line m some broken j k =
     let n = next_of a s t v seen line m some j k in
@@ -428,7 +428,7 @@ joining_breaks a s t v seen line m some broken j k =
 all_taken : (a : Ahead) (s t : InputState) (seen : List ℕ) (m : LineMode) (j : Joining a s seen m t) → whole_lines (ahead_of j.left a.fault) ≡ [] → whole_lines a ≡ map Some j.taken
 all_taken a s t seen m j none = j.lines ∙ ap (λ ls. map Some j.taken ++ ls) none ∙ append-nil (map Some j.taken)
 
--- nothing was begun, and nothing is left
+-- where nothing was begun and a line of no bytes was taken, no bytes and no fault were told
 pub joining_nothing : (a : Ahead) (s t v : InputState) (seen : List ℕ) (m : LineMode) → seen ≡ [] → (j : Joining a s seen m t) → TakesLine (record { bytes = j.left; fault = a.fault }) t [] v → (a.bytes ≡ []) × (a.fault ≡ None)
 joining_nothing a s t v seen m empty j k =
     let n = none_parts (ahead_of j.left a.fault) t v k in (
@@ -436,7 +436,7 @@ joining_nothing a s t v seen m empty j k =
       n.2,
     )
 
--- the end of input after what was begun
+-- where the end of input follows what was begun, the logical line that it makes of the mode is taken
 joining_end : (a : Ahead) (s t v : InputState) (seen : List ℕ) (m : LineMode) → seen ≢ [] → (j : Joining a s seen m t) → TakesLine (record { bytes = j.left; fault = a.fault }) t [] v → TakesNext a s (at_input_end m seen) v
 joining_end a s t v seen m begun j k =
     let n = none_parts (ahead_of j.left a.fault) t v k in
@@ -483,7 +483,7 @@ not_outside seen m g ends is = read (subst (Read scans.outside seen) (reads_all 
     read : Reads seen seen input_end [] → ⊥
     read r = let e : true ≡ false = sym ends ∙ ap ends_line r.front_is ∙ tokens_end r.tokens [] r.are in cc
 
--- bytes before a fault, of which those after the lines that were taken have no line feed
+-- whole lines that go on, and then bytes without a line feed, decide no logical line
 undecided : (seen : List ℕ) (m : LineMode) (used front : List ℕ) (taken : List (List ℕ)) → seen ≡ concat taken → IsGoing seen m → (taken ≢ [] → ¬ (IsSkipped (map Some taken))) → AreWhole used taken seen → no_line_feed front ≡ true → IsUndecided (used ++ front)
 undecided seen m used front taken joined is_going shown whole none count next some is = at whole.ends
   where
@@ -530,7 +530,7 @@ joining_fails a s t v seen m e j fails =
 pub begun_chars : (text : List ℕ) → IsUtf8 text → text ≢ [] → chars text ≢ []
 begun_chars text u some h = some (sym (encodes-chars text u) ∙ ap encode_utf8_all h)
 
--- the end of input
+-- at the end of input, what was joined is what that makes of the text and of the mode reached
 pub joining_finish : (a : Ahead) (s t v : InputState) (text : List ℕ) (m : LineMode) → IsUtf8 text →
     (j : Joining a s (chars text) m t) → TakesLine (record { bytes = j.left; fault = a.fault }) t [] v →
     TakesJoined a s (joined_at_end text m) text v
@@ -538,7 +538,7 @@ joining_finish a s t v [] m u j k = joining_nothing a s t v (chars []) m chars-n
 joining_finish a s t v (b ∷ text) m u j k =
     joining_begun a s t v (b ∷ text) m (begun_chars (b ∷ text) u (λ h. cc)) (sym (ap length (encodes-chars (b ∷ text) u))) j k
 
--- a wait for more bytes, of which nothing is used
+-- a wait for more bytes, of which none is used, leaves the texts that were taken as they are
 pub joining_waits : (a : Ahead) (s t v : InputState) (seen : List ℕ) (m : LineMode) → (j : Joining a s seen m t) →
     (t.at_end ≡ true → v ≡ t) → (v.left ≡ Some (record { bytes = j.left; fault = a.fault })) →
     ReadsFit (ahead_of j.left a.fault) t (ahead_of j.left a.fault) v → Joining a s seen m v
@@ -568,7 +568,7 @@ none-feeds a s v e fails =
     final_before a a s s v (λ bytes. bytes ≡ []) (λ bytes. no_line_feed bytes ≡ true) [] e refl refl (omega arith)
     (λ kind front later cut why none. ap no_line_feed none) fails
 
--- nothing is left, as a line of no bytes
+-- where nothing is left and the end was read, a line of no bytes is taken
 pub line-of-none : (b : Ahead) (s t : InputState) → t.left ≡ Some b → ReadsFit b s b t → b.bytes ≡ [] → b.fault ≡ None →
     t.at_end ≡ true → TakesLine b s [] t
 line-of-none b s t left fits empty none at_last = record {
@@ -588,7 +588,7 @@ goes_on : (t : InputState) (stage : Stage) (used_up : Bool) (left : List ℕ) (f
 goes_on t stage true left fault e is all = inr (e, left_at_end t left fault is (λ b h. all b h refl))
 goes_on t stage false left fault e is all = inl e
 
--- what was joined, as an outcome
+-- the outcome of what was joined, with the stage behind it, is an answer of `advance`
 pub advanced : {A : Type 0} (a : Ahead) (s t : InputState) (joined : Joined) (text : List ℕ) (r : Option (Result (Unit {0}) (Error A))) (stage : Stage) (used_up : Bool) →
     TakesJoined a s joined text t → IsOutcome joined text r → stage ≡ stage_after joined used_up (is_refused r) →
     ((b : Ahead) → t.left ≡ Some b → used_up ≡ true → (b.bytes ≡ []) × (b.fault ≡ None)) →
@@ -629,7 +629,7 @@ copied a s u line text t (inl (inl (empty, k), goes)) same = inl (inl (same ∙ 
 copied a s u line text t (inl (inr k, goes)) same = inl (inr (subst (λ l. TakesNext a s (Text (chars l)) t.input) (sym same) k), goes)
 copied a s u line text t (inr fails) same = absurd fails
 
--- and its fault is that of the line
+-- a fault that `advance` answers is that of the next line
 pub fault-stays : {A : Type 0} (a : Ahead) (s : InputState) (e : Error A) (line : List ℕ) (t : LinesState) →
     AdvanceIs a s (Some (Err e)) line t → NextIs a s (Some (Err e)) t
 fault-stays a s e line t (inl takes) = inl takes

@@ -99,7 +99,8 @@ rest_breaks piece front rest line later more is cut long same some text =
     is.longest (length front + first.count) (omega (arith, above)) (omega (arith, size, few, long, length-append front rest))
     (subst IsUtf8 (sym (whole ∙ ap (λ l. front ++ l) (sym begins))) (IsUtf8-append front (take first.count line) is.text first.text))
 
--- lines and their fronts
+-- Lines and their fronts.
+-- the front of bytes without a line feed has none
 pub none-front : (xs ys : List ℕ) → no_line_feed (xs ++ ys) ≡ true → no_line_feed xs ≡ true
 none-front [] ys h = refl
 none-front (x ∷ xs) ys h = at (not (x == line_feed)) h (none-front xs ys)
@@ -126,7 +127,7 @@ whole-none (x ∷ y ∷ xs) h k =
     whole-none (y ∷ xs) (and_right (not (x == line_feed)) (is_whole_line (y ∷ xs)) h)
     (and_right (not (x == line_feed)) (no_line_feed (y ∷ xs)) k)
 
--- a whole line cut before its end
+-- the front of a whole line that is cut before its end has no line feed
 pub whole-front : (xs ys : List ℕ) → ys ≢ [] → is_whole_line (xs ++ ys) ≡ true → no_line_feed xs ≡ true
 whole-front [] ys some h = refl
 whole-front (x ∷ xs) [] some h = absurd (some refl)
@@ -210,7 +211,7 @@ record Split (a : Ahead) (s : InputState) (piece front rest more : List ℕ) : T
   all : a.bytes ≡ front ++ (rest ++ more)
   text : IsTextFront piece front
 
--- what is left of the piece is no text, nor is a line that it makes
+-- what is left of a piece behind its longest front that is text is no text
 whole_breaks : (a : Ahead) (s : InputState) (piece front rest more : List ℕ) → Split a s piece front rest more → rest ≢ [] →
     ¬ (IsUtf8 rest)
 whole_breaks a s piece front rest more p some text =
@@ -219,7 +220,7 @@ whole_breaks a s piece front rest more p some text =
     p.text.longest (length piece) (omega (arith, size, more_than, length-append front rest)) (omega arith)
     (subst IsUtf8 (sym (take_all (length piece) piece (omega arith))) (subst IsUtf8 (sym p.cut) (IsUtf8-append front rest p.text.text text)))
 
--- more of the line has to be read
+-- of a piece without a line feed that is all that is unread, neither the text nor what is unread then has one
 unread_line : (a : Ahead) (s t : InputState) (piece front rest more : List ℕ) → Split a s piece front rest more →
     t.unread + length front ≡ s.unread → (no_line_feed piece ≡ true) × (length piece ≡ s.unread) →
     (no_line_feed front ≡ true) × (no_line_feed (take t.unread (rest ++ more)) ≡ true)
@@ -231,7 +232,7 @@ unread_line a s t piece front rest more p unread (none, fits) =
           ∙ none-back front rest (ap no_line_feed (sym p.cut) ∙ none),
     )
 
--- what stands behind the longest front that is text
+-- behind the longest front that is text stands what the tests of the piece and of its rest say
 stands_at : (a : Ahead) (s t : InputState) (piece front rest more : List ℕ) → Split a s piece front rest more →
     t.unread + length front ≡ s.unread → (some w e four : Bool) → nat_le 1 (length rest) ≡ some → nat_le 4 (length rest) ≡ four →
     MatchBool w (is_whole_line piece ≡ true) ((no_line_feed piece ≡ true) × (length piece ≡ s.unread)) →
@@ -292,7 +293,7 @@ stands_at a s t piece front rest more p unread true false false true some few li
 )
 stands_at a s t piece front rest more p unread true false false false some few line all ended = unread_line a s t piece front rest more p unread line
 
--- a piece that was taken as far as it is text
+-- with its text used up, a piece was taken as far as it is text, and what stands behind that is told
 pub piece-taken : (a : Ahead) (s t : InputState) (piece front : List ℕ) (whole at_end : Bool) → s.left ≡ Some a →
     IsLinePiece s piece whole → IsTextFront piece front → (at_end ≡ true → IsAllRead a s.unread) → s.at_end ≡ at_end →
     t ≡ used_up (length front) s → TakesPiece a s front (after_text (length piece - length front) whole at_end) t
@@ -322,7 +323,7 @@ piece-taken a s t piece front whole at_end left is text all ended after =
           is.is_line all (ap (λ v. v.at_end) after ∙ ended));
     }
 
--- and what falls by it
+-- with the text of a piece used up, what falls is what falls by what stands behind that text
 pub piece-falls : (s t : InputState) (piece front : List ℕ) (whole at_end : Bool) → IsLinePiece s piece whole →
     IsTextFront piece front → s.at_end ≡ at_end → t ≡ used_up (length front) s →
     PieceFalls s (after_text (length piece - length front) whole at_end) t

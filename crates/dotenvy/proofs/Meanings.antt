@@ -18,7 +18,7 @@ use Rattle.dotenvy.specs.NextPiece.{IsReadTo}
 use Rattle.dotenvy.specs.Names.{names_of, saturated, Measures, HasRoom}
 use Rattle.dotenvy.proofs.Values.{given-given}
 
--- the meaning of pieces and more
+-- two rows of pieces mean what the first means, and then what the second means
 pub meaning-append : (look : LookUp) (p q : List Piece) → meaning look (p ++ q) ≡ meaning look p ++ meaning look q
 meaning-append look [] q = refl
 meaning-append look (Text text ∷ p) q = ap (λ t. text ++ t) (meaning-append look p q) ∙ sym (append_assoc text (meaning look p) (meaning look q))
@@ -33,16 +33,16 @@ looked_up names remembered name text u v h = at (fin.get names name) (recalled r
     at None (Some x) e = sym (encodes-chars text v) ∙ ap (λ t. encode_utf8_all (chars t)) e
     at None None e = e
 
--- what a reference is to, or a default
+-- what a reference that was found, or else a default, stands for is the text found, or else the default's
 pub unwrap_or-now : (found : Option (Bor (List ℕ))) (default : Bor (List ℕ)) → (unwrap_or found default).now ≡ unwrap_or (option_copied found) default.now
 unwrap_or-now None default = refl
 unwrap_or-now (Some x) default = refl
 
--- the first of two look-ups, where it has the name
+-- where the first of two look-ups has the name, what it found is what both find
 pub found_first : (a b : Option (List ℕ)) (found : Option (Bor (List ℕ))) (x : Bor (List ℕ)) → found ≡ Some x → Some x.now ≡ a → option_copied found ≡ option_or a b
 found_first a b found x h k = ap option_copied h ∙ k ∙ sym (ap (λ o. option_or o b) (sym k) ∙ k)
 
--- the second of two look-ups, where the first lacks the name
+-- where the first of two look-ups lacks the name, what the second found is what both find
 pub found_second : (a b : Option (List ℕ)) (found : Option (Bor (List ℕ))) → None ≡ a → option_copied found ≡ b → option_copied found ≡ option_or a b
 found_second a b found h k = k ∙ ap (λ o. option_or o b) h
 
@@ -58,7 +58,7 @@ one_more look_up p q = ap encode_utf8_all (meaning-append look_up p q) ∙ encod
 saturated-add : (a b : ℕ) → min (min a (2 ^ 64 - 1) + min b (2 ^ 64 - 1)) (2 ^ 64 - 1) ≡ min (a + b) (2 ^ 64 - 1)
 saturated-add a b = omega arith
 
--- and its length to the count
+-- a count of what pieces mean, with the bytes of more pieces added, is that of all of them, saturated
 pub counted : (look_up : LookUp) (p q : List Piece) (len more : ℕ) (bytes : List ℕ) → len ≡ saturated (byte_len (meaning look_up p)) → more ≡ saturated (length bytes) → bytes ≡ encode_utf8_all (meaning look_up q) → min (len + more) (2 ^ 64 - 1) ≡ saturated (byte_len (meaning look_up (p ++ q)))
 counted look_up p q len more bytes h k e =
     ap (λ n. min (n + more) (2 ^ 64 - 1)) h

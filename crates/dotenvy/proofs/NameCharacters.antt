@@ -33,7 +33,7 @@ unfolding is_name_character ucd_derived ucd_category
 space_no_name V15 = refl
 space_no_name Next = refl
 
--- each ASCII letter and digit
+-- the test that a character is a name character of the dialect, if it passes as an ASCII one
 named : Dialect → ℕ → Bool
 named dialect c = not (is_name_byte dialect c) || is_name_character dialect c
 

@@ -28,7 +28,7 @@ use Rattle.dotenvy.proofs.NameCharacters.{brace_no_name}
 use Rattle.dotenvy.proofs.Slices.{IsCut, no_characters}
 use Rattle.dotenvy.proofs.ValuePlaces.{from-goes, after, given-nil}
 
--- one character
+-- a character that leads to a mode is read to there, and gives the pieces of its step
 pub one : (dialect : Dialect) (m n : Mode) (c : ℕ) (cs : List ℕ) (pieces : List Piece) → goes dialect m c ≡ Some (n, pieces) → IsReadTo dialect m (c ∷ cs) pieces n cs
 one dialect m n c cs pieces h = record {
   front = c ∷ [];
@@ -37,7 +37,7 @@ one dialect m n c cs pieces h = record {
   counts = ap (λ g. place_after g (λ k. place dialect cs k)) h ∙ omega arith;
 }
 
--- a character that no value goes on with
+-- at a character that no value goes on with, reading stops, and that character and the others are left
 pub stop : (dialect : Dialect) (m : Mode) (c : ℕ) (cs : List ℕ) → goes dialect m c ≡ None → StopsAt dialect m (c ∷ cs) (c ∷ cs)
 stop dialect m c cs h = record {
   front = [];
@@ -46,11 +46,11 @@ stop dialect m c cs h = record {
   counts = ap (λ g. place_after g (λ k. place dialect cs k)) h;
 }
 
--- nothing read yet
+-- where nothing was read yet, the mode stays, no piece is given, and the whole text is left
 pub none_read : (dialect : Dialect) (m : Mode) (text : List ℕ) → IsReadTo dialect m text [] m text
 none_read dialect m text = record { front = []; spelled = refl; reads = given-nil (read dialect text m); counts = omega arith }
 
--- one after another
+-- what is read to one mode, and then on to another, is read to that one, and gives the pieces of both
 pub read_on : (dialect : Dialect) (m n k : Mode) (text left rest : List ℕ) (p q : List Piece) → IsReadTo dialect m text p n left → IsReadTo dialect n left q k rest → IsReadTo dialect m text (p ++ q) k rest
 read_on dialect m n k text left rest p q a b = record {
   front = a.front ++ b.front;
@@ -59,7 +59,7 @@ read_on dialect m n k text left rest p q a b = record {
   counts = a.counts ∙ ap (λ n. length a.front + n) b.counts ∙ omega (arith, length-append a.front b.front);
 }
 
--- a fault after what was read
+-- where reading stops behind what was read, it stops there from the start
 pub stop_after : (dialect : Dialect) (m n : Mode) (text left rest : List ℕ) (p : List Piece) → IsReadTo dialect m text p n left → StopsAt dialect n left rest → StopsAt dialect m text rest
 stop_after dialect m n text left rest p a b = record {
   front = a.front ++ b.front;
@@ -68,7 +68,7 @@ stop_after dialect m n text left rest p a b = record {
   counts = a.counts ∙ ap (λ n. length a.front + n) b.counts ∙ omega (arith, length-append a.front b.front);
 }
 
--- what comes next after characters that complete no piece
+-- behind characters that complete no piece, what comes next is what comes next from before them
 pub next_after : (dialect : Dialect) (m n : Mode) (text left : List ℕ) (result : NextPiece) → IsReadTo dialect m text [] n left → NextIs dialect n left result → NextIs dialect m text result
 next_after dialect m n text left End a h = a.reads ∙ ap (given []) h
 next_after dialect m n text left (GivesNext next) a h = record { pieces = h.pieces; is_read = read_on dialect m n (base (quoting_of next.quoting)) text left (chars next.rest.now) [] h.pieces a h.is_read; follows = h.follows; means = h.means }
@@ -84,7 +84,7 @@ shorter_after dialect m c cs End h = tt
 shorter_after dialect m c cs (GivesNext next) h = subst (λ t. length (chars next.rest.now) < length (c ∷ t)) (sym h.is_read.spelled) (longer h.is_read.front (chars next.rest.now) c)
 shorter_after dialect m c cs (Fault left) h = tt
 
--- a run of characters, each of which the mode collects
+-- a run of characters, each of which the mode collects, is collected, and gives no piece yet
 pub run : (dialect : Dialect) (mode : List ℕ → Mode) (passes : ℕ → Bool) → ((held : List ℕ) (c : ℕ) → passes c ≡ true → goes dialect (mode held) c ≡ Some (mode (held ++ c ∷ []), [])) → (held front rest : List ℕ) → list_all passes front ≡ true → IsReadTo dialect (mode held) (front ++ rest) [] (mode (held ++ front)) rest
 run dialect mode passes step held [] rest h = subst (λ t. IsReadTo dialect (mode held) rest [] (mode t) rest) (sym (append-nil held)) (none_read dialect (mode held) rest)
 run dialect mode passes step held (c ∷ front) rest h =
@@ -124,11 +124,12 @@ kind_goes DoubleQuoted c = at (c == backslash) (c == double_quote) (c == dollar)
 pub goes_as : (dialect : Dialect) (q : CodeQuoting) (c : ℕ) (kind : Kind) → kind ≡ kind_of q c → goes dialect (base (quoting_of q)) c ≡ goes_kind kind (quoting_of q) c
 goes_as dialect q c kind h = kind_goes q c ∙ ap (λ k. goes_kind k (quoting_of q) c) (sym h)
 
--- the bytes of a text that stands for itself
+-- the bytes of a text are those of its meaning, as a piece that stands for itself
 pub text_bytes : (look_up : LookUp) (text : List ℕ) → IsUtf8 text → text ≡ encode_utf8_all (meaning look_up (Text (chars text) ∷ []))
 text_bytes look_up text u = sym (ap encode_utf8_all (append-nil (chars text)) ∙ encodes-chars text u)
 
--- a single-quoted text, and one that lacks its end
+-- A single-quoted text, and one that lacks its end.
+-- in single quotes, a character other than the quote is collected, and gives no piece yet
 collects_single : (dialect : Dialect) (held : List ℕ) (c : ℕ) → not (c == single_quote) ≡ true → goes dialect (in_single held) c ≡ Some (in_single (held ++ c ∷ []), [])
 collects_single dialect held c h = when_false _ _ (c == single_quote) (not_is (c == single_quote) h)
 
@@ -149,7 +150,8 @@ gives_single dialect text front rest cut = record {
   means = λ look_up. text_bytes look_up front.now cut.front_utf8;
 }
 
--- a braced name, and one that lacks its end
+-- A braced name, and one that lacks its end.
+-- in braces, a character other than `}` is collected into the name, and gives no piece yet
 collects_braced : (dialect : Dialect) (q : Quoting) (held : List ℕ) (c : ℕ) → not (c == right_brace) ≡ true → goes dialect (bracing q held) c ≡ Some (bracing q (held ++ c ∷ []), [])
 collects_braced dialect q held c h = when_false _ _ (c == right_brace) (not_is (c == right_brace) h)
 
@@ -161,7 +163,8 @@ braced_read dialect q name rest h = read_on dialect (bracing q []) (bracing q na
 pub braced_open : (dialect : Dialect) (q : Quoting) (name : List ℕ) → list_all (λ c. not (c == right_brace)) name ≡ true → StopsAt dialect (bracing q []) name []
 braced_open dialect q name h = subst (λ t. StopsAt dialect (bracing q []) t []) (append-nil name) (stop_after dialect (bracing q []) (bracing q name) (name ++ []) [] [] [] (run dialect (bracing q) (λ c. not (c == right_brace)) (collects_braced dialect q) [] name [] h) (record { front = []; spelled = refl; reads = refl; counts = refl }))
 
--- the bytes of what a name stands for, and of a character after it
+-- The bytes of what a name stands for, and of a character after it.
+-- the bytes of what a name stands for, with none behind them, are those of the name's meaning
 name_bytes : (look_up : LookUp) (name follows : List ℕ) → follows ≡ [] → encode_utf8_all (unwrap_or (look_up name) []) ++ follows ≡ encode_utf8_all (meaning look_up (Name name ∷ []))
 name_bytes look_up name follows h = ap (λ t. encode_utf8_all (unwrap_or (look_up name) []) ++ t) h ∙ append-nil (encode_utf8_all (unwrap_or (look_up name) [])) ∙ ap encode_utf8_all (sym (append-nil (unwrap_or (look_up name) [])))
 
@@ -178,7 +181,7 @@ gives_braced dialect q text name follows rest cut none = record {
   means = λ look_up. name_bytes look_up (chars name.now) follows.now none;
 }
 
--- an escape
+-- behind a backslash, an escape gives what it means, and a part may begin behind it
 pub gives_escape : (dialect : Dialect) (q : CodeQuoting) (text : List ℕ) (c : ℕ) (meant rest : Bor (List ℕ)) → IsUtf8 rest.now → chars text ≡ c ∷ chars rest.now → is_escape c ≡ true → meant.now ≡ encode_utf8_all (escape_meaning c ∷ []) → GivesPiece dialect (escaping (quoting_of q)) (chars text) (record { piece = CodeText meant; rest = rest; quoting = q })
 gives_escape dialect q text c meant rest u e h m = record {
   pieces = Text (escape_meaning c ∷ []) ∷ [];
@@ -199,7 +202,8 @@ escape_ends dialect text e = ap (λ t. read dialect t (escaping unquoted)) (no_c
 pub escape_open : (dialect : Dialect) (text : List ℕ) → text ≡ [] → StopsAt dialect (escaping double_quoted) (chars text) (chars text)
 escape_open dialect text e = subst (λ t. StopsAt dialect (escaping double_quoted) t t) (sym (no_characters text e)) (record { front = []; spelled = refl; reads = refl; counts = refl })
 
--- a space or tab, and what may follow it
+-- A space or tab, and what may follow it.
+-- in a value's tail, a space or tab is passed by, and gives nothing
 collects_blanks : (dialect : Dialect) (held : List ℕ) (c : ℕ) → is_space_or_tab c ≡ true → goes dialect in_tail c ≡ Some (in_tail, [])
 collects_blanks dialect held c h = when_true _ _ (is_space_or_tab c) h
 
@@ -225,7 +229,7 @@ tail_ends dialect text blanks comment is h = (tail_run dialect text blanks comme
 pub tail_fault : (dialect : Dialect) (text blanks comment : List ℕ) → IsSpan is_space_or_tab text blanks comment → is_empty_or_comment comment ≡ false → StopsAt dialect in_tail text comment
 tail_fault dialect text blanks comment is h = stop_after dialect in_tail in_tail text comment comment [] (tail_run dialect text blanks comment is) (tail_stops dialect comment is.longest h)
 
--- characters that mean themselves
+-- the characters of a text, each as a text of its own
 abbrev each_text : List ℕ → List Piece
 each_text [] = []
 each_text (c ∷ cs) = Text (c ∷ []) ∷ each_text cs
@@ -268,7 +272,8 @@ gives_plain dialect q text front rest u v is = record {
   means = λ look_up. sym (ap encode_utf8_all (meaning-each look_up (chars front.now)) ∙ encodes-chars front.now u);
 }
 
--- a bare name, and what stands after it
+-- A bare name, and what stands after it.
+-- outside quotes, a bare name that ends the text gives the name, and nothing is left
 pub name_ends : (dialect : Dialect) (name follows left : Bor (List ℕ)) → IsUtf8 left.now → left.now ≡ [] → follows.now ≡ [] → GivesPiece dialect (naming unquoted (chars name.now)) (chars left.now) (record { piece = CodeName name follows; rest = left; quoting = Unquoted })
 name_ends dialect name follows left u e none = record {
   pieces = Name (chars name.now) ∷ [];
@@ -335,11 +340,11 @@ pub no_brace_after : (dialect : Dialect) (text name rest : List ℕ) → IsSpan 
 no_brace_after dialect text [] rest is h = subst (λ t. not (begins_with left_brace t) ≡ true) is.spelled h
 no_brace_after dialect text (c ∷ name) rest is h = refl
 
--- a brace begins a braced name
+-- behind a dollar, `{` begins a braced name, and gives no piece yet
 pub brace_read : (dialect : Dialect) (q : Quoting) (text cs : List ℕ) → text ≡ left_brace ∷ cs → IsReadTo dialect (naming q []) text [] (bracing q []) cs
 brace_read dialect q text cs e = subst (λ t. IsReadTo dialect (naming q []) t [] (bracing q []) cs) (sym e) (one dialect (naming q []) (bracing q []) left_brace cs [] (when_false _ _ (is_name_character dialect left_brace) (brace_no_name dialect) ∙ when_false _ _ (is_left_by_name dialect q left_brace) (brace_not_left dialect q)))
 
--- double quotes in a row
+-- where a row of double quotes leads: each of them into double quotes or out of them
 pub after_quotes : List ℕ → Quoting → Quoting
 after_quotes [] q = q
 after_quotes (c ∷ cs) q = after_quotes cs (other_quoting q)
@@ -389,7 +394,7 @@ unfolding after_quotes
 after_odd [] q half h = absurd (omega (arith, h))
 after_odd (c ∷ cs) q half h = after_even cs (other_quoting q) half (omega (arith, h))
 
--- an empty text, after double quotes in a row
+-- a row of double quotes gives an empty text, and a part may begin where the row leads
 pub gives_quotes : (dialect : Dialect) (q : Quoting) (to : CodeQuoting) (text : List ℕ)
     (quotes rest nothing : Bor (List ℕ)) → IsUtf8 rest.now
     → IsSpan (λ c. c == double_quote) (chars text) (chars quotes.now) (chars rest.now)
@@ -432,7 +437,7 @@ odd_quotes text quotes rest q u is h =
     let m = ap length (encodes-chars quotes u) in
     after_odd (chars quotes) (other_quoting q) (length quotes / 2) (omega (arith, h, n, m)) ∙ other_twice q
 
--- what the first character begins
+-- a first character that leads to a mode and gives no piece is read to that mode
 pub first_read : (dialect : Dialect) (q : CodeQuoting) (n : Mode) (text cs : List ℕ) (c : ℕ) → text ≡ c ∷ cs → goes dialect (base (quoting_of q)) c ≡ Some (n, []) → IsReadTo dialect (base (quoting_of q)) text [] n cs
 first_read dialect q n text cs c e h = subst (λ t. IsReadTo dialect (base (quoting_of q)) t [] n cs) (sym e) (one dialect (base (quoting_of q)) n c cs [] h)
 

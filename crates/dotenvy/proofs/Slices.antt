@@ -35,7 +35,7 @@ all_pass passes (c ∷ cs) h = both (passes c) (list_all passes cs) (not_not (pa
 pub characters_pass : (passes : ℕ → Bool) (text : List ℕ) → IsUtf8 text → NoCharPasses (λ c. not (passes c)) text → list_all passes (chars text) ≡ true
 characters_pass passes text u h = subst (λ cs. list_all passes cs ≡ true) (chars_from_encodes h.0 text u h.1) (all_pass passes h.0 h.2)
 
--- a text whose every character passes is the front
+-- a text whose every character passes is its own longest front that passes
 pub whole_span : (passes : ℕ → Bool) (text rest : List ℕ) → IsUtf8 text → rest ≡ [] → NoCharPasses (λ c. not (passes c)) text → IsSpan passes (chars text) (chars text) (chars rest)
 whole_span passes text rest u e h = record {
   spelled = sym (append-nil (chars text)) ∙ ap (λ r. chars text ++ r) (sym (no_characters rest e));
@@ -43,7 +43,7 @@ whole_span passes text rest u e h = record {
   longest = subst (λ r. not (begins_passing passes r) ≡ true) (sym (no_characters rest e)) refl;
 }
 
--- the front ends where a character fails
+-- a front whose characters pass, before one that fails, is the longest front that passes
 pub found_span : (passes : ℕ → Bool) (text front rest : List ℕ) (i j : ℕ) → IsUtf8 text → IsCharBoundary text i → front ≡ take i text → rest ≡ drop i text → NoCharPasses (λ c. not (passes c)) (take i text) → HasPassingCharAt (λ c. not (passes c)) text i j → IsSpan passes (chars text) (chars front) (chars rest)
 found_span passes text front rest i j u b f r h p =
     let uf : IsUtf8 front = subst IsUtf8 (sym f) (IsUtf8-take text i u b) in
@@ -61,7 +61,7 @@ none_pass : (passes : ℕ → Bool) (cs : List ℕ) → NonePass passes cs → l
 none_pass passes [] h = refl
 none_pass passes (c ∷ cs) h = both (not (passes c)) (list_all (λ c. not (passes c)) cs) (ap not h.0) (none_pass passes cs h.1)
 
--- no character of the text passes
+-- in a text of which no character passes, each fails
 pub characters_fail : (passes : ℕ → Bool) (text : List ℕ) → IsUtf8 text → NoCharPasses passes text → list_all (λ c. not (passes c)) (chars text) ≡ true
 characters_fail passes text u h = subst (λ cs. list_all (λ c. not (passes c)) cs ≡ true) (chars_from_encodes h.0 text u h.1) (none_pass passes h.0 h.2)
 
@@ -88,7 +88,7 @@ cut_once c text front rest i j u small none at f r =
       rest_utf8 = subst IsUtf8 (sym r) (IsUtf8-past_char (drop i text) (drop j text) c ud at.split);
     }
 
--- a text that does not begin with a character
+-- a text that doesn't begin with a character's bytes doesn't begin with that character
 pub not_first : (c : ℕ) (text : List ℕ) → IsUtf8 text → ((rest : List ℕ) → text ≢ encode_utf8 c ++ rest) → not (begins_with c (chars text)) ≡ true
 not_first c text u h = at (chars text) (encodes-chars text u)
   where

@@ -29,7 +29,7 @@ not_same c d h = grind (arith, nat_tests, h)
 pub same : (c d : ℕ) → c ≡ d → (c == d) ≡ true
 same c d h = grind (arith, nat_tests, h)
 
--- the longest front of a key's characters
+-- characters of a key, before a text that begins with none, are the run that is taken, and that text is left
 run_of : (front rest : List ℕ) → list_all continues_key front ≡ true → not (begins_passing continues_key rest) ≡ true → (key_run (front ++ rest) ≡ front) × (key_left (front ++ rest) ≡ rest)
 run_of [] [] h l = (refl, refl)
 run_of [] (c ∷ cs) h l = (choose_false (c ∷ key_run cs) [] (continues_key c) (not_is (continues_key c) l), choose_false (key_left cs) (c ∷ cs) (continues_key c) (not_is (continues_key c) l))
@@ -56,7 +56,7 @@ pub key_then-fails : (text : List ℕ) (next : List ℕ → List ℕ → Parsed)
 key_then-fails [] next h = refl
 key_then-fails (c ∷ cs) next h = sym (choose_false _ _ (begins_key c) h)
 
--- where nothing or another character stands next, nothing is assigned
+-- where nothing stands next, no `=` does, and what is parsed is the other answer
 pub equals_then-none : (text : List ℕ) (next : List ℕ → Parsed) (other : Parsed) → text ≡ [] → other ≡ equals_then text next other
 equals_then-none text next other e = sym (ap (λ t. equals_then t next other) e)
 
@@ -73,7 +73,7 @@ scalars-skip (c ∷ cs) h = at (is_whitespace c) (scalars-skip cs (and_right (sc
     at true later = later
     at false later = h
 
--- the characters of a text without its leading white space
+-- a text without its leading white space has its characters without theirs
 pub chars-trim_start : (text trimmed : List ℕ) → IsUtf8 text → trimmed ≡ trim_start text → chars trimmed ≡ skip_leading_whitespace (chars text)
 unfolding trim_start
 chars-trim_start text trimmed u h = ap chars h ∙ chars-encodes (skip_leading_whitespace (chars text)) (scalars-skip (chars text) (scalars-chars text u))
@@ -87,7 +87,7 @@ scalars-drop (c ∷ cs) h = at (is_whitespace c && length (drop_trailing_whitesp
     at true later = refl
     at false later = later
 
--- and without its trailing white space
+-- a text without its trailing white space has its characters without theirs
 pub chars-trim_end : (text trimmed : List ℕ) → IsUtf8 text → trimmed ≡ trim_end text → chars trimmed ≡ drop_trailing_whitespace (chars text)
 unfolding trim_end
 chars-trim_end text trimmed u h = ap chars h ∙ chars-encodes (drop_trailing_whitespace (chars text)) (scalars-drop (chars text) (scalars-chars text u))
