@@ -67,7 +67,7 @@ asks_once goes_on s t answer unended counted once goes all is =
       λ goes_on unended. (one.5 (goes goes_on unended), tt),
     )
 
--- and more reads follow, where reading goes on
+-- where reading goes on, reads and the reads behind them are asked as those of both
 pub asks_more : (goes_on later : Type 0) (s t u : InputState) → AsksReads goes_on s t → goes_on →
     AsksReads later t u → AsksReads later s u
 asks_more goes_on later s t u first goes second all is =
@@ -112,7 +112,7 @@ asks_weaker goes_on less s t goes asks all is = let a = asks all is in (
   λ l unended. a.5 (goes l) unended,
 )
 
--- reads and more reads, where both go on
+-- reads, and more reads behind them, where both go on, are asked as those of both
 pub asks_on : (goes_on : Type 0) (s t u : InputState) → AsksReads (Unit {0}) s t → AsksReads (true ≡ true) t u →
     AsksReads goes_on s u
 asks_on goes_on s t u first second =

@@ -47,7 +47,7 @@ are_scalars (c ∷ row) h =
     both (scalar c) (scalars row) (subst (λ d. scalar d ≡ true) (sym e) refl)
     (are_scalars row (and_right (is_backslash c) (list_all is_backslash row) h))
 
--- and so its own characters
+-- a row of backslashes is its own characters
 characters : (row : List ℕ) → list_all is_backslash row ≡ true → chars row ≡ row
 characters row h = ap chars (sym (encoded row h)) ∙ chars-encodes row (are_scalars row h)
 
@@ -65,7 +65,7 @@ taken_pass passes (b ∷ bytes) (suc i) h =
     let more = taken_more (passes b) i (prefix_len passes bytes) h in
     both (passes b) (list_all passes (take i bytes)) more.0 (taken_pass passes bytes i more.1)
 
--- a row may be cut anywhere
+-- a text may be cut anywhere in the row of backslashes at its front
 pub row_boundary : (text : List ℕ) (i : ℕ) → IsUtf8 text → 0 < i → i ≤ prefix_len is_backslash text
     → IsCharBoundary text i
 row_boundary text i utf8 some most =
@@ -94,7 +94,7 @@ escape_begun dialect q c cs h =
     subst (λ d. IsReadTo dialect (base q) (d ∷ cs) [] (escaping q) cs)
     (sym (same_from c backslash h)) (one dialect (base q) (escaping q) backslash cs [] (begins_escape dialect q))
 
--- an odd number of them behind a backslash
+-- behind a backslash, an odd number of backslashes is read as half of them, and one, each as its own text
 row_read : (dialect : Dialect) (q : Quoting) (half : ℕ) (row cs : List ℕ) → list_all is_backslash row ≡ true
     → length row ≡ half + half + 1 → IsReadTo dialect (escaping q) (row ++ cs) (texts (suc half)) (base q) cs
 unfolding texts
@@ -112,7 +112,7 @@ row_read dialect q (suc half) (c ∷ d ∷ row) cs h len =
     (row_read dialect q half row cs (and_right (is_backslash d) (list_all is_backslash row) later)
     (omega (arith, len))))
 
--- what they mean is as many
+-- as many texts of one backslash as a row has mean that row
 texts_mean : (look_up : LookUp) (row : List ℕ) (n : ℕ) → list_all is_backslash row ≡ true → length row ≡ n
     → row ≡ meaning look_up (texts n)
 unfolding texts
@@ -125,7 +125,7 @@ texts_mean look_up (c ∷ row) (suc n) h len =
     (ap (λ bs. backslash ∷ bs) (texts_mean look_up row n (and_right (is_backslash c) (list_all is_backslash row) h)
     (omega (arith, len))))
 
--- so many pairs, where one begins with the backslash before the text
+-- behind a backslash, an odd number of backslashes gives half of them, and one, and a part may begin behind
 pub gives_backslashes : (dialect : Dialect) (q : CodeQuoting) (text : List ℕ) (half : ℕ) (meant rest : Bor (List ℕ))
     → IsUtf8 text → half + half + 1 ≤ prefix_len is_backslash text → meant.now ≡ take (half + 1) text
     → rest.now ≡ drop (half + half + 1) text

@@ -6,7 +6,7 @@ use Rattle.std.proofs.lemmas.List.{drop-take, drop-drop, take-append-le, length-
 use Rattle.std.proofs.lemmas.List.Edits.{take-paste}
 use borrow.Rule.Slice.PartMut.{put_mid, post_of}
 
--- those behind the first n that are unread
+-- with n more bytes used, the unread ones are those behind the first n that were unread
 pub unread-used : (bytes : List ℕ) (used filled n : ℕ) → used + n ≤ filled →
     take (filled - (used + n)) (drop (used + n) bytes) ≡ drop n (take (filled - used) (drop used bytes))
 unread-used bytes used filled n within =
@@ -14,20 +14,20 @@ unread-used bytes used filled n within =
     ∙ sym (drop-take n (filled - (used + n)) (drop used bytes))
     ∙ ap (λ k. drop n (take k (drop used bytes))) (omega (arith, within))
 
--- as many as were filled and not used
+-- as many bytes are unread as were filled and not used
 pub unread-len : (bytes : List ℕ) (used filled : ℕ) → used ≤ filled → filled ≤ length bytes →
     length (take (filled - used) (drop used bytes)) ≡ filled - used
 unread-len bytes used filled below within =
     length-take-le (filled - used) (drop used bytes) (omega (arith, below, within, length-drop used bytes))
 
--- those that were moved to the front
+-- the unread bytes stay the same where they are moved to the front
 pub unread-moved : (bytes : List ℕ) (used filled : ℕ) → used ≤ filled → filled ≤ length bytes →
     take (filled - used) (copy_within bytes used filled 0) ≡ take (filled - used) (drop used bytes)
 unread-moved bytes used filled below within =
     ap (λ k. take k (copy_within bytes used filled 0)) (omega arith)
     ∙ take-paste bytes 0 (drop used bytes) (filled - used) (omega arith) (omega (arith, below, within, length-drop used bytes))
 
--- and those behind them, of which n were put there
+-- with n bytes put behind those that are filled, these and then the n are unread
 pub unread-more : (bytes given : List ℕ) (filled room n : ℕ) → filled ≤ length bytes → n ≤ length given →
     take (filled + n - 0) (put_mid filled room bytes given) ≡ take filled bytes ++ take n given
 unread-more bytes given filled room n within some =

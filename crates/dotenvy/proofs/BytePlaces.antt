@@ -3,13 +3,13 @@ use Rattle.std.proofs.Common.{◌≡◌, ℕ, suc, ◌+◌, Bool, true, false, c
 use Rattle.std.proofs.Math.Seq.{get_or-append_seam}
 use Rattle.memchr.specs.Find.{places, places_from}
 
--- one more where the byte passes
+-- places and kept bytes that are as many are so still with one more of each, or none, by the same test
 counted : (t : Bool) (place byte : ℕ) (later kept : List ℕ) → length later ≡ length kept
     → length (cond t (place ∷ later) later) ≡ length (cond t (byte ∷ kept) kept)
 counted true place byte later kept e = ap suc e
 counted false place byte later kept e = e
 
--- behind a front of any bytes
+-- behind a front of any bytes, there are as many places that pass a test as bytes that do
 places_kept : (test : ℕ → Bool) (front back : List ℕ)
     → length (places_from test (front ++ back) (length front) (length back)) ≡ length (filter test back)
 unfolding places_from
@@ -29,7 +29,7 @@ places_kept test front (b ∷ back) =
 nothing_less : (n : ℕ) → n - 0 ≡ n
 nothing_less n = omega arith
 
--- as many as there are such bytes
+-- bytes have as many places that pass a test as they have bytes that do
 pub places_count : (test : ℕ → Bool) (bytes : List ℕ) → length (places test bytes) ≡ length (filter test bytes)
 places_count test bytes = ap (λ n. length (places_from test bytes 0 n)) (nothing_less (length bytes))
     ∙ places_kept test [] bytes

@@ -203,7 +203,7 @@ passes_where_not : (b : Bool) → ¬ (b ≡ true) → not b ≡ true
 passes_where_not true h = absurd (h refl)
 passes_where_not false h = refl
 
--- and so does the first byte that fails
+-- where a search gives the first byte that passes a test, the bytes that fail it end there
 pub run_to_byte : (test : ℕ → Bool) (bytes : List ℕ) (found : Option ℕ) → IsFirstByte test bytes found
     → unwrap_or found (length bytes) ≡ prefix_len (λ b. not (test b)) bytes
 run_to_byte test bytes None none = sym (prefix_len_is (λ b. not (test b)) bytes (length bytes) 0 (omega arith)
@@ -220,13 +220,13 @@ is_small c h = grind (arith, nat_tests, h)
 is_large : (c : ℕ) → 128 ≤ c → nat_lt c 128 ≡ false
 is_large c h = grind (arith, nat_tests, h)
 
--- the same of bytes in double quotes that mean themselves
+-- a search for a backslash, double quote or dollar gives where the bytes that mean themselves inside end
 pub run_inside : (bytes : List ℕ) (found : Option ℕ)
     → IsFirstByte (is_byte3 backslash double_quote dollar) bytes found
     → unwrap_or found (length bytes) ≡ prefix_len is_plain_inside bytes
 run_inside bytes found h = run_to_byte (is_byte3 backslash double_quote dollar) bytes found h
 
--- the same of bytes between quotes
+-- a search for an ASCII quote or a backslash gives where the bytes between these quotes end
 pub run_quoted : (quote : ℕ) (bytes : List ℕ) (found : Option ℕ) → quote < 128
     → IsFirstByte (is_byte2 quote backslash) bytes found
     → unwrap_or found (length bytes) ≡ prefix_len (in_run (Quoted quote)) bytes
@@ -280,7 +280,7 @@ passed_text passes text rest more after passed parts utf8 pass = record {
       (all_append passes (chars passed.front) (chars more) passed.pass pass);
 }
 
--- a run more
+-- a run of characters that pass, next in what is left of the text, may be passed too
 pub passed_run : (passes : ℕ → Bool) (text rest after : List ℕ) (len : ℕ) → Passed passes text rest → IsUtf8 rest
     → PassesTo passes rest len → after ≡ drop len rest → Passed passes text after
 passed_run passes text rest after len passed utf8 to e =
@@ -288,7 +288,7 @@ passed_run passes text rest after len passed utf8 to e =
     (sym (take-append-drop len rest) ∙ ap (λ bs. take len rest ++ bs) (sym e))
     (IsUtf8-take rest len utf8 to.boundary) to.pass
 
--- and a character more
+-- a character that passes, next in what is left of the text, may be passed too
 pub passed_first : (passes : ℕ → Bool) (text rest after : List ℕ) (c : ℕ) → Passed passes text rest → IsUtf8 rest
     → BeginsWith rest c after → passes c ≡ true → Passed passes text after
 passed_first passes text rest after c passed utf8 begins h =
@@ -382,7 +382,7 @@ none_fails passes n (b ∷ bs) h = none_more n (passes b) (list_all passes bs)
 pub passes_none : (passes : ℕ → Bool) (bytes : List ℕ) → PassesBytes passes bytes bytes
 passes_none passes bytes = record { front = []; spelled = refl; pass = refl }
 
--- a block more, in which a search for a byte that fails finds none
+-- a block in which a search for a byte that fails finds none may be passed too
 pub passes_block : (passes : ℕ → Bool) (bytes rest block after : List ℕ) → PassesBytes passes bytes rest
     → rest ≡ block ++ after → position_from (λ b. not (passes b)) 0 block ≡ None → PassesBytes passes bytes after
 passes_block passes bytes rest block after before parts none = record {
@@ -391,7 +391,7 @@ passes_block passes bytes rest block after before parts none = record {
   pass = all_append passes before.front block before.pass (none_fails passes 0 block none);
 }
 
--- the run goes on behind them
+-- behind bytes that pass, the run goes on to where a search in the others finds one that fails
 pub run_behind : (passes : ℕ → Bool) (bytes rest : List ℕ) (found : Option ℕ) → PassesBytes passes bytes rest
     → found ≡ position_from (λ b. not (passes b)) 0 rest
     → length bytes - length rest + unwrap_or found (length rest) ≡ prefix_len passes bytes

@@ -5,7 +5,7 @@ use Rattle.dotenvy.specs.declared.dialect.Dialect.{Dialect}
 use Rattle.dotenvy.specs.LogicalLine.{Logical, IsNext}
 use Rattle.dotenvy.specs.Entries.{Entry, Gives, GiveAll, AreFirstLines}
 
--- the logical line that comes next is the last of them
+-- the first logical lines, and the one that comes next as the last of them, are first logical lines
 pub first_lines_more : (lines : List (Option (List ℕ))) (count : ℕ) (firsts : List Logical) (k : ℕ) (next : Logical) →
     AreFirstLines lines count firsts → IsNext (drop count lines) k next →
     AreFirstLines lines (count + k) (firsts ++ next ∷ [])
@@ -15,7 +15,7 @@ first_lines_more lines count (first ∷ others) k next (j, later, is_first, are,
     let behind = subst (λ ls. IsNext ls k next) (ap (λ n. drop n lines) sum ∙ sym (drop-drop later j lines)) is in
     (j, later + k, is_first, first_lines_more (drop j lines) later others k next are behind, omega (arith, sum))
 
--- its entries come behind theirs
+-- the entries of one more logical line come behind those of the lines before it
 pub give_more : (dialect : Dialect) (firsts : List Logical) (next : Logical) (entries own : List Entry) →
     GiveAll dialect firsts entries → Gives dialect next own → GiveAll dialect (firsts ++ next ∷ []) (entries ++ own)
 give_more dialect [] next entries own none gives =

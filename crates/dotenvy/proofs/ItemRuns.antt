@@ -48,7 +48,7 @@ says_first env earlier now (Declares key pieces) (Err e) given later is remember
 says_first env earlier now (Fails failure) (Ok pair) given later is remembers say = absurd is
 says_first env earlier now (Fails failure) (Err e) given later is remembers say = (is, subst (SayItems given) (items_from-texts env now earlier later remembers) say)
 
--- the bound on reads is not met
+-- where fewer bytes are told than the reads can take, the bound on reads is not met
 not_met : (a : Ahead) (s t : InputState) (P : List ℕ → Type 0) → length a.bytes < s.reads + s.unread + end_reads s.at_end → BoundIsMet a s P t → ⊥
 not_met a s t P few met = let each = met.each_gave in let all = ap length met.cut in omega (arith, few, each, all, length-append met.front met.later)
 
@@ -62,7 +62,7 @@ told_last env earlier dialect a s t entries (EnvVar v) has few granted (inr is) 
 told_last env earlier dialect a s t entries (Nul key) has few granted (inr is) = absurd is
 told_last env earlier dialect a s t entries (Memory m) has few granted (inr is) = absurd is
 
--- the same of an item
+-- an item that is a fault is the last, where memory is not refused and the bound on reads not met
 fails_last : {A : Type 0} (env earlier : LookUp) (dialect : Dialect) (a : Ahead) (s : InputState) (entries : List Entry) (item : Given A) (t : LinesState) → HasLeft dialect a.fault a.bytes entries → length a.bytes < s.reads + s.unread + end_reads s.at_end → (IsMemoryErr item → ⊥) → FailsFor a s item (λ bytes. HasDecided dialect bytes []) t → (t.stage ≡ Failed) × SayItems (item ∷ []) (items_from env earlier (entries ++ told_fault a.fault))
 fails_last env earlier dialect a s entries (Ok pair) t has few granted fails = absurd fails
 fails_last env earlier dialect a s entries (Err e) t has few granted fails = (fails.0, told_last env earlier dialect a s t.input entries e has few granted fails.1)
@@ -120,7 +120,7 @@ items_go_on s a names entries (item ∷ given) can has (t, next, gives) granted 
     subst (λ others. SayItems (item ∷ others) (items_from (values_of names) (recalled_of s.remembered) (entries ++ told_fault a.fault))) (sym (shut_gives names t given (failed_shut t.lines.stage last.0) gives)) last.1)
     (next.0 can.is_open a can.is_told entries has)
 
--- what a fresh iterator can read
+-- a fresh iterator can read what its source tells
 pub can_read_fresh : (dialect : Dialect) (a : Ahead) (calls : Option (List Call)) → IsReadable a → CanRead (fresh (Some a) calls dialect) a
 can_read_fresh dialect a calls can = let few = can.few in record { is_open = refl; is_told = (refl, can.not_interrupted); few = omega (arith, few) }
 

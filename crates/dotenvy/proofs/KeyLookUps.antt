@@ -39,7 +39,7 @@ changed_text old new bytes text value is change name =
     at true = refl
     at false = refl
 
--- what a map has after an insertion
+-- after an insertion the key has the new value, and each other name what it had
 get-inserted : {V : Type 0} (m : fin.FinMap (slice_cmp nat_cmp) V) (key : List ℕ) (value : V) (q : List ℕ) → fin.get (fin.insert m key value) q ≡ cond (bytes_eq key q) (Some value) (fin.get m q)
 get-inserted m key value q =
     let tie : eq_by_cmp (slice_cmp nat_cmp) q key ≡ bytes_eq key q = (eq_by_cmp_equiv nat_list_cmp_total).symm q key ∙ is_eq-slice_cmp key q in

@@ -19,7 +19,7 @@ pub left_exists : (dialect : Dialect) (fault : Option ErrorKind) (bytes : List �
 left_exists dialect None bytes = entries_exist dialect bytes
 left_exists dialect (Some kind) bytes = decided_exist dialect bytes
 
--- there is one list of them
+-- what is left has at most one list of entries
 pub left_once : (dialect : Dialect) (fault : Option ErrorKind) (bytes : List ℕ) (entries others : List Entry) → HasLeft dialect fault bytes entries → HasLeft dialect fault bytes others → entries ≡ others
 left_once dialect None bytes entries others a b = entries_once dialect bytes entries others a b
 left_once dialect (Some kind) bytes entries others a b = decided_once dialect bytes entries others a b
@@ -65,7 +65,7 @@ pub no_lines : (fault : Option ErrorKind) (left : List ℕ) → left ≡ [] →
 no_lines None left empty = ap line_texts empty
 no_lines (Some kind) left empty = ap lines_so_far empty
 
--- what bytes decide that are whole lines, whatever follows them
+-- bytes that are a logical line, whatever follows them, decide its entries before what more bytes decide
 pub decided-next : (dialect : Dialect) (bytes more : List ℕ) (count : ℕ) (next : Logical) (front after : List Entry) → (IsOpen next → ⊥) → IsNextAlways bytes count next → Gives dialect next front → HasDecided dialect more after → HasDecided dialect (bytes ++ more) (front ++ after)
 decided-next dialect bytes more count next front after no_open always gives has =
     let n = always more in record {
@@ -91,7 +91,7 @@ decided-none dialect bytes undecided = at has.0 has.1
     at [] are = record { lines = []; are_lines = are; give = refl }
     at (next ∷ lines) are = first next lines are (undecided are.1 next are.0 are.2)
 
--- so nothing is left before a fault that is told
+-- where a fault is told behind bytes that decide nothing, no entry is left
 pub left-fault : (dialect : Dialect) (fault : Option ErrorKind) (kind : ErrorKind) (bytes : List ℕ) (entries : List Entry) → fault ≡ Some kind → HasLeft dialect fault bytes entries → HasDecided dialect bytes [] → entries ≡ []
 left-fault dialect None kind bytes entries is has none = absurd (none-some kind is)
 left-fault dialect (Some told) kind bytes entries is has none = decided_once dialect bytes entries [] has none

@@ -76,7 +76,7 @@ abbrev pub lines_said : {T A : Type 0} → Result T (Error A) → LinesState →
 lines_said (Ok said) s = s
 lines_said (Err e) s = lines_after e s
 
--- they have failed where memory was refused
+-- logical lines that have failed are what refused memory leaves of them
 pub refused_lines : {T A : Type 0} (said : Result T (Error A)) (s t : LinesState) → IsMemoryErr said → t ≡ record { input = s.input; stage = Failed } → t ≡ lines_said said s
 refused_lines (Ok x) s t is h = absurd is
 refused_lines (Err (LineParse text index)) s t is h = absurd is
@@ -85,7 +85,7 @@ refused_lines (Err (EnvVar e)) s t is h = absurd is
 refused_lines (Err (Nul key)) s t is h = absurd is
 refused_lines (Err (Memory e)) s t is h = h
 
--- and are as before where it was not
+-- logical lines as they were are what an answer leaves of them that is not refused memory
 pub kept_lines : {T A : Type 0} (said : Result T (Error A)) (s t : LinesState) → ¬ (IsMemoryErr said) → t ≡ s → t ≡ lines_said said s
 kept_lines (Ok x) s t other h = h
 kept_lines (Err (LineParse text index)) s t other h = h
@@ -94,7 +94,7 @@ kept_lines (Err (EnvVar e)) s t other h = h
 kept_lines (Err (Nul key)) s t other h = h
 kept_lines (Err (Memory e)) s t other h = absurd (other tt)
 
--- what a line says leaves them as they are
+-- an answer that says what the line says leaves the logical lines as they are
 answer_lines : {A : Type 0} (look_up : LookUp) (outcome : Outcome) (said : Result (Option (String A × String A)) (Error A)) (s t : LinesState) → IsLineAnswer look_up outcome said → t ≡ lines_said said s → t ≡ s
 answer_lines look_up outcome (Ok said) s t is h = h
 answer_lines look_up Nothing (Err e) s t is h = absurd is

@@ -32,7 +32,7 @@ use Rattle.dotenvy.proofs.Values.{value-read, read-value, no_value}
 use Rattle.dotenvy.proofs.ValuePlaces.{value_place}
 use Rattle.dotenvy.proofs.ParseLine.{parse-statement, parse-fault, front_bytes}
 
--- the bytes before what is left
+-- a text has as many bytes as its front and what is left have together
 pub front_and_left : (text left front : List ℕ) → IsUtf8 text → IsUtf8 left → chars text ≡ front ++ chars left → length text ≡ byte_len front + length left
 front_and_left text left front u v h =
     ap length (sym (encodes-chars text u) ∙ ap encode_utf8_all h ∙ encodes-append front (chars left))
@@ -62,7 +62,7 @@ other_length n m k h = rw (differ n m h) refl
     differ : (n m : ℕ) → n < m → (n == m) ≡ false
     differ n m h = grind (arith, nat_tests, h)
 
--- where nothing is left, the value lacks its end
+-- where nothing is left, the index of the fault is one less than the number of the value's bytes
 pub index_open : (value left front : List ℕ) → IsUtf8 value → IsUtf8 left → length left ≡ 0 → chars value ≡ front ++ chars left → length value - 1 ≡ value_index (chars value) (length front)
 index_open value left front u v none h =
     let whole : chars value ≡ front = h ∙ ap (λ t. front ++ t) (ap chars (no_length left none) ∙ chars-nil) ∙ append-nil front in
@@ -85,12 +85,12 @@ index_before value left front value_count left_count u some h a b =
     let front_is : value_count - left_count ≡ length front = omega (arith, counts.1) in
     front_is ∙ sym (other_length (length front) (length (chars value)) (byte_len (chars value) - 1) short)
 
--- what is assigned has a byte
+-- what is neither empty nor a comment has a byte
 pub some_bytes : (text : List ℕ) → is_empty_or_comment (chars text) ≡ false → 0 < length text
 some_bytes [] h = let e : true ≡ false = sym (ap is_empty_or_comment chars-nil) ∙ h in cc
 some_bytes (b ∷ text) h = omega arith
 
--- the pieces of a value that was measured
+-- a value that was measured has pieces, and its length is that of their meaning, saturated
 pub means_pieces : (dialect : Dialect) (look_up : LookUp) (value : List ℕ) (len : ℕ) → MeansBytes dialect look_up value len → (pieces : List Piece) × IsValue dialect value pieces × (len ≡ saturated (byte_len (meaning look_up pieces)))
 means_pieces dialect look_up value len h = at (read dialect value (base unquoted)) refl h
   where
@@ -115,7 +115,7 @@ assigned_fault dialect look_up key text left index some stops counts = (
   },
 )
 
--- the whole line
+-- where what a line's statement assigns is so declared, the line declares it
 pub declared : (dialect : Dialect) (look_up : LookUp) (line key rest : List ℕ) (declaration : Declaration) → is_nothing (drop_trailing_whitespace line) ≡ false → parse (drop_trailing_whitespace line) ≡ assigns key rest → ScansAssigned dialect look_up key rest (Ok declaration) → Scans dialect look_up line (Ok (Some declaration))
 declared dialect look_up line key rest declaration some parsed is = record {
   some = ap not some;
@@ -162,7 +162,7 @@ assigned_bytes dialect look_up rest pieces value written e is =
     let some = subst (IsAssigned dialect look_up rest pieces) e is in
     subst (λ r. MatchOption r ⊥ (λ p. written.len ≡ saturated (byte_len (meaning look_up p)))) (sym (ap (λ t. read dialect t (base unquoted)) some.1 ∙ read-value dialect rest pieces some.2)) some.3
 
--- and what was appended is the meaning of its pieces
+-- what was appended of a declaration's value is the meaning of its pieces
 pub assigned_meaning : (dialect : Dialect) (look_up : LookUp) (rest : List ℕ) (pieces : List Piece) (value : Option Value) (written : Value) (bytes : List ℕ) → value ≡ Some written → IsAssigned dialect look_up rest pieces value → Appends dialect look_up (chars written.text.now) [] bytes → bytes ≡ encode_utf8_all (meaning look_up pieces)
 assigned_meaning dialect look_up rest pieces value written bytes e is h =
     let some = subst (IsAssigned dialect look_up rest pieces) e is in
@@ -185,7 +185,7 @@ pub remembered_as : (dialect : Dialect) (look_up : LookUp) (rest : List ℕ) (pi
 remembered_as dialect look_up rest pieces None text is = sym (ap (λ b. cond b None (Some text)) is.0)
 remembered_as dialect look_up rest pieces (Some written) text is = sym (ap (λ b. cond b None (Some text)) (not_is (is_empty_or_comment rest) is.0))
 
--- the answer of a pair
+-- the copies of a declaration are the answer to what its line says
 pub pair_answer : {A : Type 0} (dialect : Dialect) (look_up : LookUp) (line : List ℕ) (declaration : Declaration) (copies : Copies A) (is : IsDeclared dialect look_up line declaration) → AreCopiesOf look_up declaration is.pieces copies → (outcome : Outcome) × Says dialect line outcome × IsLineAnswer {A = A} look_up outcome (Ok (Some (copies.key, copies.value)))
 pair_answer dialect look_up line declaration copies is are = (
   Pair (chars (string_bytes copies.key)) is.pieces,
@@ -197,14 +197,14 @@ pair_answer dialect look_up line declaration copies is are = (
 pub pair_statement : {A : Type 0} (dialect : Dialect) (look_up : LookUp) (line : List ℕ) (declaration : Declaration) (copies : Copies A) (is : IsDeclared dialect look_up line declaration) → AreCopiesOf look_up declaration is.pieces copies → IsStatement (drop_trailing_whitespace line) (chars (string_bytes copies.key)) is.rest
 pair_statement dialect look_up line declaration copies is are = subst (λ k. IsStatement (drop_trailing_whitespace line) (chars k) is.rest) (sym are.key) is.statement
 
--- what is remembered of a pair
+-- of a pair its value is remembered under its key, or no value where nothing is assigned
 pub pair_remembered : {A : Type 0} (dialect : Dialect) (look_up : LookUp) (line : List ℕ) (declaration : Declaration) (copies : Copies A) (is : IsDeclared dialect look_up line declaration) → AreCopiesOf look_up declaration is.pieces copies → (old new : Remembered) → new ≡ fin.insert old (string_bytes copies.remembered_key) (option_map string_bytes copies.remembered_value) → new ≡ fin.insert old (string_bytes copies.key) (if is_empty_or_comment is.rest then None else Some (string_bytes copies.value))
 pair_remembered dialect look_up line declaration copies is are old new h =
     h
     ∙ ap (λ k. fin.insert old k (option_map string_bytes copies.remembered_value)) (are.remembered_key ∙ sym are.key)
     ∙ ap (λ v. fin.insert old (string_bytes copies.key) v) (are.remembered_value ∙ remembered_as dialect look_up is.rest is.pieces declaration.value (string_bytes copies.value) is.is_assigned)
 
--- the answer of a fault
+-- the fault that a line says is the answer to it, unless memory is refused
 pub fault_answer : {A : Type 0} (dialect : Dialect) (look_up : LookUp) (line text : List ℕ) (index : ℕ) (e : Error A) → Says dialect line (SaysFault text index) → IsMemory e ⊎ IsLineParseOf text index e → IsMemory e ⊎ ((outcome : Outcome) × Says dialect line outcome × IsLineAnswer look_up outcome (Err e))
 fault_answer dialect look_up line text index e says (inl refused) = inl refused
 fault_answer dialect look_up line text index e says (inr is) = inr (SaysFault text index, says, is)

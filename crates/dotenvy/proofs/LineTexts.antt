@@ -48,7 +48,7 @@ chars_return = refl
 pub chars_without_return : (old new : List ℕ) → IsUtf8 new → old ≡ new ++ 13 ∷ [] → chars new ≡ without_carriage_return (chars old)
 chars_without_return old new u e = sym (ap (λ l. without_carriage_return (chars l)) e ∙ ap without_carriage_return (chars-append new (13 ∷ []) u ∙ ap (λ l. chars new ++ l) chars_return) ∙ return_goes (chars new))
 
--- the last byte is a carriage return, and was taken off
+-- where the last byte is a carriage return and was taken off, the characters lose that one alone
 pub chars_popped : (old text new : List ℕ) (n : ℕ) (ends : Bool) → text ≡ old → n ≡ length old → ends ≡ true → ends ≡ (get_or text (length text - 1) 0 == 13) → text ≡ take (length text - 1) text ++ 13 ∷ [] → (0 < n → get_or old (n - 1) 0 < 128 → new ≡ take (n - 1) old) → IsUtf8 new → chars new ≡ without_carriage_return (chars old)
 chars_popped old text new n ends same len is test cut pops u =
     let whole : old ≡ take (length old - 1) old ++ 13 ∷ [] = sym same ∙ cut ∙ ap (λ l. take (length l - 1) l ++ 13 ∷ []) same in
@@ -130,7 +130,7 @@ walk-more m n seen (x ∷ xs) ys h = at (leads m x) h (λ k e. walk-more k n (se
     at None e later = cc
     at (Some k) e later = later k e ∙ ap (λ s. walk n s ys) (append_assoc seen (x ∷ []) xs)
 
--- characters that leave the mode as it is
+-- a walk over characters that leave the mode as it is goes on in that mode
 stays_all : (m : LineMode) (passes : ℕ → Bool) → ((c : ℕ) → passes c ≡ true → leads m c ≡ Some m) → (seen cs : List ℕ) →
     list_all passes cs ≡ true → walk m seen cs ≡ going m
 stays_all m passes stays seen [] h = refl
@@ -138,7 +138,7 @@ stays_all m passes stays seen (c ∷ cs) h =
     ap (λ o. walked o c seen (λ k. walk k (seen ++ c ∷ []) cs)) (stays c (and_left (passes c) (list_all passes cs) h))
     ∙ stays_all m passes stays (seen ++ c ∷ []) cs (and_right (passes c) (list_all passes cs) h)
 
--- as tokens do outside quotes
+-- outside quotes, a character of the class of tokens leaves the mode as it is
 pub token_stays : (c : ℕ) → has_character Token c ≡ true → leads Outside c ≡ Some Outside
 token_stays c h = at (c == line_feed) (c == backslash) (is_quote c) (is_blank c) h
   where
@@ -155,7 +155,7 @@ token_stays c h = at (c == line_feed) (c == backslash) (is_quote c) (is_blank c)
     at false false true false e = cc
     at false false false true e = cc
 
--- and what stands in quotes, other than the quote and a backslash
+-- in quotes, a character other than the quote and a backslash leaves the mode as it is
 pub quoted_stays : (quote c : ℕ) → has_character (Quoted quote) c ≡ true → leads (Inside quote) c ≡ Some (Inside quote)
 quoted_stays quote c h = at (c == quote) (c == backslash) h
   where
@@ -219,7 +219,7 @@ chars_one c u = chars_past_char (encode c) [] c u (sym (append-nil (encode c))) 
 chars_more : (front : List ℕ) (c : ℕ) → IsUtf8 front → IsUtf8 (encode c) → chars (front ++ encode c) ≡ chars front ++ c ∷ []
 chars_more front c u v = chars-append front (encode c) u ∙ ap (λ l. chars front ++ l) (chars_one c v)
 
--- a run of characters that leave the mode as it is was passed
+-- a run of characters that leave the mode as it is may be passed by a walk
 pub walking_run : (start : LineMode) (line rest after : List ℕ) (m : LineMode) → Walking start line m rest →
     PassesRun m rest after → Walking start line m after
 walking_run start line rest after m w run = record {
@@ -234,7 +234,7 @@ walking_run start line rest after m w run = record {
       ∙ ap (λ l. seen ++ l) (sym (chars-append w.front run.front w.front_text)));
 }
 
--- and one character that leads to another
+-- a character that leads to another mode may be passed by a walk, which goes on in that mode
 pub walking_step : (start : LineMode) (line rest after : List ℕ) (m n : LineMode) (c : ℕ) → Walking start line m rest →
     BeginsWith rest c after → Some n ≡ leads m c → Walking start line n after
 walking_step start line rest after m n c w begins h =

@@ -62,7 +62,7 @@ empty_recalled =
     λ i name. ap (λ o. option_map chars (option_flatten o)) (fin.get-empty (slice_cmp nat_cmp)
     (encode_utf8_all name)) i
 
--- a load into an empty environment, where nothing is remembered
+-- a load into an empty environment, where nothing is remembered, is one over no values
 first_load : (read : List Entry) →
     load_result (values_of fin.empty) (recalled_of fin.empty) read ≡ load_result no_values no_values read
 first_load read = ap (λ look. load_result look (recalled_of fin.empty) read) empty_values
@@ -131,7 +131,7 @@ listed_after : {A W : Type 0} (held : W → Option (List ℕ)) (last_fault : W �
 listed_after held last_fault calls old new look (Ok done) names answer is holds writes = (names, holds, writes)
 listed_after held last_fault calls old new look (Err failure) names answer is holds writes = absurd is
 
--- what was loaded is written
+-- where a load didn't fail, writing the written form of its values is the listing
 pub loaded_lists : {A W : Type 0} (dialect : Dialect) (ahead : Option Ahead) (held : W →
     Option (List ℕ)) (last_fault : W → Option ErrorKind) (calls : W →
     Option (List Call)) (old new : W) (names : Texts) (answer : Result (Unit {0}) (Error A)) →
@@ -150,7 +150,7 @@ loaded_lists {A = A} dialect ahead held last_fault calls old new names answer lo
           (holds_loaded names _ are keys left.values) writes,
     )
 
--- a load by an iterator that is fresh, into an environment that is empty
+-- a load by a fresh iterator, into an environment that is empty, is one where no calls are told
 pub fresh_load : {A : Type 0} (rule : Rule) (ahead : Option Ahead) (calls : Option (List Call)) (dialect : Dialect)
     (s : IterState) (old new : Texts) (answer : Result (Unit {0}) (Error A)) → s ≡ fresh ahead calls dialect →
     old ≡ fin.empty → (s.lines.stage ≡ Open → LoadsLeft rule s old answer new) →

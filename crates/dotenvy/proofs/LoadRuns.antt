@@ -43,7 +43,7 @@ sets-same : (mode : Mode) (e f : LookUp) (key : List ℕ) → ((n : List ℕ) �
 sets-same Keep e f key same = ap is_none (same key)
 sets-same Replace e f key same = refl
 
--- a declaration after which names have the same values
+-- after one declaration, set on both sides or on neither, names have the same values
 pub after-same : (e f : LookUp) (key v w n : List ℕ) (b c : Bool) → b ≡ c → v ≡ w → e n ≡ f n →
     (if b then with_value e key v else e) n ≡ (if c then with_value f key w else f) n
 after-same e f key v w n true true h k same =
@@ -118,7 +118,7 @@ run-forgets mode e r key value entries =
     (with_value r key value) r entries (λ n. refl)
     (λ n absent. ap (λ t. unwrap_or (cond t (Some value) (r n)) []) (still_absent mode e key value n absent).1)
 
--- a load of one declaration
+-- a load of one declaration sets its name or passes it by, or stops where a NUL would be set
 pub run-one : (mode : Mode) (e r : LookUp) (key value : List ℕ) (pieces : List Piece) (is_set nul : Bool) →
     value ≡ meaning (or_else e r) pieces → sets mode e key ≡ is_set → has_nul value ≡ nul →
     run mode e r (Declares key pieces ∷ []) ≡

@@ -61,7 +61,7 @@ load_of mode s old a entries = record {
   remembered = recalled_of s.remembered;
 }
 
--- the entries one by one, from the start and from here on
+-- the entries one by one, from the start
 abbrev run_all : Load → List Entry → Loaded
 run_all l entries = run l.mode l.env l.remembered entries
 
@@ -125,7 +125,7 @@ ends_at l names new recall answer k more reading leaves =
       },
     )
 
--- it ends with the later entries and the fault that is told
+-- a load ends with the later entries and the fault that is told
 ends_read : {A : Type 0} (l : Load) (names new : Texts) (recall : Remembered) (answer : Result (Unit {0}) (Error A))
     (k : Done l names recall) → Leaves (run_on l names recall (k.later ++ told_fault l.ahead.fault)) new answer →
     Ends l new answer
@@ -134,7 +134,7 @@ ends_read l names new recall answer k leaves =
     (inl (sym (append_assoc k.done k.later (told_fault l.ahead.fault))
     ∙ ap (λ es. es ++ told_fault l.ahead.fault) (sym k.split))) leaves
 
--- it ends where memory is refused
+-- a load ends where memory is refused
 ends_memory : {A : Type 0} (l : Load) (names : Texts) (recall : Remembered) (e : Error A) → Done l names recall →
     IsMemory e → Ends l names (Err e)
 ends_memory l names recall e k is =
@@ -142,7 +142,7 @@ ends_memory l names recall e k is =
     (inr (inl (record { front = k.done; back = k.later; cut = k.split; ends = refl })))
     (record { values = λ n. refl; is_answer = is })
 
--- it ends at the bound on reads
+-- a load ends at the bound on reads
 ends_bound : {A : Type 0} (l : Load) (names : Texts) (recall : Remembered) (x : IoError) (k : Done l names recall) →
     error_kind x ≡ Other → StopsAtBound l.dialect l.ahead (certain_bytes l.start) (k.done ++ Fails (Io Other) ∷ []) →
     Ends {A = A} l names (Err (error.Io x))
@@ -150,7 +150,7 @@ ends_bound l names recall x k is stops =
     ends_at l names names recall (Err (error.Io x)) k (Fails (Io Other) ∷ []) (inr (inr stops))
     (record { values = λ n. refl; is_answer = is })
 
--- it ends at the fault that is told, after the last entry
+-- a load ends at the fault that is told, after the last entry
 ends_told : {A : Type 0} (l : Load) (names : Texts) (recall : Remembered) (x : IoError) (k : Done l names recall) →
     l.ahead.fault ≡ Some (error_kind x) → k.later ≡ [] → Ends {A = A} l names (Err (error.Io x))
 ends_told {A = A} l names recall x k told none =
@@ -159,7 +159,7 @@ ends_told {A = A} l names recall x k told none =
     (sym (ap (λ es. es ++ told_fault l.ahead.fault) none ∙ ap told_fault told))
     (record { values = λ n. refl; is_answer = refl }))
 
--- a final fault: refused memory, the fault that is told, or the bound
+-- a load ends at a final fault: refused memory, the fault that is told, or the bound
 ends_final : {A : Type 0} (l : Load) (b : Ahead) (t v : InputState) (P : List ℕ → Type 0) (names : Texts)
     (recall : Remembered) (e : Error A) (k : Done l names recall) → l.ahead.fault ≡ b.fault →
     ((kind : ErrorKind) → l.ahead.fault ≡ Some kind → P b.bytes → k.later ≡ []) →
@@ -188,14 +188,14 @@ came_open l names t line k shut = elim k.goes_on [
   | inr ended ↦ absurd (none-some line (sym (shut (λ opened. open_ended (sym opened ∙ ended.0)))))
 ]
 
--- before a line the end was not read
+-- where a line is taken, the bytes that were used before it decide the entries that are done
 decided_so_far : (l : Load) (names : Texts) (t : IterState) (next : Logical) (m : InputState) →
     (k : Came l names t) → TakesNext (record { bytes = k.left; fault = l.ahead.fault }) t.lines.input next m →
     DecideDone l t k.loaded.done k.used k.left
 decided_so_far l names t next m k takes =
     elim k.stays [ inl ended ↦ absurd (takes.some (no_lines l.ahead.fault k.left ended.1)) | inr decide ↦ decide ]
 
--- the entries of one more line are decided
+-- with one more logical line that is no open end, the bytes used decide its entries too
 decide_more : (l : Load) (t u : IterState) (done front : List Entry) (used left : List ℕ) (next : Logical)
     (m : InputState) → DecideDone l t done used left →
     (k : TakesNext (record { bytes = left; fault = l.ahead.fault }) t.lines.input next m) →
@@ -298,7 +298,7 @@ ends_none {A = A} l names t m text k next =
         nothing k.left l.ahead.fault refl is.0 is.1
     at (inr ended) = nothing [] None (sym k.is_told.0 ∙ ended.1) refl refl
 
--- the bound was met after what came
+-- where the bound on reads is met after what came, the reading stops there
 bound_stops : (l : Load) (names : Texts) (t : IterState) (v : InputState) (k : Came l names t) →
     BoundIsMet (record { bytes = k.left; fault = l.ahead.fault }) t.lines.input IsUndecided v →
     StopsAtBound l.dialect l.ahead (certain_bytes l.start) (k.loaded.done ++ Fails (Io Other) ∷ [])
@@ -458,7 +458,7 @@ ends_mark mode s v old a entries e has drops =
     })
     drops
 
--- a load of what s has left, which came to t: the next line is loaded
+-- where a load came to t and the next line is loaded, the load came to where that line leads
 pub came_line : {A : Type 0} (mode : Mode) (s t u : IterState) (old names new : Texts)
     (line : Result (Unit {0}) (Error A)) (text : List ℕ) → CameTo mode s old names t → line ≡ Ok tt →
     (t.lines.stage ≢ Open → ◌≡◌ {A = Option (Result (Unit {0}) (Error A))} (Some line) None) →
@@ -472,7 +472,7 @@ came_line {A = A} mode s t u old names new line text came is shut next loads rec
     line_leads l names new t u text k
     (subst (λ r. AdvanceIs {A = A} (ahead_of k.left a.fault) t.lines.input (Some r) text u.lines) is given) loads recall dialect
 
--- it is a fault, or its value is one
+-- where a load came to t and the next line is a fault, or its value is one, the load answers that fault
 pub loads_line : {A : Type 0} (mode : Mode) (s t : IterState) (m : LinesState) (old names new : Texts)
     (line : Result (Unit {0}) (Error A)) (text : List ℕ) (e : Error A) → s.lines.stage ≡ Open →
     CameTo mode s old names t → line ≡ Ok tt →
@@ -487,7 +487,7 @@ loads_line {A = A} mode s t m old names new line text e opened came is shut next
     line_ends l names new t m text e k
     (subst (λ r. AdvanceIs {A = A} (ahead_of k.left a.fault) t.lines.input (Some r) text m) is given) loads
 
--- there is a fault in its place
+-- where a load came to t and a fault stands in the place of a line, the load answers that fault
 pub loads_fault : {A : Type 0} (mode : Mode) (s t : IterState) (m : LinesState) (old names : Texts)
     (line : Result (Unit {0}) (Error A)) (text : List ℕ) (e : Error A) → s.lines.stage ≡ Open → CameTo mode s old names t →
     line ≡ Err e →
@@ -500,7 +500,7 @@ loads_fault {A = A} mode s t m old names line text e opened came is shut next = 
     let given = next (ahead_of k.left a.fault) (came_open l names t line k shut) k.is_told in
     ends_fault l names t m text e k (subst (λ r. AdvanceIs {A = A} (ahead_of k.left a.fault) t.lines.input (Some r) text m) is given)
 
--- there is none
+-- where a load came to t and there is no more line, the load answers that all went well
 pub loads_none : {A : Type 0} (mode : Mode) (s t : IterState) (m : LinesState) (old names : Texts) (text : List ℕ) →
     s.lines.stage ≡ Open → CameTo mode s old names t →
     ((a : Ahead) → t.lines.stage ≡ Open → IsTold t.lines.input.left a → AdvanceIs {A = A} a t.lines.input None text m) →
@@ -509,13 +509,13 @@ loads_none {A = A} mode s t m old names text opened came next =
     λ a told entries has.
     ends_none {A = A} (load_of mode s old a entries) names t m text (came opened a told entries has) next
 
--- a fault comes before the mark is decided
+-- where a fault comes before the mark is decided, the load answers that fault and changes nothing
 pub loads_mark : {A : Type 0} (mode : Mode) (s : IterState) (v : InputState) (old : Texts) (e : Error A) →
     ((a : Ahead) → IsTold s.lines.input.left a → DropsMark a s.lines.input (Err e) v) →
     LoadsLeft (run mode) s old (Err e) old
 loads_mark mode s v old e drops = λ a told entries has. ends_mark mode s v old a entries e has (drops a told)
 
--- memory is refused at the start
+-- where memory is refused at the start, a load answers that and changes nothing
 pub loads_refused : {A : Type 0} (mode : Mode) (s : IterState) (old : Texts) (e : Error A) → IsMemory e →
     LoadsLeft (run mode) s old (Err e) old
 loads_refused mode s old e is =

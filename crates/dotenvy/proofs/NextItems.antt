@@ -96,7 +96,7 @@ abbrev pub LeadsTo : {A : Type 0} → Texts → Ahead → IterState → List Ent
 LeadsTo names a s entries None v = Passed a s entries v
 LeadsTo names a s entries (Some item) v = ItemIs names a s entries (Some item) v
 
--- with one more logical line
+-- where bytes decide no entry, with one more logical line they decide its entries
 decide_more : (dialect : Dialect) (used bytes : List ℕ) (count : ℕ) (next : Logical) (front : List Entry) → DecideFirst dialect used [] → (IsOpen next → ⊥) → IsNextAlways bytes count next → Gives dialect next front → DecideFirst dialect (used ++ bytes) front
 decide_more dialect used bytes count next front first no_open always gives more decided has =
     subst (λ all. HasDecided dialect all (front ++ decided)) (sym (append_assoc used bytes more)) (first (bytes ++ more) (front ++ decided) (decided-next dialect bytes more count next front decided no_open always gives has))
@@ -113,7 +113,7 @@ taken_stays a s t entries front next m p k gives = elim k.stays [ inl ended ↦ 
 taken_joins : (a : Ahead) (s t : IterState) (entries : List Entry) (next : Logical) (m : InputState) → (p : Passed a s entries t) → (k : TakesNext (record { bytes = p.left; fault = a.fault }) t.lines.input next m) → a.bytes ≡ (p.used ++ k.used) ++ k.left
 taken_joins a s t entries next m p k = p.joins ∙ ap (λ bytes. p.used ++ bytes) k.joins ∙ sym (append_assoc p.used k.used k.left)
 
--- one more logical line was used
+-- with one more logical line taken, the lines used are those that were passed and that one
 abbrev used_more : (a : Ahead) (s t : IterState) (entries : List Entry) (next : Logical) (m : InputState) →
     (p : Passed a s entries t) → (k : TakesNext (record { bytes = p.left; fault = a.fault }) t.lines.input next m) →
     UsesLines a (p.silent ++ next ∷ []) k.left
@@ -124,14 +124,14 @@ used_more a s t entries next m p k = record {
   rest = k.rest ∙ ap (drop k.count) p.uses.rest ∙ drop-drop k.count p.uses.count (physical_lines a.bytes);
 }
 
--- and the whole lines behind it are left
+-- behind one more logical line taken, the whole lines that are left are those after all lines used
 later_more : (a : Ahead) (s t : IterState) (entries : List Entry) (next : Logical) (m : InputState) →
     (p : Passed a s entries t) → (k : TakesNext (record { bytes = p.left; fault = a.fault }) t.lines.input next m) →
     whole_lines (record { bytes = k.left; fault = a.fault }) ≡ drop (p.uses.count + k.count) (whole_lines a)
 later_more a s t entries next m p k =
     k.later ∙ ap (drop k.count) p.later ∙ drop-drop k.count p.uses.count (whole_lines a)
 
--- a line whose own entries are these was taken
+-- where a line was taken and its own entries added, an item came or the line was passed
 added : {A : Type 0} (names : Texts) (a : Ahead) (s t v : IterState) (m : LinesState) (entries front : List Entry) (next : Logical) (item : Option (Result (String A × String A) (Error A))) → (p : Passed a s entries t) → TakesNext (record { bytes = p.left; fault = a.fault }) t.lines.input next m.input → GoesOn m → Gives s.dialect next front → AddsEntries names s.remembered front item v.remembered → v.lines ≡ m → v.dialect ≡ s.dialect → LeadsTo names a s entries item v
 added names a s t v m entries [] next None p k goes_on gives adds lines dialect =
     let l = took s.dialect a.fault p.left entries t.lines.input m.input next [] k gives p.has_left in record {
@@ -180,7 +180,7 @@ added names a s t v m entries (entry ∷ later) next (Some item) p k goes_on giv
       },
     )
 
--- a text was taken, and adds what it says
+-- where a text was taken and adds what it says, an item came or the line was passed
 text_added : {A : Type 0} (names : Texts) (a : Ahead) (s t v : IterState) (m : LinesState) (entries : List Entry) (u : Unit {0}) (text : List ℕ) (outcome : Outcome) (item : Option (Result (String A × String A) (Error A))) → (p : Passed a s entries t) → AdvanceIs {A = A} (record { bytes = p.left; fault = a.fault }) t.lines.input (Some (Ok u)) text m → Says s.dialect (chars text) outcome → AddsEntries names s.remembered (outcome_entries outcome) item v.remembered → v.lines ≡ m → v.dialect ≡ s.dialect → LeadsTo names a s entries item v
 text_added names a s t v m entries u text outcome item p (inl (inl (empty, k), goes_on)) says adds lines dialect =
     let nothing : outcome ≡ Nothing = one_outcome s.dialect [] outcome Nothing (subst (λ cs. Says s.dialect cs outcome) (ap chars empty ∙ chars-nil) says) refl in
@@ -188,7 +188,7 @@ text_added names a s t v m entries u text outcome item p (inl (inl (empty, k), g
 text_added names a s t v m entries u text outcome item p (inl (inr k, goes_on)) says adds lines dialect = added names a s t v m entries (outcome_entries outcome) (Text (chars text)) item p k goes_on (outcome, says, refl) adds lines dialect
 text_added names a s t v m entries u text outcome item p (inr fails) says adds lines dialect = absurd fails
 
--- refused memory is a final fault
+-- an item that is refused memory, where the logical lines have failed, is the next one
 refused_leads : {A : Type 0} (names : Texts) (a : Ahead) (s v : IterState) (entries : List Entry) (item : Option (Result (String A × String A) (Error A))) → IsRefused item v.lines → LeadsTo names a s entries item v
 refused_leads names a s v entries None is = absurd is
 refused_leads names a s v entries (Some (Ok pair)) is = absurd is.0
@@ -239,7 +239,7 @@ final_added names a s t v m entries e p (failed, final) lines =
           final),
     )
 
--- one more line
+-- where one more line is answered and adds what it says, an item came or the line was passed
 pub line_leads : {A : Type 0} (names : Texts) (a : Ahead) (s t v : IterState) (m : LinesState) (entries : List Entry) (line : Result (Unit {0}) (Error A)) (text : List ℕ) (item : Option (Result (String A × String A) (Error A))) → (p : Passed a s entries t) → AdvanceIs (record { bytes = p.left; fault = a.fault }) t.lines.input (Some line) text m → AddsLine names (record { lines = m; remembered = s.remembered; dialect = s.dialect }) line text item v → v.dialect ≡ s.dialect → LeadsTo names a s entries item v
 line_leads names a s t v m entries (Ok u) text item p next (inl refused) dialect = refused_leads names a s v entries item refused
 line_leads names a s t v m entries (Ok u) text item p next (inr (outcome, says, adds, lines)) dialect = text_added names a s t v m entries u text outcome item p next says adds lines dialect
@@ -266,7 +266,7 @@ pub leads_item : {A : Type 0} (names : Texts) (a : Ahead) (s v : IterState) (ent
 leads_item names a s v entries None is l = cc
 leads_item names a s v entries (Some item) is l = l
 
--- where none came, the line was passed
+-- where no item came, the line was passed
 pub leads_on : {A : Type 0} (names : Texts) (a : Ahead) (s v : IterState) (entries : List Entry) (item : Option (Result (String A × String A) (Error A))) → is_some item ≡ false → LeadsTo names a s entries item v → Passed a s entries v
 leads_on names a s v entries None is l = l
 leads_on names a s v entries (Some item) is l = cc

@@ -34,7 +34,7 @@ other_lengths same (x ∷ xs) (y ∷ ys) differ =
     elim (same x y) as (λ b. (b && pointwise same xs ys) ≡ false)
     [ true ↦ other_lengths same xs ys (λ e. differ (ap suc e)) | false ↦ refl ]
 
--- so neither are strings
+-- lists of strings of other lengths are not the same, pair by pair
 pub other_strings : {A : Type 0} (es fs : List (String A × String A)) → length es ≢ length fs →
     are_same_strings es fs ≡ false
 other_strings es fs differ = other_lengths (λ p q. string_eq p.0 q.0 && string_eq p.1 q.1) es fs differ

@@ -32,7 +32,7 @@ pub record InLine (m : LineMode) (seen : List ℕ) (a : Ahead) (s : InputState) 
   pub waits : front ≡ [] → 0 < t.unread
   pub reads : ReadsFit a s (record { bytes = left; fault = a.fault }) t
 
--- nothing was taken of it
+-- a line of which nothing was taken was walked from its start on, and leaves the text as it was
 starts_blank : (m : LineMode) (seen : List ℕ) (first : Bool) → (first ≡ true → seen ≡ []) → (first ≡ false → seen ≢ []) →
     Walks m seen (starting m first) (chars []) seen
 starts_blank m seen true none some =
@@ -95,7 +95,7 @@ pieced m seen a s t u p q text new after i taken =
       stands = part.stands;
     }
 
--- the line makes what was walked
+-- where the line was taken as text, it makes what was walked
 made : (m : LineMode) (seen : List ℕ) (a : Ahead) (s t : InputState) (p : Progress) (line text : List ℕ) →
     TakesText a s line t → Walks m seen p (chars line) text → LineMakes m seen a s (at_line_end p) text t
 made m seen a s t (Blank n) line text takes (empty, blank, walks, is) =
@@ -104,7 +104,7 @@ made m seen a s t (Going n) line text takes (other, walks, is) = (line, takes, �
 made m seen a s t Ended line text takes (other, walks) = (line, takes, λ e. (other e).0, walks)
 made m seen a s t Comment line text takes (empty, begins) = (line, takes, empty, begins)
 
--- its line feed was met
+-- where the line feed of a line was met, the line makes what was walked
 pub in_line-ends : (m : LineMode) (seen : List ℕ) (a : Ahead) (s t u : InputState) (p q : Progress) (text new : List ℕ) →
     InLine m seen a s p text t →
     ((b : Ahead) → t.left ≡ Some b → (piece : List ℕ) × TakesPiece b t piece LineEnd u × WalksOn p text (chars piece) new q) →
@@ -118,7 +118,7 @@ in_line-ends m seen a s t u p q text new i taken =
       takes = record { left = k.left; joins = k.joins; is_left = k.is_left; is_line = inl whole; reads = k.reads };
     }) k.walks
 
--- the input ended
+-- where the input ended in a line, the line makes what was walked
 pub in_line-input-ends : (m : LineMode) (seen : List ℕ) (a : Ahead) (s t u : InputState) (p q : Progress) (text new : List ℕ) →
     InLine m seen a s p text t →
     ((b : Ahead) → t.left ≡ Some b → (piece : List ℕ) × TakesPiece b t piece InputEnd u × WalksOn p text (chars piece) new q) →
@@ -147,7 +147,7 @@ in_line-input-ends m seen a s t u p q text new i taken =
     some [] (x ∷ piece) waits count spent e = cc
     some (x ∷ front) piece waits count spent e = cc
 
--- it is broken
+-- where a line is broken and was passed by up to its end, it makes a broken one
 pub in_line-breaks : (m : LineMode) (seen : List ℕ) (a : Ahead) (s t u v : InputState) (p q : Progress) (text new : List ℕ) →
     IsTold s.left a → InLine m seen a s p text t →
     ((b : Ahead) → t.left ≡ Some b → (piece : List ℕ) × TakesPiece b t piece Broken u × WalksOn p text (chars piece) new q) →
@@ -190,7 +190,7 @@ in_line-break-fails m seen a s t u v p q text new e told i taken fails =
     final_before a b s u v (λ bytes. no_line_feed bytes ≡ true) (λ bytes. no_line_feed bytes ≡ true) k.line e k.joins refl k.reads
     (λ kind front later cut why more. none_after k.line front none more) (fails b (k.is_left, told.1))
 
--- more of it is read
+-- where a piece was taken and more of the line is read, that piece too is of the line's front
 pub in_line-more : (m : LineMode) (seen : List ℕ) (a : Ahead) (s t u v : InputState) (p q : Progress) (text new : List ℕ) →
     IsTold s.left a → InLine m seen a s p text t →
     ((b : Ahead) → t.left ≡ Some b → (piece : List ℕ) × TakesPiece b t piece Unread u × WalksOn p text (chars piece) new q) →

@@ -29,7 +29,7 @@ walk-ended m text seen (x ∷ xs) ys h = at (leads m x) h (λ k e. walk-ended k 
     at None e later = e
     at (Some k) e later = later k e
 
--- the white space at the start of a text whose front has no other characters
+-- a text whose front is white space alone loses that, and the white space at the start of what follows
 pub skip-blank : (xs ys : List ℕ) → skip_leading_whitespace xs ≡ [] →
     skip_leading_whitespace (xs ++ ys) ≡ skip_leading_whitespace ys
 skip-blank [] ys h = refl
@@ -41,7 +41,7 @@ skip-blank (x ∷ xs) ys h = at (is_whitespace x) h (skip-blank xs ys)
     at true e later = later e
     at false e later = cc
 
--- and of one whose front has others
+-- a text whose front is not white space alone loses the white space at the start of that front alone
 pub skip-shown : (xs ys : List ℕ) → skip_leading_whitespace xs ≢ [] →
     skip_leading_whitespace (xs ++ ys) ≡ skip_leading_whitespace xs ++ ys
 skip-shown [] ys h = absurd (h refl)
@@ -72,7 +72,7 @@ no_comment-more xs ys none (other, shown) =
       λ none. subst (λ l. l ≢ []) (sym more) (more_some (skip_leading_whitespace xs) ys some),
     )
 
--- and what begins as one stays one
+-- what begins as a comment stays one with more behind it
 pub comment-more : (xs ys : List ℕ) → begins_with hash (skip_leading_whitespace xs) ≡ true →
     begins_with hash (skip_leading_whitespace (xs ++ ys)) ≡ true
 comment-more xs ys h =
@@ -149,7 +149,7 @@ blank_leads m c white other = at m
         behind true = outside
         behind false = λ e. none-some Outside (sym e)
 
--- so a line of white space ends with its line feed alone
+-- a line whose characters are white space ends with its line feed alone
 pub blank-ends : (m : LineMode) (seen xs text : List ℕ) → skip_leading_whitespace xs ≡ [] → walk m seen xs ≡ ended text →
     no_line_feed xs ≡ false
 blank-ends m seen [] text blank h = cc

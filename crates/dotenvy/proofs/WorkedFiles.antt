@@ -20,7 +20,7 @@ use Rattle.dotenvy.proofs.NextEntries.{lines_of, logical_entries, all_give, are_
 computed : (dialect : Dialect) (bytes : List ℕ) (entries : List Entry) → entries_of_lines dialect (line_texts bytes) ≡ entries → HasEntries dialect bytes entries
 computed dialect bytes entries e = subst (HasEntries dialect bytes) e (entries_of-are dialect bytes)
 
--- and so those that they decide
+-- the bytes decide the entries that are computed of their whole lines
 decided_computed : (dialect : Dialect) (bytes : List ℕ) (entries : List Entry) → (let lines = line_texts (up_to_last_line_feed bytes) in flat_map (logical_entries dialect) (without_open_end (lines_of (length lines) lines)) ≡ entries) → HasDecided dialect bytes entries
 decided_computed dialect bytes entries e =
     let lines = line_texts (up_to_last_line_feed bytes) in

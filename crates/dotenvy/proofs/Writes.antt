@@ -15,7 +15,7 @@ use Rattle.dotenvy.specs.Source.{WriteAppends, fault_after}
 use Rattle.dotenvy.specs.Sent.{Appended, IsFaultOf, IsLastFault, Sends}
 use Rattle.dotenvy.proofs.AskedReads.{all_of_both, ends_behind}
 
--- a slice up to the end
+-- what is taken of the bytes behind the first n, as many as are left, is all of those
 pub slice_rest : (n : ℕ) (xs : List ℕ) → take (length xs - n) (drop n xs) ≡ drop n xs
 slice_rest n xs = take_all (length xs - n) (drop n xs) (omega (arith, length-drop n xs))
 
@@ -39,7 +39,7 @@ pub appended_none : (held : Option (List ℕ)) → Appended held held []
 appended_none None = tt
 appended_none (Some xs) = ap Some (sym (append-nil xs))
 
--- a write took some bytes
+-- a write that took some bytes appends them behind what was appended
 appended_more : (held mid after : Option (List ℕ)) (front rest : List ℕ) (n : ℕ) → Appended held mid front →
     WriteAppends mid after (Ok n) rest →
     Appended held after (front ++ take n rest)
@@ -47,7 +47,7 @@ appended_more None mid after front rest n before write = tt
 appended_more (Some xs) mid after front rest n before write =
     (subst (λ o. WriteAppends o after (Ok n) rest) before write).0 ∙ ap Some (append_assoc xs front (take n rest))
 
--- a write failed
+-- a write that failed leaves what was appended as it was
 appended_same : (held mid after : Option (List ℕ)) (front rest : List ℕ) (e : Error) → Appended held mid front →
     WriteAppends mid after (Err e) rest →
     Appended held after front
@@ -101,7 +101,7 @@ positive : (n : ℕ) → n ≢ 0 → 0 < n
 positive zero some = absurd (some refl)
 positive (suc n) some = omega arith
 
--- a write took some bytes
+-- a write that took some bytes sends these, and leaves the others
 pub sending_more : (held mid after : Option (List ℕ)) (last mid_last after_last : Option ErrorKind)
     (calls mid_calls after_calls : Option (List Call)) (bytes rest : List ℕ) (count n : ℕ) →
     Sending held mid last mid_last calls mid_calls bytes rest count → WriteAppends mid after (Ok n) rest →
@@ -133,7 +133,7 @@ interrupted_last : (mid_last after_last : Option ErrorKind) (rest : List ℕ) (e
 interrupted_last mid_last after_last rest e some interrupted told = told ∙ fault_told mid_last rest e some
     ∙ ap Some interrupted
 
--- a write was interrupted
+-- a write that was interrupted sends nothing, and leaves all that was left
 pub sending_again : (held mid after : Option (List ℕ)) (last mid_last after_last : Option ErrorKind)
     (calls mid_calls after_calls : Option (List Call)) (bytes rest : List ℕ) (count : ℕ) (e : Error) →
     Sending held mid last mid_last calls mid_calls bytes rest count → WriteAppends mid after (Err e) rest →
@@ -155,7 +155,7 @@ all_in_turn [] all = tt
 all_in_turn (call ∷ []) all = tt
 all_in_turn (call ∷ next ∷ calls) (goes, all) = (goes, all_in_turn (next ∷ calls) all)
 
--- all was sent
+-- where all was sent, within the bound on writes, the call has sent its bytes
 pub sends_all : {A W : Type 0} (held : W → Option (List ℕ)) (last_fault : W → Option ErrorKind) (calls : W →
     Option (List Call)) (most : ℕ) (old new : W) (bytes rest : List ℕ) (count : ℕ) →
     Sending (held old) (held new) (last_fault old) (last_fault new) (calls old) (calls new) bytes rest count →
@@ -183,7 +183,7 @@ sends_all held last_fault calls most old new bytes rest count s empty few = reco
   ));
 }
 
--- no write was left
+-- where no write was left and some bytes were, the call answers a fault of the kind Other
 pub sends_none_left : {A W : Type 0} (held : W → Option (List ℕ)) (last_fault : W → Option ErrorKind) (calls : W →
     Option (List Call)) (most : ℕ) (old new : W) (bytes rest : List ℕ) (count : ℕ) (e : Error) →
     Sending (held old) (held new) (last_fault old) (last_fault new) (calls old) (calls new) bytes rest count →
@@ -248,7 +248,7 @@ sends_fault held last_fault calls most old mid new bytes rest count call e s few
   ));
 }
 
--- a write failed, and was not interrupted
+-- where a write failed and was not interrupted, the call answers that fault
 pub sends_failed : {A W : Type 0} (held : W → Option (List ℕ)) (last_fault : W → Option ErrorKind) (calls : W →
     Option (List Call)) (most : ℕ) (old mid new : W) (bytes rest : List ℕ) (count : ℕ) (e : Error) →
     Sending (held old) (held mid) (last_fault old) (last_fault mid) (calls old) (calls mid) bytes rest count →
@@ -266,7 +266,7 @@ zero_told : (last : Option ErrorKind) (xs : List ℕ) → xs ≢ [] → fault_af
 zero_told last [] some = absurd (some refl)
 zero_told last (x ∷ xs) some = refl
 
--- a write took nothing
+-- where a write took nothing, the call answers WriteZero
 pub sends_zero : {A W : Type 0} (held : W → Option (List ℕ)) (last_fault : W → Option ErrorKind) (calls : W →
     Option (List Call)) (most : ℕ) (old mid new : W) (bytes rest : List ℕ) (count : ℕ) (e : Error) →
     Sending (held old) (held mid) (last_fault old) (last_fault mid) (calls old) (calls mid) bytes rest count →

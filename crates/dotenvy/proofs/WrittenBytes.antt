@@ -44,7 +44,7 @@ unfolding encode
 character_bytes c true = ap (λ bs. backslash ∷ bs) (plain_bytes c)
 character_bytes c false = plain_bytes c
 
--- how a character is written, by its bytes
+-- a character that needs a backslash is written as one, then its own bytes
 pub escaped_bytes : (c : ℕ) → needs_backslash c ≡ true → encode_utf8_all (written_character c) ≡ backslash ∷ encode_utf8 c
 escaped_bytes c h = character_bytes c (needs_backslash c) ∙ ap (λ b. cond b (backslash ∷ encode_utf8 c) (encode_utf8 c)) h
 
@@ -67,7 +67,7 @@ left_len (c ∷ cs) = ap length (left_one c cs) ∙ length-append (encode_utf8_a
 pub left_at_least : (cs : List ℕ) → 2 ≤ length (left_bytes cs)
 left_at_least cs = let h = left_len cs in omega (arith, h)
 
--- how long the written form of a pair is
+-- a pair is written in the bytes of key and value, one for each character that needs a backslash, and 4
 pub pair_len : (key text : List ℕ) → IsUtf8 key → IsUtf8 text → byte_len (written_text ((chars key, chars text) ∷ [])) ≡ length key + length text + length (filter needs_backslash (chars text)) + 4
 pair_len key text utf8 utf8' =
     let p = ap length (pair_bytes key text utf8) in
@@ -101,7 +101,7 @@ next_bytes out new whole rest more c utf8 spelled h left =
     ∙ append_assoc out (encode_utf8_all (written_character c)) (left_bytes (chars more))
     ∙ ap (λ bs. out ++ bs) (sym (left_next rest more c utf8 spelled)) ∙ left
 
--- and takes no more bytes than were left
+-- one character more takes no more bytes than were left
 pub next_len : (rest more : List ℕ) (c : ℕ) → IsUtf8 rest → rest ≡ encode_utf8 c ++ more → byte_len (written_character c) ≤ length (left_bytes (chars rest))
 next_len rest more c utf8 spelled =
     let h = ap length (left_next rest more c utf8 spelled) in
@@ -136,7 +136,7 @@ run_bytes out new whole rest plain after utf8 span h left =
     ∙ append_assoc out plain (left_bytes (chars after))
     ∙ ap (λ bs. out ++ bs) (sym (left_run rest plain after utf8 span)) ∙ left
 
--- and takes no more bytes than were left
+-- a run of characters that are written as they are takes no more bytes than were left
 pub run_bytes_len : (rest plain after : List ℕ) → IsUtf8 plain
     → IsSpan is_plain_inside (chars rest) (chars plain) (chars after)
     → length plain ≤ length (left_bytes (chars rest))
