@@ -54,7 +54,8 @@ pub fn tell_differences<R: AllocGlobal + Print>(
     name: &str,
     comparisons: &[Comparison],
 ) -> io::Result<bool>
-    ensures { IfOk result (λ told. told ≡ not (length (filter is_difference comparisons.now) == 0)) }
+    ensures { IfOk result
+        (λ told. told ≡ not (length (filter is_difference comparisons.now) == 0)) }
 {
     let differences = differences(rt.alloc(), comparisons)?;
     for difference in &differences {

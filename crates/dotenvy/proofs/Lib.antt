@@ -1,67 +1,13 @@
-pub mod Basics
-mod Buffers
-pub mod Cuts
-pub mod LoadLaws
-pub mod LoadsTwice
-pub mod ReadBack
-pub mod ReadBackLines
-pub mod WrittenTexts
 pub mod Writes
 pub mod WrittenBytes
 pub mod ListedLoads
-pub mod Scans
-pub mod NameCharacters
-pub mod Values
-pub mod ValuePlaces
-pub mod Statements
-pub mod StatementPlaces
-pub mod Outcomes
-pub mod NextLine
-pub mod EntriesOnce
-pub mod DecidedFront
-pub mod Splitting
-pub mod SplitLines
-pub mod ParseLine
-pub mod NextEntries
-pub mod WorkedFiles
-pub mod SearchOnce
-pub mod Paths
-pub mod Searching
-pub mod WorkedSearches
-pub mod TextMaps
-pub mod EnvironmentTexts
-pub mod GoodPairs
-pub mod SameEnvironments
-pub mod Keys
 pub mod RememberedMaps
-pub mod Slices
-pub mod BytePlaces
-pub mod ByteRuns
-pub mod ByteTables
-pub mod ByteClasses
-pub mod StatementParts
-pub mod NextPiece
-mod BackslashRows
 pub mod Meanings
-pub mod Inputs
-pub mod AskedReads
-pub mod Nuls
-pub mod LineTexts
-pub mod LineJoins
-pub mod LineEntries
 pub mod LinePasses
 pub mod ItemRuns
 pub mod WholeLoads
-mod WalkedPieces
-mod LinePieces
-mod TakenLines
-pub mod LineCounts
 pub mod LineItems
-pub mod FirstLines
 pub mod NextItems
 pub mod KeyLookUps
-pub mod LoadRuns
 pub mod LoadedLines
-pub mod DroppedMarks
 pub mod LoadSteps
-pub mod LongestFronts

@@ -10,24 +10,24 @@ use Rattle.std.specs.Option.{option_flatten}
 use Rattle.std.proofs.lemmas.Bool.{true≢false}
 use Rattle.std.proofs.lemmas.Str.{encodes-chars, encodes_same}
 use Rattle.std.specs.declared.io.ErrorKind.{ErrorKind}
-use Rattle.dotenvy.specs.declared.dialect.Dialect.{Dialect}
-use Rattle.dotenvy.specs.declared.errors.Error.{Error}
-use Rattle.dotenvy.specs.Statement.{is_key}
-use Rattle.dotenvy.specs.Errors.{IsMemory}
-use Rattle.dotenvy.specs.Entries.{Failure, Memory, Entry, Fails}
-use Rattle.dotenvy.specs.Items.{LookUp, no_values}
-use Rattle.dotenvy.specs.Environment.{Texts}
+use Rattle.dotenv_format.specs.declared.dialect.Dialect.{Dialect}
+use Rattle.dotenv_base.specs.declared.errors.Error.{Error}
+use Rattle.dotenv_format.specs.Statement.{is_key}
+use Rattle.dotenv_base.specs.Errors.{IsMemory}
+use Rattle.dotenv_format.specs.Entries.{Failure, Memory, Entry, Fails}
+use Rattle.dotenv_format.specs.Items.{LookUp, no_values}
+use Rattle.dotenv_base.specs.Environment.{Texts}
 use Rattle.dotenvy.specs.Names.{values_of, recalled_of}
-use Rattle.dotenvy.specs.Calls.{Call}
-use Rattle.dotenvy.specs.Source.{Ahead}
-use Rattle.dotenvy.specs.declared.lines.Stage.TheVariants.{Open}
+use Rattle.dotenv_base.specs.Calls.{Call}
+use Rattle.dotenv_base.specs.Source.{Ahead}
+use Rattle.dotenv_lines.specs.declared.lines.Stage.TheVariants.{Open}
 use Rattle.dotenvy.specs.Iter.{IterState, fresh}
-use Rattle.dotenvy.specs.Loads.{load_result}
+use Rattle.dotenv_format.specs.Loads.{load_result}
 use Rattle.dotenvy.specs.LoadsLeft.{IsAnswer, Leaves, Rule, LoadsLeft, ChangesKeys}
-use Rattle.dotenvy.specs.Written.{written_bytes}
-use Rattle.dotenvy.proofs.Keys.{encodes-key}
+use Rattle.dotenv_format.specs.Written.{written_bytes}
+use Rattle.dotenv_base.proofs.Keys.{encodes-key}
 use Rattle.dotenvy.specs.Sent.{Writes}
-use Rattle.dotenvy.specs.Environment.{AreTexts}
+use Rattle.dotenv_base.specs.Environment.{AreTexts}
 use Rattle.dotenvy.specs.Listed.{HoldsLoaded, pairs_of, ListsLoaded, Lists, ListsSome}
 
 -- refused memory leaves a sink as it was

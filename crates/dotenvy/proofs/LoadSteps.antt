@@ -1,5 +1,32 @@
 -- How far a load came, what each line adds, and how a load ends.
-use Rattle.std.proofs.Common.{◌≡◌, ◌≢◌, ℕ, true, List, [], ◌∷◌, ◌++◌, length, length-append, Option, Some, None, Result, Ok, Err, refl, sym, ◌∙◌, ap, subst, inl, inr, append_assoc, arith, string_bytes}
+use Rattle.std.proofs.Common.{
+  ◌≡◌,
+  ◌≢◌,
+  ℕ,
+  true,
+  List,
+  [],
+  ◌∷◌,
+  ◌++◌,
+  length,
+  length-append,
+  Option,
+  Some,
+  None,
+  Result,
+  Ok,
+  Err,
+  refl,
+  sym,
+  ◌∙◌,
+  ap,
+  subst,
+  inl,
+  inr,
+  append_assoc,
+  arith,
+  string_bytes,
+}
 use Rattle.std.specs.Prelude.{◌⊎◌}
 use Rattle.std.specs.Str.{chars}
 use Rattle.std.specs.IoError.{error_kind}
@@ -9,35 +36,52 @@ use Rattle.std.specs.declared.io.ErrorKind.{ErrorKind}
 use Rattle.std.specs.declared.io.ErrorKind.TheVariants.{InvalidData, Other}
 use Rattle.std.proofs.lemmas.Option.{none-some}
 use Rattle.std.proofs.lemmas.Str.{chars-nil}
-use Rattle.dotenvy.specs.declared.dialect.Dialect.{Dialect}
-use Rattle.dotenvy.specs.declared.errors.Error.{Error}
-use Rattle.dotenvy.specs.declared.errors.Error.TheVariants as error
-use Rattle.dotenvy.specs.declared.lines.Stage.TheVariants.{Open, Ended}
-use Rattle.dotenvy.specs.Errors.{IsMemory}
-use Rattle.dotenvy.specs.LogicalLine.{Logical, Skip, Text, Open as OpenEnd, Broken}
-use Rattle.dotenvy.specs.Line.{Outcome, Nothing, Says}
-use Rattle.dotenvy.specs.Entries.{Failure, LineParse, Io, Memory, Entry, Fails, outcome_entries, Gives}
-use Rattle.dotenvy.specs.Decided.{HasDecided}
-use Rattle.dotenvy.specs.Marks.{without_mark}
-use Rattle.dotenvy.specs.Items.{LookUp}
-use Rattle.dotenvy.specs.Run.{Mode, Loaded, run}
-use Rattle.dotenvy.specs.Loads.{SameLoad}
-use Rattle.dotenvy.specs.Environment.{Texts}
+use Rattle.dotenv_format.specs.declared.dialect.Dialect.{Dialect}
+use Rattle.dotenv_base.specs.declared.errors.Error.{Error}
+use Rattle.dotenv_base.specs.declared.errors.Error.TheVariants as error
+use Rattle.dotenv_lines.specs.declared.lines.Stage.TheVariants.{Open, Ended}
+use Rattle.dotenv_base.specs.Errors.{IsMemory}
+use Rattle.dotenv_format.specs.LogicalLine.{Logical, Skip, Text, Open as OpenEnd, Broken, IsOpen}
+use Rattle.dotenv_format.specs.Line.{Outcome, Nothing, Says}
+use Rattle.dotenv_format.specs.Entries.{Failure, LineParse, Io, Memory, Entry, Fails, outcome_entries, Gives}
+use Rattle.dotenv_format.specs.Decided.{HasDecided}
+use Rattle.dotenv_format.specs.Marks.{without_mark}
+use Rattle.dotenv_format.specs.Items.{LookUp}
+use Rattle.dotenv_format.specs.Run.{Mode, Loaded, run}
+use Rattle.dotenv_format.specs.Loads.{SameLoad}
+use Rattle.dotenv_base.specs.Environment.{Texts}
 use Rattle.dotenvy.specs.Remembered.{Remembered}
 use Rattle.dotenvy.specs.Names.{values_of, recalled_of}
-use Rattle.dotenvy.specs.Source.{Ahead}
-use Rattle.dotenvy.specs.Input.{InputState, IsTold, ReadsFit, BoundIsMet, IsFinal, begins_mark, DropsMark, end_reads}
-use Rattle.dotenvy.specs.Lines.{LinesState, IsOpen, IsAtEnd, IsNextAlways, TakesNext, IsUndecided, GoesOn}
-use Rattle.dotenvy.specs.Splitter.{AdvanceIs}
-use Rattle.dotenvy.specs.Reading.{HasLeft, told_fault, certain_bytes, StopsAtBound, IsReading}
+use Rattle.dotenv_base.specs.Source.{Ahead}
+use Rattle.dotenv_lines.specs.Input.{
+  InputState,
+  IsTold,
+  ReadsFit,
+  BoundIsMet,
+  IsFinal,
+  begins_mark,
+  DropsMark,
+  end_reads,
+}
+use Rattle.dotenv_lines.specs.Lines.{LinesState, IsAtEnd, IsNextAlways, TakesNext, IsUndecided, GoesOn}
+use Rattle.dotenv_lines.specs.Splitter.{AdvanceIs}
+use Rattle.dotenv_lines.specs.Reading.{HasLeft, told_fault, certain_bytes, StopsAtBound, IsReading}
 use Rattle.dotenvy.specs.LoadsLeft.{IsAnswer, Leaves, Rule, LoadsLeft}
 use Rattle.dotenvy.specs.LoadedLine.{LoadsLine}
 use Rattle.dotenvy.specs.Iter.{IterState}
-use Rattle.dotenvy.proofs.Inputs.{ahead_of, the_bytes, the_fault, fits_more}
-use Rattle.dotenvy.proofs.LineEntries.{left_once, left-none, left-fault, took, no_lines, decided-next, decided-none}
-use Rattle.dotenvy.proofs.Outcomes.{one_outcome}
-use Rattle.dotenvy.proofs.LoadRuns.{run-goes_on, run-stops, same-then}
-use Rattle.dotenvy.proofs.DroppedMarks.{mark_decides, marked}
+use Rattle.dotenv_lines.proofs.Inputs.{ahead_of, the_bytes, the_fault, fits_more}
+use Rattle.dotenv_lines.proofs.LineEntries.{
+  left_once,
+  left-none,
+  left-fault,
+  took,
+  no_lines,
+  decided-next,
+  decided-none,
+}
+use Rattle.dotenv_format.proofs.Outcomes.{one_outcome}
+use Rattle.dotenv_format.proofs.LoadRuns.{run-goes_on, run-stops, same-then}
+use Rattle.dotenv_lines.proofs.DroppedMarks.{mark_decides, marked}
 
 -- a load of these entries: its mode and dialect, what is told, the input at its start, and what names meant then
 pub record Load : Type 0 where
@@ -462,7 +506,8 @@ ends_mark mode s v old a entries e has drops =
 pub came_line : {A : Type 0} (mode : Mode) (s t u : IterState) (old names new : Texts)
     (line : Result (Unit {0}) (Error A)) (text : List ℕ) → CameTo mode s old names t → line ≡ Ok tt →
     (t.lines.stage ≢ Open → ◌≡◌ {A = Option (Result (Unit {0}) (Error A))} (Some line) None) →
-    ((a : Ahead) → t.lines.stage ≡ Open → IsTold t.lines.input.left a → AdvanceIs a t.lines.input (Some line) text u.lines) →
+    ((a : Ahead) → t.lines.stage ≡ Open → IsTold t.lines.input.left a → AdvanceIs a t.lines.input (Some
+    line) text u.lines) →
     LoadsLine {A = A} mode t.dialect t.remembered (chars text) names (Ok tt) new →
     u.remembered ≡ t.remembered → u.dialect ≡ t.dialect → CameTo mode s old new u
 came_line {A = A} mode s t u old names new line text came is shut next loads recall dialect opened a told entries has =
@@ -470,7 +515,8 @@ came_line {A = A} mode s t u old names new line text came is shut next loads rec
     let k = came opened a told entries has in
     let given = next (ahead_of k.left a.fault) (came_open l names t line k shut) k.is_told in
     line_leads l names new t u text k
-    (subst (λ r. AdvanceIs {A = A} (ahead_of k.left a.fault) t.lines.input (Some r) text u.lines) is given) loads recall dialect
+    (subst (λ r. AdvanceIs {A = A} (ahead_of k.left a.fault) t.lines.input (Some r) text u.lines) is given) loads
+    recall dialect
 
 -- where a load came to t and the next line is a fault, or its value is one, the load answers that fault
 pub loads_line : {A : Type 0} (mode : Mode) (s t : IterState) (m : LinesState) (old names new : Texts)
@@ -489,7 +535,8 @@ loads_line {A = A} mode s t m old names new line text e opened came is shut next
 
 -- where a load came to t and a fault stands in the place of a line, the load answers that fault
 pub loads_fault : {A : Type 0} (mode : Mode) (s t : IterState) (m : LinesState) (old names : Texts)
-    (line : Result (Unit {0}) (Error A)) (text : List ℕ) (e : Error A) → s.lines.stage ≡ Open → CameTo mode s old names t →
+    (line : Result (Unit {0}) (Error A)) (text : List ℕ) (e : Error A) → s.lines.stage ≡ Open →
+    CameTo mode s old names t →
     line ≡ Err e →
     (t.lines.stage ≢ Open → ◌≡◌ {A = Option (Result (Unit {0}) (Error A))} (Some line) None) →
     ((a : Ahead) → t.lines.stage ≡ Open → IsTold t.lines.input.left a → AdvanceIs a t.lines.input (Some line) text m) →
@@ -498,7 +545,8 @@ loads_fault {A = A} mode s t m old names line text e opened came is shut next = 
     let l = load_of mode s old a entries in
     let k = came opened a told entries has in
     let given = next (ahead_of k.left a.fault) (came_open l names t line k shut) k.is_told in
-    ends_fault l names t m text e k (subst (λ r. AdvanceIs {A = A} (ahead_of k.left a.fault) t.lines.input (Some r) text m) is given)
+    ends_fault l names t m text e k
+    (subst (λ r. AdvanceIs {A = A} (ahead_of k.left a.fault) t.lines.input (Some r) text m) is given)
 
 -- where a load came to t and there is no more line, the load answers that all went well
 pub loads_none : {A : Type 0} (mode : Mode) (s t : IterState) (m : LinesState) (old names : Texts) (text : List ℕ) →

@@ -1,32 +1,53 @@
 -- What a load leaves of one line, at each way out.
-use Rattle.std.proofs.Common.{◌≡◌, ℕ, Bool, true, false, List, [], ◌∷◌, Result, Ok, Err, ◌⊎◌, inl, inr, refl, sym, ◌∙◌, ap, subst, string_bytes}
+use Rattle.std.proofs.Common.{
+  ◌≡◌,
+  ℕ,
+  Bool,
+  true,
+  false,
+  List,
+  [],
+  ◌∷◌,
+  Result,
+  Ok,
+  Err,
+  ◌⊎◌,
+  inl,
+  inr,
+  refl,
+  sym,
+  ◌∙◌,
+  ap,
+  subst,
+  string_bytes,
+}
 use Rattle.std.specs.Prelude.{not, IsTrue, IfErr, MatchResult, OnOk, OnErr, if◌then◌else◌}
 use Rattle.std.specs.Str.{chars}
 use Rattle.std.specs.FinMap.{insert, get, contains_key}
 use Rattle.std.specs.declared.string.String.{String}
 use Rattle.std.proofs.lemmas.Str.{IsUtf8-string_bytes}
-use Rattle.dotenvy.specs.declared.dialect.Dialect.{Dialect}
-use Rattle.dotenvy.specs.declared.errors.Error.{Error}
+use Rattle.dotenv_format.specs.declared.dialect.Dialect.{Dialect}
+use Rattle.dotenv_base.specs.declared.errors.Error.{Error}
 use Rattle.dotenvy.specs.declared.parse.Declaration.{Declaration}
-use Rattle.dotenvy.specs.Errors.{IsMemory, IsNulOf, IsLineParseOf}
-use Rattle.dotenvy.specs.Statement.{is_key}
-use Rattle.dotenvy.specs.Line.{Pair, Fault as SaysFault, Says}
-use Rattle.dotenvy.specs.Entries.{Declares, Nul}
-use Rattle.dotenvy.specs.Items.{meaning, with_value}
-use Rattle.dotenvy.specs.Run.{Mode, Keep, Loaded, sets, run, has_nul}
-use Rattle.dotenvy.specs.Environment.{Texts, Env, value_ok, KeepsNames}
+use Rattle.dotenv_base.specs.Errors.{IsMemory, IsNulOf, IsLineParseOf}
+use Rattle.dotenv_format.specs.Statement.{is_key}
+use Rattle.dotenv_format.specs.Line.{Pair, Fault as SaysFault, Says}
+use Rattle.dotenv_format.specs.Entries.{Declares, Nul}
+use Rattle.dotenv_format.specs.Items.{meaning, with_value}
+use Rattle.dotenv_format.specs.Run.{Mode, Keep, Loaded, sets, run, has_nul}
+use Rattle.dotenv_base.specs.Environment.{Texts, Env, value_ok, KeepsNames}
 use Rattle.dotenvy.specs.Remembered.{Remembered}
 use Rattle.dotenvy.specs.Names.{values_of, recalled_of, names_of}
 use Rattle.dotenvy.specs.LoadsLeft.{Leaves, ChangesKeys}
 use Rattle.dotenvy.specs.LoadedLine.{LoadsLine}
 use Rattle.dotenvy.specs.ScanLine.{IsDeclared, IsPairOf}
-use Rattle.dotenvy.proofs.Basics.{not_is, not_false}
-use Rattle.dotenvy.proofs.Nuls.{value_ok-chars}
-use Rattle.dotenvy.proofs.Keys.{chars-key}
+use Rattle.dotenv_format.proofs.Basics.{not_is, not_false}
+use Rattle.dotenv_base.proofs.Nuls.{value_ok-chars}
+use Rattle.dotenv_base.proofs.Keys.{chars-key}
 use Rattle.dotenvy.proofs.KeyLookUps.{values_of-insert, is_none-contains, changes_keys-insert}
 use Rattle.dotenvy.proofs.LinePasses.{chars-spelled, says_declared}
-use Rattle.dotenvy.proofs.LoadRuns.{run-one}
-use Rattle.dotenvy.proofs.TextMaps.{keeps_insert}
+use Rattle.dotenv_format.proofs.LoadRuns.{run-one}
+use Rattle.dotenv_base.proofs.TextMaps.{keeps_insert}
 
 -- a line's fault is the answer
 pub fault_loaded : {A : Type 0} (mode : Mode) (dialect : Dialect) (remembered : Remembered) (line text : List ℕ)

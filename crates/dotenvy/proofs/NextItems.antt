@@ -1,5 +1,37 @@
 -- The next item: the lines that add nothing are passed, and the first that adds one gives it.
-use Rattle.std.proofs.Common.{◌≡◌, ◌≢◌, ℕ, ◌+◌, ◌≤◌, true, false, List, [], ◌∷◌, ◌++◌, length, drop, length-append, append_assoc, Option, Some, None, Result, Ok, Err, ◌⊎◌, inl, inr, refl, sym, ◌∙◌, ap, subst, arith, string_bytes}
+use Rattle.std.proofs.Common.{
+  ◌≡◌,
+  ◌≢◌,
+  ℕ,
+  ◌+◌,
+  ◌≤◌,
+  true,
+  false,
+  List,
+  [],
+  ◌∷◌,
+  ◌++◌,
+  length,
+  drop,
+  length-append,
+  append_assoc,
+  Option,
+  Some,
+  None,
+  Result,
+  Ok,
+  Err,
+  ◌⊎◌,
+  inl,
+  inr,
+  refl,
+  sym,
+  ◌∙◌,
+  ap,
+  subst,
+  arith,
+  string_bytes,
+}
 use Rattle.std.specs.Str.{chars}
 use Rattle.std.specs.declared.string.String.{String}
 use Rattle.std.specs.declared.io.ErrorKind.{ErrorKind}
@@ -7,29 +39,48 @@ use Rattle.std.specs.declared.io.ErrorKind.TheVariants.{InvalidData}
 use Rattle.std.specs.Prelude.{is_some}
 use Rattle.std.proofs.lemmas.Str.{chars-nil}
 use Rattle.std.proofs.lemmas.Option.{none-some}
-use Rattle.dotenvy.specs.declared.dialect.Dialect.{Dialect}
-use Rattle.dotenvy.specs.declared.errors.Error.{Error}
-use Rattle.dotenvy.specs.declared.errors.Error.TheVariants.{LineParse, Io, EnvVar, Nul, Memory}
-use Rattle.dotenvy.specs.declared.lines.Stage.TheVariants.{Open, Ended, Failed}
-use Rattle.dotenvy.specs.LogicalLine.{Logical, Skip, Text, Open as OpenEnd, Broken, IsNext}
-use Rattle.dotenvy.specs.Line.{Outcome, Nothing, Says}
-use Rattle.dotenvy.specs.Entries.{Entry, Fails, LineParse as FailsLine, Io as FailsIo, outcome_entries, Gives, GiveAll}
-use Rattle.dotenvy.specs.PhysicalLines.{physical_lines}
-use Rattle.dotenvy.specs.Decided.{HasDecided}
-use Rattle.dotenvy.specs.Environment.{Texts}
-use Rattle.dotenvy.specs.Source.{Ahead}
-use Rattle.dotenvy.specs.Input.{InputState, IsTold, ReadsFit, IsFinal, end_reads}
-use Rattle.dotenvy.specs.Lines.{LinesState, whole_lines, IsOpen, IsAtEnd, IsNextAlways, TakesNext, TakesFault, IsUndecided, GoesOn, FailsFor}
-use Rattle.dotenvy.specs.Splitter.{AdvanceIs}
-use Rattle.dotenvy.specs.Reading.{HasLeft}
+use Rattle.dotenv_format.specs.declared.dialect.Dialect.{Dialect}
+use Rattle.dotenv_base.specs.declared.errors.Error.{Error}
+use Rattle.dotenv_base.specs.declared.errors.Error.TheVariants.{LineParse, Io, EnvVar, Nul, Memory}
+use Rattle.dotenv_lines.specs.declared.lines.Stage.TheVariants.{Open, Ended, Failed}
+use Rattle.dotenv_format.specs.LogicalLine.{Logical, Skip, Text, Open as OpenEnd, Broken, IsNext, IsOpen}
+use Rattle.dotenv_format.specs.Line.{Outcome, Nothing, Says}
+use Rattle.dotenv_format.specs.Entries.{
+  Entry,
+  Fails,
+  LineParse as FailsLine,
+  Io as FailsIo,
+  outcome_entries,
+  Gives,
+  GiveAll,
+}
+use Rattle.dotenv_format.specs.PhysicalLines.{physical_lines}
+use Rattle.dotenv_format.specs.Decided.{HasDecided}
+use Rattle.dotenv_base.specs.Environment.{Texts}
+use Rattle.dotenv_base.specs.Source.{Ahead}
+use Rattle.dotenv_lines.specs.Input.{InputState, IsTold, ReadsFit, IsFinal, end_reads}
+use Rattle.dotenv_lines.specs.Lines.{
+  LinesState,
+  whole_lines,
+  IsAtEnd,
+  IsNextAlways,
+  TakesNext,
+  TakesFault,
+  IsUndecided,
+  GoesOn,
+  FailsFor,
+}
+use Rattle.dotenv_lines.specs.Splitter.{AdvanceIs}
+use Rattle.dotenv_lines.specs.Reading.{HasLeft}
 use Rattle.dotenvy.specs.Names.{recalled_of}
 use Rattle.dotenvy.specs.Iter.{IterState}
-use Rattle.dotenvy.specs.NextItem.{text_of, DecideFirst, UsesLines, ItemIs}
+use Rattle.dotenvy.specs.NextItem.{DecideFirst, UsesLines, ItemIs}
+use Rattle.dotenv_format.specs.Items.{text_of}
 use Rattle.dotenvy.specs.LineItem.{lines_after, AddsEntries, IsRefused, AddsLine}
-use Rattle.dotenvy.proofs.Inputs.{ahead_of, fits_more, final_before}
-use Rattle.dotenvy.proofs.LineEntries.{left_once, left-none, took, no_lines, decided-next, decided-none}
-use Rattle.dotenvy.proofs.Outcomes.{one_outcome}
-use Rattle.dotenvy.proofs.FirstLines.{first_lines_more, give_more}
+use Rattle.dotenv_lines.proofs.Inputs.{ahead_of, fits_more, final_before}
+use Rattle.dotenv_lines.proofs.LineEntries.{left_once, left-none, took, no_lines, decided-next, decided-none}
+use Rattle.dotenv_format.proofs.Outcomes.{one_outcome}
+use Rattle.dotenv_format.proofs.FirstLines.{first_lines_more, give_more}
 use Rattle.std.proofs.lemmas.List.{drop-drop}
 
 -- from s, where these entries are left, lines that add nothing were passed
@@ -75,43 +126,69 @@ some_left : (a b : Ahead) (o : Option Ahead) → o ≡ Some a → o ≡ Some b �
 some_left a b o h k = cc
 
 -- where no byte is left and no fault is told, there are no entries left
-no_entries : (dialect : Dialect) (fault : Option ErrorKind) (left : List ℕ) (entries : List Entry) → HasLeft dialect fault left entries → left ≡ [] → fault ≡ None → entries ≡ []
-no_entries dialect fault left entries has empty none = left_once dialect fault left entries [] has (left-none dialect fault left empty none)
+no_entries : (dialect : Dialect) (fault : Option ErrorKind) (left : List ℕ) (entries : List Entry) →
+    HasLeft dialect fault left entries → left ≡ [] → fault ≡ None → entries ≡ []
+no_entries dialect fault left entries has empty none =
+    left_once dialect fault left entries [] has (left-none dialect fault left empty none)
 
 -- where no line is left there is no entry and no fault
 pub passed_all : (a : Ahead) (s t : IterState) (u : LinesState) (entries : List Entry) → (p : Passed a s entries t) →
     (t.lines.stage ≢ Open → u ≡ t.lines) →
-    (t.lines.stage ≡ Open → (p.left ≡ []) × (a.fault ≡ None) × (u.stage ≡ Ended)) → (entries ≡ []) × (a.fault ≡ None) × (u.stage ≡ Ended)
+    (t.lines.stage ≡ Open → (p.left ≡ []) × (a.fault ≡ None) × (u.stage ≡ Ended)) →
+    (entries ≡ []) × (a.fault ≡ None) × (u.stage ≡ Ended)
 passed_all a s t u entries p shut told = at p.goes_on
   where
     at : GoesOn t.lines → (entries ≡ []) × (a.fault ≡ None) × (u.stage ≡ Ended)
-    at (inl is_open) = let e = told is_open in (no_entries s.dialect a.fault p.left entries p.has_left e.0 e.1, e.1, e.2)
+    at (inl is_open) =
+        let e = told is_open in (no_entries s.dialect a.fault p.left entries p.has_left e.0 e.1, e.1, e.2)
     at (inr (ended, nothing)) =
         let same = some_left (ahead_of p.left a.fault) (ahead_of [] None) t.lines.input.left p.is_left nothing in
-        let not_open : t.lines.stage ≢ Open = λ h. (let f : Ended ≡ Open = sym ended ∙ h in cc) in
-        (no_entries s.dialect a.fault p.left entries p.has_left (ap (λ b. b.bytes) same) (ap (λ b. b.fault) same), ap (λ b. b.fault) same, ap (λ l. l.stage) (shut not_open) ∙ ended)
+        let not_open : t.lines.stage ≢ Open = λ h. (let f : Ended ≡ Open = sym ended ∙ h in cc) in (
+          no_entries s.dialect a.fault p.left entries p.has_left (ap (λ b. b.bytes) same) (ap (λ b. b.fault) same),
+          ap (λ b. b.fault) same,
+          ap (λ l. l.stage) (shut not_open) ∙ ended,
+        )
 
 -- what one more line leads to: an item, or all that was passed
-abbrev pub LeadsTo : {A : Type 0} → Texts → Ahead → IterState → List Entry → Option (Result (String A × String A) (Error A)) → IterState → Type 0
+abbrev pub LeadsTo : {A : Type 0} → Texts → Ahead → IterState → List Entry →
+    Option (Result (String A × String A) (Error A)) → IterState → Type 0
 LeadsTo names a s entries None v = Passed a s entries v
 LeadsTo names a s entries (Some item) v = ItemIs names a s entries (Some item) v
 
 -- where bytes decide no entry, with one more logical line they decide its entries
-decide_more : (dialect : Dialect) (used bytes : List ℕ) (count : ℕ) (next : Logical) (front : List Entry) → DecideFirst dialect used [] → (IsOpen next → ⊥) → IsNextAlways bytes count next → Gives dialect next front → DecideFirst dialect (used ++ bytes) front
+decide_more : (dialect : Dialect) (used bytes : List ℕ) (count : ℕ) (next : Logical) (front : List Entry) →
+    DecideFirst dialect used [] → (IsOpen next → ⊥) → IsNextAlways bytes count next → Gives dialect next front →
+    DecideFirst dialect (used ++ bytes) front
 decide_more dialect used bytes count next front first no_open always gives more decided has =
-    subst (λ all. HasDecided dialect all (front ++ decided)) (sym (append_assoc used bytes more)) (first (bytes ++ more) (front ++ decided) (decided-next dialect bytes more count next front decided no_open always gives has))
+    subst (λ all. HasDecided dialect all (front ++ decided)) (sym (append_assoc used bytes more))
+    (first (bytes ++ more) (front ++ decided)
+    (decided-next dialect bytes more count next front decided no_open always gives has))
 
 -- the bytes before which a line was taken decide what was passed
-passed_stays : (a : Ahead) (s t : IterState) (entries : List Entry) (next : Logical) (m : InputState) → (p : Passed a s entries t) → TakesNext (record { bytes = p.left; fault = a.fault }) t.lines.input next m → DecideFirst s.dialect p.used []
-passed_stays a s t entries next m p k = elim p.stays [ inl ended ↦ absurd (k.some (no_lines a.fault p.left ended.1)) | inr first ↦ first ]
+passed_stays : (a : Ahead) (s t : IterState) (entries : List Entry) (next : Logical) (m : InputState) →
+    (p : Passed a s entries t) → TakesNext (record { bytes = p.left; fault = a.fault }) t.lines.input next m →
+    DecideFirst s.dialect p.used []
+passed_stays a s t entries next m p k =
+    elim p.stays [ inl ended ↦ absurd (k.some (no_lines a.fault p.left ended.1)) | inr first ↦ first ]
 
 -- behind the line taken the end was read, or the bytes used so far decide its entries whatever follows
-taken_stays : (a : Ahead) (s t : IterState) (entries front : List Entry) (next : Logical) (m : InputState) → (p : Passed a s entries t) → (k : TakesNext (record { bytes = p.left; fault = a.fault }) t.lines.input next m) → Gives s.dialect next front → IsAtEnd a.fault k.left m ⊎ DecideFirst s.dialect (p.used ++ k.used) front
-taken_stays a s t entries front next m p k gives = elim k.stays [ inl ended ↦ inl ended | inr always ↦ inr (decide_more s.dialect p.used k.used k.count next front (passed_stays a s t entries next m p k) always.0 always.1 gives) ]
+taken_stays : (a : Ahead) (s t : IterState) (entries front : List Entry) (next : Logical) (m : InputState) →
+    (p : Passed a s entries t) → (k : TakesNext (record { bytes = p.left; fault = a.fault }) t.lines.input next m) →
+    Gives s.dialect next front → IsAtEnd a.fault k.left m ⊎ DecideFirst s.dialect (p.used ++ k.used) front
+taken_stays a s t entries front next m p k gives =
+    elim k.stays [
+      | inl ended ↦ inl ended
+      | inr always ↦
+          inr (decide_more s.dialect p.used k.used k.count next front (passed_stays a s t entries next m p k)
+          always.0 always.1 gives)
+    ]
 
 -- the bytes are those that were passed, those of the line that was taken, and those that are left
-taken_joins : (a : Ahead) (s t : IterState) (entries : List Entry) (next : Logical) (m : InputState) → (p : Passed a s entries t) → (k : TakesNext (record { bytes = p.left; fault = a.fault }) t.lines.input next m) → a.bytes ≡ (p.used ++ k.used) ++ k.left
-taken_joins a s t entries next m p k = p.joins ∙ ap (λ bytes. p.used ++ bytes) k.joins ∙ sym (append_assoc p.used k.used k.left)
+taken_joins : (a : Ahead) (s t : IterState) (entries : List Entry) (next : Logical) (m : InputState) →
+    (p : Passed a s entries t) → (k : TakesNext (record { bytes = p.left; fault = a.fault }) t.lines.input next m) →
+    a.bytes ≡ (p.used ++ k.used) ++ k.left
+taken_joins a s t entries next m p k =
+    p.joins ∙ ap (λ bytes. p.used ++ bytes) k.joins ∙ sym (append_assoc p.used k.used k.left)
 
 -- with one more logical line taken, the lines used are those that were passed and that one
 abbrev used_more : (a : Ahead) (s t : IterState) (entries : List Entry) (next : Logical) (m : InputState) →
@@ -132,7 +209,11 @@ later_more a s t entries next m p k =
     k.later ∙ ap (drop k.count) p.later ∙ drop-drop k.count p.uses.count (whole_lines a)
 
 -- where a line was taken and its own entries added, an item came or the line was passed
-added : {A : Type 0} (names : Texts) (a : Ahead) (s t v : IterState) (m : LinesState) (entries front : List Entry) (next : Logical) (item : Option (Result (String A × String A) (Error A))) → (p : Passed a s entries t) → TakesNext (record { bytes = p.left; fault = a.fault }) t.lines.input next m.input → GoesOn m → Gives s.dialect next front → AddsEntries names s.remembered front item v.remembered → v.lines ≡ m → v.dialect ≡ s.dialect → LeadsTo names a s entries item v
+added : {A : Type 0} (names : Texts) (a : Ahead) (s t v : IterState) (m : LinesState) (entries front : List Entry)
+    (next : Logical) (item : Option (Result (String A × String A) (Error A))) → (p : Passed a s entries t) →
+    TakesNext (record { bytes = p.left; fault = a.fault }) t.lines.input next m.input → GoesOn m →
+    Gives s.dialect next front → AddsEntries names s.remembered front item v.remembered → v.lines ≡ m →
+    v.dialect ≡ s.dialect → LeadsTo names a s entries item v
 added names a s t v m entries [] next None p k goes_on gives adds lines dialect =
     let l = took s.dialect a.fault p.left entries t.lines.input m.input next [] k gives p.has_left in record {
       used = p.used ++ k.used;
@@ -142,11 +223,16 @@ added names a s t v m entries [] next None p k goes_on gives adds lines dialect 
       give_none = give_more s.dialect p.silent next [] [] p.give_none gives;
       uses = used_more a s t entries next m.input p k;
       later = later_more a s t entries next m.input p k;
-      stays = subst (λ n. IsAtEnd a.fault k.left n.input ⊎ DecideFirst s.dialect (p.used ++ k.used) []) (sym lines) (taken_stays a s t entries [] next m.input p k gives);
+      stays =
+          subst (λ n. IsAtEnd a.fault k.left n.input ⊎ DecideFirst s.dialect (p.used ++ k.used) []) (sym lines)
+          (taken_stays a s t entries [] next m.input p k gives);
       is_left = ap (λ n. n.input.left) lines ∙ k.is_left;
       has_left = subst (HasLeft s.dialect a.fault k.left) (sym l.2) l.1;
       goes_on = subst GoesOn (sym lines) goes_on;
-      reads = subst (λ n. ReadsFit a s.lines.input (ahead_of k.left a.fault) n.input) (sym lines) (fits_more a (ahead_of p.left a.fault) (ahead_of k.left a.fault) s.lines.input t.lines.input m.input p.reads k.reads);
+      reads =
+          subst (λ n. ReadsFit a s.lines.input (ahead_of k.left a.fault) n.input) (sym lines)
+          (fits_more a (ahead_of p.left a.fault) (ahead_of k.left a.fault) s.lines.input t.lines.input m.input
+          p.reads k.reads);
       remembered = adds;
       dialect = dialect;
     }
@@ -170,34 +256,63 @@ added names a s t v m entries (entry ∷ later) next (Some item) p k goes_on giv
           gives = subst (λ es. Gives s.dialect next (entry ∷ es)) one gives;
           uses = used_more a s t entries next m.input p k;
         };
-        stays = subst (λ n. IsAtEnd a.fault k.left n.input ⊎ DecideFirst s.dialect (p.used ++ k.used) (entry ∷ [])) (sym lines) (subst (λ es. IsAtEnd a.fault k.left m.input ⊎ DecideFirst s.dialect (p.used ++ k.used) (entry ∷ es)) one (taken_stays a s t entries (entry ∷ later) next m.input p k gives));
+        stays =
+            subst (λ n. IsAtEnd a.fault k.left n.input ⊎ DecideFirst s.dialect (p.used ++ k.used) (entry ∷ []))
+            (sym lines) (subst
+            (λ es. IsAtEnd a.fault k.left m.input ⊎ DecideFirst s.dialect (p.used ++ k.used) (entry ∷ es)) one
+            (taken_stays a s t entries (entry ∷ later) next m.input p k gives));
         is_left = ap (λ n. n.input.left) lines ∙ k.is_left;
         has_left = l.1;
         goes_on = subst GoesOn (sym lines) goes_on;
-        reads = subst (λ n. ReadsFit a s.lines.input (ahead_of k.left a.fault) n.input) (sym lines) (fits_more a (ahead_of p.left a.fault) (ahead_of k.left a.fault) s.lines.input t.lines.input m.input p.reads k.reads);
+        reads =
+            subst (λ n. ReadsFit a s.lines.input (ahead_of k.left a.fault) n.input) (sym lines)
+            (fits_more a (ahead_of p.left a.fault) (ahead_of k.left a.fault) s.lines.input t.lines.input m.input
+            p.reads k.reads);
         remembers = remembers;
         dialect = dialect;
       },
     )
 
 -- where a text was taken and adds what it says, an item came or the line was passed
-text_added : {A : Type 0} (names : Texts) (a : Ahead) (s t v : IterState) (m : LinesState) (entries : List Entry) (u : Unit {0}) (text : List ℕ) (outcome : Outcome) (item : Option (Result (String A × String A) (Error A))) → (p : Passed a s entries t) → AdvanceIs {A = A} (record { bytes = p.left; fault = a.fault }) t.lines.input (Some (Ok u)) text m → Says s.dialect (chars text) outcome → AddsEntries names s.remembered (outcome_entries outcome) item v.remembered → v.lines ≡ m → v.dialect ≡ s.dialect → LeadsTo names a s entries item v
+text_added : {A : Type 0} (names : Texts) (a : Ahead) (s t v : IterState) (m : LinesState) (entries : List Entry)
+    (u : Unit {0}) (text : List ℕ) (outcome : Outcome) (item : Option (Result (String A × String A) (Error A))) →
+    (p : Passed a s entries t) →
+    AdvanceIs {A = A} (record { bytes = p.left; fault = a.fault }) t.lines.input (Some (Ok u)) text m →
+    Says s.dialect (chars text) outcome →
+    AddsEntries names s.remembered (outcome_entries outcome) item v.remembered → v.lines ≡ m →
+    v.dialect ≡ s.dialect → LeadsTo names a s entries item v
 text_added names a s t v m entries u text outcome item p (inl (inl (empty, k), goes_on)) says adds lines dialect =
-    let nothing : outcome ≡ Nothing = one_outcome s.dialect [] outcome Nothing (subst (λ cs. Says s.dialect cs outcome) (ap chars empty ∙ chars-nil) says) refl in
-    added names a s t v m entries (outcome_entries outcome) Skip item p k goes_on (ap outcome_entries nothing) adds lines dialect
-text_added names a s t v m entries u text outcome item p (inl (inr k, goes_on)) says adds lines dialect = added names a s t v m entries (outcome_entries outcome) (Text (chars text)) item p k goes_on (outcome, says, refl) adds lines dialect
+    let nothing : outcome ≡ Nothing =
+    one_outcome s.dialect [] outcome Nothing
+    (subst (λ cs. Says s.dialect cs outcome) (ap chars empty ∙ chars-nil) says) refl in
+    added names a s t v m entries (outcome_entries outcome) Skip item p k goes_on (ap outcome_entries nothing) adds
+    lines dialect
+text_added names a s t v m entries u text outcome item p (inl (inr k, goes_on)) says adds lines dialect =
+    added names a s t v m entries (outcome_entries outcome) (Text (chars text)) item p k goes_on
+    (outcome, says, refl) adds lines dialect
 text_added names a s t v m entries u text outcome item p (inr fails) says adds lines dialect = absurd fails
 
 -- an item that is refused memory, where the logical lines have failed, is the next one
-refused_leads : {A : Type 0} (names : Texts) (a : Ahead) (s v : IterState) (entries : List Entry) (item : Option (Result (String A × String A) (Error A))) → IsRefused item v.lines → LeadsTo names a s entries item v
+refused_leads : {A : Type 0} (names : Texts) (a : Ahead) (s v : IterState) (entries : List Entry)
+    (item : Option (Result (String A × String A) (Error A))) → IsRefused item v.lines →
+    LeadsTo names a s entries item v
 refused_leads names a s v entries None is = absurd is
 refused_leads names a s v entries (Some (Ok pair)) is = absurd is.0
 refused_leads names a s v entries (Some (Err e)) is = inr (is.1, inl is.0)
 
 -- a fault of the grammar was taken, and adds itself
-fault_added : {A : Type 0} (names : Texts) (a : Ahead) (s t v : IterState) (m : LinesState) (entries : List Entry) (e : Error A) → (p : Passed a s entries t) → TakesFault (record { bytes = p.left; fault = a.fault }) t.lines.input e m.input → GoesOn m → v.remembered ≡ s.remembered → v.lines ≡ lines_after e m → v.dialect ≡ s.dialect → LeadsTo names a s entries (Some (Err e)) v
-fault_added names a s t v m entries (LineParse text index) p k goes_on remembered lines dialect = added names a s t v m entries (Fails (FailsLine (chars (string_bytes text)) index) ∷ []) (OpenEnd (chars (string_bytes text)) index) (Some (Err (LineParse text index))) p k goes_on refl (refl, (refl, refl), λ name. ap (λ r. text_of (recalled_of r) name) remembered) lines dialect
-fault_added names a s t v m entries (Io e) p k goes_on remembered lines dialect = added names a s t v m entries (Fails (FailsIo InvalidData) ∷ []) Broken (Some (Err (Io e))) p k.1 goes_on refl (refl, k.0, λ name. ap (λ r. text_of (recalled_of r) name) remembered) lines dialect
+fault_added : {A : Type 0} (names : Texts) (a : Ahead) (s t v : IterState) (m : LinesState) (entries : List Entry)
+    (e : Error A) → (p : Passed a s entries t) →
+    TakesFault (record { bytes = p.left; fault = a.fault }) t.lines.input e m.input → GoesOn m →
+    v.remembered ≡ s.remembered → v.lines ≡ lines_after e m → v.dialect ≡ s.dialect →
+    LeadsTo names a s entries (Some (Err e)) v
+fault_added names a s t v m entries (LineParse text index) p k goes_on remembered lines dialect =
+    added names a s t v m entries (Fails (FailsLine (chars (string_bytes text)) index) ∷ [])
+    (OpenEnd (chars (string_bytes text)) index) (Some (Err (LineParse text index))) p k goes_on refl
+    (refl, (refl, refl), λ name. ap (λ r. text_of (recalled_of r) name) remembered) lines dialect
+fault_added names a s t v m entries (Io e) p k goes_on remembered lines dialect =
+    added names a s t v m entries (Fails (FailsIo InvalidData) ∷ []) Broken (Some (Err (Io e))) p k.1 goes_on refl
+    (refl, k.0, λ name. ap (λ r. text_of (recalled_of r) name) remembered) lines dialect
 fault_added names a s t v m entries (EnvVar e) p k goes_on remembered lines dialect = absurd k
 fault_added names a s t v m entries (Nul key) p k goes_on remembered lines dialect = absurd k
 fault_added names a s t v m entries (Memory e) p k goes_on remembered lines dialect = absurd k
@@ -219,54 +334,86 @@ after_input (Nul key) m = refl
 after_input (Memory e) m = refl
 
 -- where no logical line is whole before a fault, nothing more is decided
-none_decided : (dialect : Dialect) (fault : Option ErrorKind) (kind : ErrorKind) (t : InputState) (used left front later : List ℕ) → left ≡ front ++ later → (fault ≡ Some kind) ⊎ (t.reads + t.unread + end_reads t.at_end ≤ length front) → IsAtEnd fault left t ⊎ DecideFirst dialect used [] → IsUndecided front → HasDecided dialect (used ++ front) []
-none_decided dialect fault kind t used left front later cut why (inr first) undecided = first front [] (decided-none dialect front undecided)
-none_decided dialect fault kind t used left front later cut (inl told) (inl ended) undecided = absurd (none-some kind (sym ended.0 ∙ told))
+none_decided : (dialect : Dialect) (fault : Option ErrorKind) (kind : ErrorKind) (t : InputState)
+    (used left front later : List ℕ) → left ≡ front ++ later →
+    (fault ≡ Some kind) ⊎ (t.reads + t.unread + end_reads t.at_end ≤ length front) →
+    IsAtEnd fault left t ⊎ DecideFirst dialect used [] → IsUndecided front → HasDecided dialect (used ++ front) []
+none_decided dialect fault kind t used left front later cut why (inr first) undecided =
+    first front [] (decided-none dialect front undecided)
+none_decided dialect fault kind t used left front later cut (inl told) (inl ended) undecided =
+    absurd (none-some kind (sym ended.0 ∙ told))
 none_decided dialect fault kind t used left front later cut (inr each) (inl ended) undecided =
     let read = ap end_reads ended.2 in
     let empty = ap length (sym cut ∙ ended.1) in
     absurd (omega (arith, each, read, empty, length-append front later))
 
 -- a final fault adds itself, and the bytes before it decide no entry
-final_added : {A : Type 0} (names : Texts) (a : Ahead) (s t v : IterState) (m : LinesState) (entries : List Entry) (e : Error A) → (p : Passed a s entries t) → FailsFor {T = Unit {0}} (record { bytes = p.left; fault = a.fault }) t.lines.input (Err e) IsUndecided m → v.lines ≡ lines_after e m → LeadsTo names a s entries (Some (Err e)) v
+final_added : {A : Type 0} (names : Texts) (a : Ahead) (s t v : IterState) (m : LinesState) (entries : List Entry)
+    (e : Error A) → (p : Passed a s entries t) →
+    FailsFor {T = Unit {0}} (record { bytes = p.left; fault = a.fault }) t.lines.input (Err e) IsUndecided m →
+    v.lines ≡ lines_after e m → LeadsTo names a s entries (Some (Err e)) v
 final_added names a s t v m entries e p (failed, final) lines =
     let b = ahead_of p.left a.fault in
     inr (
       ap (λ n. n.stage) lines ∙ after_failed e m failed,
-      subst (λ n. IsFinal a s.lines.input (λ bytes. HasDecided s.dialect bytes []) e n) (sym (ap (λ n. n.input) lines ∙ after_input e m))
-          (final_before a b s.lines.input t.lines.input m.input IsUndecided (λ bytes. HasDecided s.dialect bytes []) p.used e p.joins refl p.reads
-          (λ kind front later cut why undecided. none_decided s.dialect a.fault kind t.lines.input p.used p.left front later cut why p.stays undecided)
+      subst (λ n. IsFinal a s.lines.input (λ bytes. HasDecided s.dialect bytes []) e n)
+          (sym (ap (λ n. n.input) lines ∙ after_input e m))
+          (final_before a b s.lines.input t.lines.input m.input IsUndecided (λ bytes. HasDecided s.dialect bytes [])
+          p.used e p.joins refl p.reads
+          (λ kind front later cut why undecided.
+          none_decided s.dialect a.fault kind t.lines.input p.used p.left front later cut why p.stays undecided)
           final),
     )
 
 -- where one more line is answered and adds what it says, an item came or the line was passed
-pub line_leads : {A : Type 0} (names : Texts) (a : Ahead) (s t v : IterState) (m : LinesState) (entries : List Entry) (line : Result (Unit {0}) (Error A)) (text : List ℕ) (item : Option (Result (String A × String A) (Error A))) → (p : Passed a s entries t) → AdvanceIs (record { bytes = p.left; fault = a.fault }) t.lines.input (Some line) text m → AddsLine names (record { lines = m; remembered = s.remembered; dialect = s.dialect }) line text item v → v.dialect ≡ s.dialect → LeadsTo names a s entries item v
-line_leads names a s t v m entries (Ok u) text item p next (inl refused) dialect = refused_leads names a s v entries item refused
-line_leads names a s t v m entries (Ok u) text item p next (inr (outcome, says, adds, lines)) dialect = text_added names a s t v m entries u text outcome item p next says adds lines dialect
-line_leads names a s t v m entries (Err e) text item p (inl (takes, goes_on)) (is, remembered, lines) dialect = subst (λ i. LeadsTo names a s entries i v) (sym is) (fault_added names a s t v m entries e p takes goes_on remembered lines dialect)
-line_leads names a s t v m entries (Err e) text item p (inr fails) (is, remembered, lines) dialect = subst (λ i. LeadsTo names a s entries i v) (sym is) (final_added names a s t v m entries e p fails lines)
+pub line_leads : {A : Type 0} (names : Texts) (a : Ahead) (s t v : IterState) (m : LinesState)
+    (entries : List Entry) (line : Result (Unit {0}) (Error A)) (text : List ℕ)
+    (item : Option (Result (String A × String A) (Error A))) → (p : Passed a s entries t) →
+    AdvanceIs (record { bytes = p.left; fault = a.fault }) t.lines.input (Some line) text m →
+    AddsLine names (record { lines = m; remembered = s.remembered; dialect = s.dialect }) line text item v →
+    v.dialect ≡ s.dialect → LeadsTo names a s entries item v
+line_leads names a s t v m entries (Ok u) text item p next (inl refused) dialect =
+    refused_leads names a s v entries item refused
+line_leads names a s t v m entries (Ok u) text item p next (inr (outcome, says, adds, lines)) dialect =
+    text_added names a s t v m entries u text outcome item p next says adds lines dialect
+line_leads names a s t v m entries (Err e) text item p (inl (takes, goes_on)) (is, remembered, lines) dialect =
+    subst (λ i. LeadsTo names a s entries i v) (sym is)
+    (fault_added names a s t v m entries e p takes goes_on remembered lines dialect)
+line_leads names a s t v m entries (Err e) text item p (inr fails) (is, remembered, lines) dialect =
+    subst (λ i. LeadsTo names a s entries i v) (sym is) (final_added names a s t v m entries e p fails lines)
 
 -- one more line of the code, whose splitter has what is left
-pub next_leads : {A : Type 0} (names : Texts) (s t v : IterState) (m : LinesState) (line : Result (Unit {0}) (Error A)) (text : List ℕ) (item : Option (Result (String A × String A) (Error A))) →
+pub next_leads : {A : Type 0} (names : Texts) (s t v : IterState) (m : LinesState)
+    (line : Result (Unit {0}) (Error A)) (text : List ℕ) (item : Option (Result (String A × String A) (Error A))) →
     (t.lines.stage ≢ Open → ◌≡◌ {A = Option (Result (Unit {0}) (Error A))} (Some line) None) →
     ((b : Ahead) → t.lines.stage ≡ Open → IsTold t.lines.input.left b → AdvanceIs b t.lines.input (Some line) text m) →
     AddsLine names (record { lines = m; remembered = t.remembered; dialect = t.dialect }) line text item v →
-    v.dialect ≡ t.dialect → (a : Ahead) → IsTold s.lines.input.left a → (entries : List Entry) → Passed a s entries t → LeadsTo names a s entries item v
+    v.dialect ≡ t.dialect → (a : Ahead) → IsTold s.lines.input.left a → (entries : List Entry) →
+    Passed a s entries t → LeadsTo names a s entries item v
 next_leads names s t v m line text item shut next adds dialect a told entries p =
     let from_s : IterState = record { lines = m; remembered = s.remembered; dialect = s.dialect } in
-    let same : from_s ≡ record { lines = m; remembered = t.remembered; dialect = t.dialect } = sym (ap (λ r. record { lines = m; remembered = r; dialect = t.dialect }) p.remembered ∙ ap (λ d. record { lines = m; remembered = s.remembered; dialect = d }) p.dialect) in
-    line_leads names a s t v m entries line text item p (next (ahead_of p.left a.fault) (goes p.goes_on) (p.is_left, told.1)) (subst (λ f. AddsLine names f line text item v) (sym same) adds) (dialect ∙ p.dialect)
+    let same : from_s ≡ record { lines = m; remembered = t.remembered; dialect = t.dialect } =
+    sym (ap (λ r. record { lines = m; remembered = r; dialect = t.dialect }) p.remembered
+    ∙ ap (λ d. record { lines = m; remembered = s.remembered; dialect = d }) p.dialect) in
+    line_leads names a s t v m entries line text item p
+    (next (ahead_of p.left a.fault) (goes p.goes_on) (p.is_left, told.1))
+    (subst (λ f. AddsLine names f line text item v) (sym same) adds) (dialect ∙ p.dialect)
   where
     goes : GoesOn t.lines → t.lines.stage ≡ Open
     goes (inl is_open) = is_open
-    goes (inr (ended, nothing)) = absurd (none-some line (sym (shut (λ h. (let f : Ended ≡ Open = sym ended ∙ h in cc)))))
+    goes (inr (ended, nothing)) =
+        absurd (none-some line (sym (shut (λ h. (let f : Ended ≡ Open = sym ended ∙ h in cc)))))
 
 -- where an item came, it is the next one
-pub leads_item : {A : Type 0} (names : Texts) (a : Ahead) (s v : IterState) (entries : List Entry) (item : Option (Result (String A × String A) (Error A))) → is_some item ≡ true → LeadsTo names a s entries item v → ItemIs names a s entries item v
+pub leads_item : {A : Type 0} (names : Texts) (a : Ahead) (s v : IterState) (entries : List Entry)
+    (item : Option (Result (String A × String A) (Error A))) → is_some item ≡ true →
+    LeadsTo names a s entries item v → ItemIs names a s entries item v
 leads_item names a s v entries None is l = cc
 leads_item names a s v entries (Some item) is l = l
 
 -- where no item came, the line was passed
-pub leads_on : {A : Type 0} (names : Texts) (a : Ahead) (s v : IterState) (entries : List Entry) (item : Option (Result (String A × String A) (Error A))) → is_some item ≡ false → LeadsTo names a s entries item v → Passed a s entries v
+pub leads_on : {A : Type 0} (names : Texts) (a : Ahead) (s v : IterState) (entries : List Entry)
+    (item : Option (Result (String A × String A) (Error A))) → is_some item ≡ false →
+    LeadsTo names a s entries item v → Passed a s entries v
 leads_on names a s v entries None is l = l
 leads_on names a s v entries (Some item) is l = cc

@@ -1,5 +1,45 @@
 -- One write after another: what was appended, the calls that were made, and the last fault.
-use Rattle.std.proofs.Common.{◌≡◌, ◌≢◌, ℕ, zero, suc, ◌+◌, ◌-◌, ◌<◌, ◌≤◌, Bool, true, false, cond, not, List, [], ◌∷◌, ◌++◌, length, take, drop, length-drop, length-append, append_assoc, append-nil, Option, Some, None, Ok, Err, inl, inr, ◌⊎◌, refl, sym, ◌∙◌, ap, subst, arith}
+use Rattle.std.proofs.Common.{
+  ◌≡◌,
+  ◌≢◌,
+  ℕ,
+  zero,
+  suc,
+  ◌+◌,
+  ◌-◌,
+  ◌<◌,
+  ◌≤◌,
+  Bool,
+  true,
+  false,
+  cond,
+  not,
+  List,
+  [],
+  ◌∷◌,
+  ◌++◌,
+  length,
+  take,
+  drop,
+  length-drop,
+  length-append,
+  append_assoc,
+  append-nil,
+  Option,
+  Some,
+  None,
+  Ok,
+  Err,
+  inl,
+  inr,
+  ◌⊎◌,
+  refl,
+  sym,
+  ◌∙◌,
+  ap,
+  subst,
+  arith,
+}
 use Rattle.std.specs.Prelude.{◌==◌}
 use Rattle.std.specs.IoError.{error_kind}
 use Rattle.std.specs.declared.io.Error.{Error}
@@ -9,11 +49,11 @@ use Rattle.std.proofs.lemmas.List.{take-append-drop, take_all, length-take-le}
 use Rattle.std.proofs.lemmas.Bool.Decides.{nat_tests}
 use Rattle.std.specs.contracts.io.ErrorKind.{the_type}
 use denote.Enum.Bare.{sameb, differs_true, differs_false}
-use Rattle.dotenvy.specs.declared.errors.Error.TheVariants.{Io}
-use Rattle.dotenvy.specs.Calls.{Call, TellsCall, call_of, MayGoOn, AllMayGoOn, OnlyLastEnds}
-use Rattle.dotenvy.specs.Source.{WriteAppends, fault_after}
+use Rattle.dotenv_base.specs.declared.errors.Error.TheVariants.{Io}
+use Rattle.dotenv_base.specs.Calls.{Call, TellsCall, call_of, MayGoOn, AllMayGoOn, OnlyLastEnds}
+use Rattle.dotenv_base.specs.Source.{WriteAppends, fault_after}
 use Rattle.dotenvy.specs.Sent.{Appended, IsFaultOf, IsLastFault, Sends}
-use Rattle.dotenvy.proofs.AskedReads.{all_of_both, ends_behind}
+use Rattle.dotenv_lines.proofs.AskedReads.{all_of_both, ends_behind}
 
 -- what is taken of the bytes behind the first n, as many as are left, is all of those
 pub slice_rest : (n : ℕ) (xs : List ℕ) → take (length xs - n) (drop n xs) ≡ drop n xs
@@ -226,27 +266,28 @@ sends_fault : {A W : Type 0} (held : W → Option (List ℕ)) (last_fault : W �
     Appended (held old) (held new) s.front → TellsCall (calls mid) (calls new) call → IsFaultOf call.answer e →
     IsLastFault (last_fault new) e →
     Sends {A = A} held last_fault calls most old new bytes (Err (Io e))
-sends_fault held last_fault calls most old mid new bytes rest count call e s few some appended tells fault last = record {
-  front = s.front;
-  rest = rest;
-  cut = s.cut;
-  appended = appended;
-  whole = tt;
-  unsent = some;
-  fault = λ none. inl last;
-  asks = λ all is. (let told = tells all is in let m = s.made told.0 told.1 in (
-    m.0,
-    m.1 ++ call ∷ [],
-    m.2,
-    told.2 ∙ ap (λ made. made ++ call ∷ []) m.3 ∙ append_assoc m.0 m.1 (call ∷ []),
+sends_fault held last_fault calls most old mid new bytes rest count call e s few some appended tells fault last =
     record {
-      few = let l = m.4 in omega (arith, l, few, length-append m.1 (call ∷ []));
-      in_turn = ends_behind m.1 (call ∷ []) m.5 tt;
+      front = s.front;
+      rest = rest;
+      cut = s.cut;
+      appended = appended;
       whole = tt;
-      fault = inl (m.1, call, refl, fault);
-    },
-  ));
-}
+      unsent = some;
+      fault = λ none. inl last;
+      asks = λ all is. (let told = tells all is in let m = s.made told.0 told.1 in (
+        m.0,
+        m.1 ++ call ∷ [],
+        m.2,
+        told.2 ∙ ap (λ made. made ++ call ∷ []) m.3 ∙ append_assoc m.0 m.1 (call ∷ []),
+        record {
+          few = let l = m.4 in omega (arith, l, few, length-append m.1 (call ∷ []));
+          in_turn = ends_behind m.1 (call ∷ []) m.5 tt;
+          whole = tt;
+          fault = inl (m.1, call, refl, fault);
+        },
+      ));
+    }
 
 -- where a write failed and was not interrupted, the call answers that fault
 pub sends_failed : {A W : Type 0} (held : W → Option (List ℕ)) (last_fault : W → Option ErrorKind) (calls : W →

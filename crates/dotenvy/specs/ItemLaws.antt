@@ -1,19 +1,19 @@
 -- Laws of iteration and of loads over bytes: what a source tells alone decides.
 use Rattle.std.specs.Prelude.{ℕ, ◌≡◌, ◌≤◌, List, ◌++◌, length, Option, Some, Result}
 use Rattle.std.specs.declared.io.ErrorKind.{ErrorKind}
-use Rattle.dotenvy.specs.declared.dialect.Dialect.{Dialect}
-use Rattle.dotenvy.specs.declared.errors.Error.{Error}
-use Rattle.dotenvy.specs.PhysicalLines.{physical_lines}
-use Rattle.dotenvy.specs.Errors.{IsMemoryErr}
-use Rattle.dotenvy.specs.Entries.{Entry}
-use Rattle.dotenvy.specs.Items.{LookUp, items_from, items}
-use Rattle.dotenvy.specs.Loads.{load_result, override_result}
-use Rattle.dotenvy.specs.Environment.{Texts}
+use Rattle.dotenv_format.specs.declared.dialect.Dialect.{Dialect}
+use Rattle.dotenv_base.specs.declared.errors.Error.{Error}
+use Rattle.dotenv_format.specs.PhysicalLines.{physical_lines}
+use Rattle.dotenv_base.specs.Errors.{IsMemoryErr}
+use Rattle.dotenv_format.specs.Entries.{Entry}
+use Rattle.dotenv_format.specs.Items.{LookUp, items_from, items}
+use Rattle.dotenv_format.specs.Loads.{load_result, override_result}
+use Rattle.dotenv_base.specs.Environment.{Texts}
 use Rattle.dotenvy.specs.Names.{values_of, recalled_of}
-use Rattle.dotenvy.specs.Marks.{without_mark}
-use Rattle.dotenvy.specs.Calls.{Call}
-use Rattle.dotenvy.specs.Source.{Ahead}
-use Rattle.dotenvy.specs.Reading.{HasLeft, told_fault}
+use Rattle.dotenv_format.specs.Marks.{without_mark}
+use Rattle.dotenv_base.specs.Calls.{Call}
+use Rattle.dotenv_base.specs.Source.{Ahead}
+use Rattle.dotenv_lines.specs.Reading.{HasLeft, told_fault}
 use Rattle.dotenvy.specs.Iter.{IterState, fresh}
 use Rattle.dotenvy.specs.LoadsLeft.{Rule, Leaves, LoadsLeft}
 use Rattle.dotenvy.specs.ItemRuns.{Given, GivesItems, NoneRefused, IsReadable, CanRead, SayItems, SayTheSame, AnswerTheSame}

@@ -3,13 +3,13 @@ use Rattle.std.specs.Prelude.{ℕ, ◌≡◌, ◌≢◌, ◌^◌, ◌+◌, ◌<�
 use Rattle.std.specs.Str.{chars}
 use Rattle.std.specs.declared.string.String.{String}
 use Rattle.std.specs.declared.io.ErrorKind.TheVariants.{Interrupted}
-use Rattle.dotenvy.specs.declared.errors.Error.{Error}
-use Rattle.dotenvy.specs.declared.lines.Stage.TheVariants.{Open}
-use Rattle.dotenvy.specs.Errors.{IsMemoryErr}
-use Rattle.dotenvy.specs.Entries.{Failure}
-use Rattle.dotenvy.specs.Environment.{Texts}
-use Rattle.dotenvy.specs.Source.{Ahead}
-use Rattle.dotenvy.specs.Input.{IsTold, end_reads}
+use Rattle.dotenv_base.specs.declared.errors.Error.{Error}
+use Rattle.dotenv_lines.specs.declared.lines.Stage.TheVariants.{Open}
+use Rattle.dotenv_base.specs.Errors.{IsMemoryErr}
+use Rattle.dotenv_format.specs.Entries.{Failure}
+use Rattle.dotenv_base.specs.Environment.{Texts}
+use Rattle.dotenv_base.specs.Source.{Ahead}
+use Rattle.dotenv_lines.specs.Input.{IsTold, end_reads}
 use Rattle.dotenvy.specs.Iter.{IterState}
 use Rattle.dotenvy.specs.NextItem.{IsFailure, NextItem}
 use Rattle.dotenvy.specs.LoadsLeft.{IsAnswer}

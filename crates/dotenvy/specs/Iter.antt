@@ -2,12 +2,12 @@
 use Rattle.std.specs.Prelude.{ℕ, ◌^◌, false, List, Option, refl}
 use Rattle.std.specs.Coded.{Coded, code_by, coded×, coded_ℕ, coded_list, coded_option}
 use Rattle.std.specs.FinMap as fin
-use Rattle.dotenvy.specs.declared.dialect.Dialect.{Dialect}
-use Rattle.dotenvy.specs.contracts.dialect.Dialect as dialect
-use Rattle.dotenvy.specs.declared.lines.Stage.TheVariants.{Open}
-use Rattle.dotenvy.specs.Calls.{Call}
-use Rattle.dotenvy.specs.Source.{Ahead}
-use Rattle.dotenvy.specs.Lines.{LinesState, lines_code, fuel_of}
+use Rattle.dotenv_format.specs.declared.dialect.Dialect.{Dialect}
+use Rattle.dotenv_format.specs.contracts.dialect.Dialect as dialect
+use Rattle.dotenv_lines.specs.declared.lines.Stage.TheVariants.{Open}
+use Rattle.dotenv_base.specs.Calls.{Call}
+use Rattle.dotenv_base.specs.Source.{Ahead}
+use Rattle.dotenv_lines.specs.Lines.{LinesState, lines_code, fuel_of}
 use Rattle.dotenvy.specs.Remembered.{Remembered}
 
 -- its logical lines, the values that it remembers, and the dialect that it reads

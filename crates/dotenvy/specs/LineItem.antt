@@ -2,15 +2,15 @@
 use Rattle.std.specs.Prelude.{ℕ, ◌≡◌, ◌⊎◌, List, [], ◌∷◌, Option, Some, None, Result, Ok, Err}
 use Rattle.std.specs.Str.{chars}
 use Rattle.std.specs.declared.string.String.{String}
-use Rattle.dotenvy.specs.declared.errors.Error.{Error}
-use Rattle.dotenvy.specs.declared.errors.Error.TheVariants.{LineParse, Io, EnvVar, Nul, Memory}
-use Rattle.dotenvy.specs.declared.dialect.Dialect.{Dialect}
-use Rattle.dotenvy.specs.declared.lines.Stage.TheVariants.{Failed}
-use Rattle.dotenvy.specs.Errors.{IsMemoryErr}
-use Rattle.dotenvy.specs.Line.{Outcome, Says}
-use Rattle.dotenvy.specs.Lines.{LinesState}
-use Rattle.dotenvy.specs.Entries.{Entry, outcome_entries}
-use Rattle.dotenvy.specs.Environment.{Texts}
+use Rattle.dotenv_base.specs.declared.errors.Error.{Error}
+use Rattle.dotenv_base.specs.declared.errors.Error.TheVariants.{LineParse, Io, EnvVar, Nul, Memory}
+use Rattle.dotenv_format.specs.declared.dialect.Dialect.{Dialect}
+use Rattle.dotenv_lines.specs.declared.lines.Stage.TheVariants.{Failed}
+use Rattle.dotenv_base.specs.Errors.{IsMemoryErr}
+use Rattle.dotenv_format.specs.Line.{Outcome, Says}
+use Rattle.dotenv_lines.specs.Lines.{LinesState}
+use Rattle.dotenv_format.specs.Entries.{Entry, outcome_entries}
+use Rattle.dotenv_base.specs.Environment.{Texts}
 use Rattle.dotenvy.specs.Remembered.{Remembered}
 use Rattle.dotenvy.specs.Names.{names_of, recalled_of}
 use Rattle.dotenvy.specs.Iter.{IterState}

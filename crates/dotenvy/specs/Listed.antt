@@ -3,20 +3,20 @@ use Rattle.std.specs.Prelude.{ℕ, ◌≡◌, ◌⊎◌, List, map, Option, None
 use Rattle.std.specs.Str.{chars, encode_utf8_all}
 use Rattle.std.specs.FinMap as fin
 use Rattle.std.specs.declared.io.ErrorKind.{ErrorKind}
-use Rattle.dotenvy.specs.declared.dialect.Dialect.{Dialect}
-use Rattle.dotenvy.specs.declared.errors.Error.{Error}
-use Rattle.dotenvy.specs.Written.{written_bytes}
-use Rattle.dotenvy.specs.Calls.{Call}
+use Rattle.dotenv_format.specs.declared.dialect.Dialect.{Dialect}
+use Rattle.dotenv_base.specs.declared.errors.Error.{Error}
+use Rattle.dotenv_format.specs.Written.{written_bytes}
+use Rattle.dotenv_base.specs.Calls.{Call}
 use Rattle.dotenvy.specs.Sent.{Sends, most_writes, Writes}
-use Rattle.dotenvy.specs.Entries.{Failure, Entry}
-use Rattle.dotenvy.specs.Items.{LookUp, no_values}
-use Rattle.dotenvy.specs.Environment.{Texts}
-use Rattle.dotenvy.specs.Marks.{without_mark}
-use Rattle.dotenvy.specs.Source.{Ahead}
-use Rattle.dotenvy.specs.Input.{IsTold}
+use Rattle.dotenv_format.specs.Entries.{Failure, Entry}
+use Rattle.dotenv_format.specs.Items.{LookUp, no_values}
+use Rattle.dotenv_base.specs.Environment.{Texts}
+use Rattle.dotenv_format.specs.Marks.{without_mark}
+use Rattle.dotenv_base.specs.Source.{Ahead}
+use Rattle.dotenv_lines.specs.Input.{IsTold}
 use Rattle.dotenvy.specs.Iter.{fresh}
-use Rattle.dotenvy.specs.Reading.{HasLeft, IsReading}
-use Rattle.dotenvy.specs.Loads.{load_result}
+use Rattle.dotenv_lines.specs.Reading.{HasLeft, IsReading}
+use Rattle.dotenv_format.specs.Loads.{load_result}
 use Rattle.dotenvy.specs.LoadsLeft.{IsAnswer}
 
 -- the map holds the values of this look-up, by their bytes, and no others; its names are keys, whose bytes are their characters

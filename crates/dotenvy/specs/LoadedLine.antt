@@ -1,14 +1,14 @@
 -- What one logical line of a load leaves and answers.
 use Rattle.std.specs.Prelude.{ℕ, ◌≡◌, ◌⊎◌, List, Result}
-use Rattle.dotenvy.specs.declared.dialect.Dialect.{Dialect}
-use Rattle.dotenvy.specs.declared.errors.Error.{Error}
+use Rattle.dotenv_format.specs.declared.dialect.Dialect.{Dialect}
+use Rattle.dotenv_base.specs.declared.errors.Error.{Error}
 use Rattle.dotenvy.specs.declared.loads.Mode.{Mode as CodeMode}
 use Rattle.dotenvy.specs.declared.loads.Mode.TheVariants.{Keep as Keeps, Replace as Replaces}
-use Rattle.dotenvy.specs.Errors.{IsMemoryErr}
-use Rattle.dotenvy.specs.Line.{Outcome, Says}
-use Rattle.dotenvy.specs.Entries.{outcome_entries}
-use Rattle.dotenvy.specs.Run.{Mode, Keep, Replace, run}
-use Rattle.dotenvy.specs.Environment.{Texts}
+use Rattle.dotenv_base.specs.Errors.{IsMemoryErr}
+use Rattle.dotenv_format.specs.Line.{Outcome, Says}
+use Rattle.dotenv_format.specs.Entries.{outcome_entries}
+use Rattle.dotenv_format.specs.Run.{Mode, Keep, Replace, run}
+use Rattle.dotenv_base.specs.Environment.{Texts}
 use Rattle.dotenvy.specs.Remembered.{Remembered}
 use Rattle.dotenvy.specs.Names.{values_of, recalled_of}
 use Rattle.dotenvy.specs.LoadsLeft.{Leaves}

@@ -1,17 +1,17 @@
 -- What a load leaves and answers.
 use Rattle.std.specs.Prelude.{ℕ, ◌≡◌, false, List, Result, Ok, Err}
 use Rattle.std.specs.FinMap as fin
-use Rattle.dotenvy.specs.declared.errors.Error.{Error}
-use Rattle.dotenvy.specs.Statement.{is_key}
-use Rattle.dotenvy.specs.Entries.{Failure, Entry}
-use Rattle.dotenvy.specs.Items.{LookUp}
-use Rattle.dotenvy.specs.Run.{Loaded}
-use Rattle.dotenvy.specs.Environment.{Texts}
+use Rattle.dotenv_base.specs.declared.errors.Error.{Error}
+use Rattle.dotenv_format.specs.Statement.{is_key}
+use Rattle.dotenv_format.specs.Entries.{Failure, Entry}
+use Rattle.dotenv_format.specs.Items.{LookUp}
+use Rattle.dotenv_format.specs.Run.{Loaded}
+use Rattle.dotenv_base.specs.Environment.{Texts}
 use Rattle.dotenvy.specs.Names.{values_of, recalled_of}
-use Rattle.dotenvy.specs.Marks.{without_mark}
-use Rattle.dotenvy.specs.Source.{Ahead}
-use Rattle.dotenvy.specs.Input.{IsTold}
-use Rattle.dotenvy.specs.Reading.{HasLeft, IsReading}
+use Rattle.dotenv_format.specs.Marks.{without_mark}
+use Rattle.dotenv_base.specs.Source.{Ahead}
+use Rattle.dotenv_lines.specs.Input.{IsTold}
+use Rattle.dotenv_lines.specs.Reading.{HasLeft, IsReading}
 use Rattle.dotenvy.specs.NextItem.{IsFailure}
 use Rattle.dotenvy.specs.Iter.{IterState}
 

@@ -3,15 +3,15 @@ use Rattle.std.specs.Prelude.{ℕ, ◌≡◌, ◌≤◌, ◌+◌, ◌-◌, ◌^�
 use denote.Ref.{Bor}
 use Rattle.std.specs.Str.{chars, encode_utf8_all}
 use Rattle.std.specs.FinMap as fin
-use Rattle.dotenvy.specs.declared.dialect.Dialect.{Dialect}
+use Rattle.dotenv_format.specs.declared.dialect.Dialect.{Dialect}
 use Rattle.dotenvy.specs.declared.names.Names.{Names}
-use Rattle.dotenvy.specs.Characters.{byte_len}
-use Rattle.dotenvy.specs.Value.{unquoted}
-use Rattle.dotenvy.specs.Items.{LookUp, meaning, or_else}
-use Rattle.dotenvy.specs.Environment.{Texts}
+use Rattle.dotenv_format.specs.Characters.{byte_len}
+use Rattle.dotenv_format.specs.Value.{unquoted}
+use Rattle.dotenv_format.specs.Items.{LookUp, meaning, or_else}
+use Rattle.dotenv_base.specs.Environment.{Texts}
 use Rattle.dotenvy.specs.Remembered.{Remembered, remembered_of, recalled}
-use Rattle.dotenvy.specs.ReadValue.{base, read}
-use Rattle.dotenvy.specs.NextPiece.{StopsAt}
+use Rattle.dotenv_format.specs.ReadValue.{base, read}
+use Rattle.dotenv_format.specs.NextPiece.{StopsAt}
 
 -- a look-up by bytes as one by characters
 abbrev pub by_characters : (List ℕ → Option (List ℕ)) → LookUp

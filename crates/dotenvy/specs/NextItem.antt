@@ -3,21 +3,21 @@ use Rattle.std.specs.Prelude.{ℕ, ◌≡◌, ◌⊎◌, List, [], ◌∷◌, �
 use Rattle.std.specs.Str.{chars}
 use Rattle.std.specs.IoError.{error_kind}
 use Rattle.std.specs.declared.string.String.{String}
-use Rattle.dotenvy.specs.declared.errors.Error.{Error}
-use Rattle.dotenvy.specs.declared.lines.Stage.TheVariants.{Open, Ended}
-use Rattle.dotenvy.specs.Errors.{IsMemory, IsNulOf, IsIoOf, IsLineParseOf}
-use Rattle.dotenvy.specs.PhysicalLines.{physical_lines}
-use Rattle.dotenvy.specs.LogicalLine.{Logical}
-use Rattle.dotenvy.specs.Entries.{Failure, LineParse, Io, Nul, Memory, Entry, Declares, Fails, AreFirstLines, Gives, GiveAll}
-use Rattle.dotenvy.specs.declared.dialect.Dialect.{Dialect}
-use Rattle.dotenvy.specs.Decided.{HasDecided}
-use Rattle.dotenvy.specs.Items.{LookUp, meaning, with_value}
-use Rattle.dotenvy.specs.Environment.{Texts, name_ok}
+use Rattle.dotenv_base.specs.declared.errors.Error.{Error}
+use Rattle.dotenv_lines.specs.declared.lines.Stage.TheVariants.{Open, Ended}
+use Rattle.dotenv_base.specs.Errors.{IsMemory, IsNulOf, IsIoOf, IsLineParseOf}
+use Rattle.dotenv_format.specs.PhysicalLines.{physical_lines}
+use Rattle.dotenv_format.specs.LogicalLine.{Logical}
+use Rattle.dotenv_format.specs.Entries.{Failure, LineParse, Io, Nul, Memory, Entry, Declares, Fails, AreFirstLines, Gives, GiveAll}
+use Rattle.dotenv_format.specs.declared.dialect.Dialect.{Dialect}
+use Rattle.dotenv_format.specs.Decided.{HasDecided}
+use Rattle.dotenv_format.specs.Items.{LookUp, text_of, meaning, with_value}
+use Rattle.dotenv_base.specs.Environment.{Texts, name_ok}
 use Rattle.dotenvy.specs.Names.{recalled_of, names_of}
-use Rattle.dotenvy.specs.Source.{Ahead}
-use Rattle.dotenvy.specs.Input.{IsTold, ReadsFit}
-use Rattle.dotenvy.specs.Lines.{whole_lines, IsAtEnd, GoesOn, FailsFor}
-use Rattle.dotenvy.specs.Reading.{HasLeft}
+use Rattle.dotenv_base.specs.Source.{Ahead}
+use Rattle.dotenv_lines.specs.Input.{IsTold, ReadsFit}
+use Rattle.dotenv_lines.specs.Lines.{whole_lines, IsAtEnd, GoesOn, FailsFor}
+use Rattle.dotenv_lines.specs.Reading.{HasLeft}
 use Rattle.dotenvy.specs.Iter.{IterState}
 
 -- the error says this failure
@@ -33,10 +33,6 @@ IsItem look_up (Declares key pieces) (Ok pair) = (chars (string_bytes pair.0) �
 IsItem look_up (Declares key pieces) (Err e) = ⊥
 IsItem look_up (Fails failure) (Ok pair) = ⊥
 IsItem look_up (Fails failure) (Err e) = IsFailure failure e
-
--- what a name stands for in a value: an absent one for the empty text
-abbrev pub text_of : LookUp → List ℕ → List ℕ
-text_of look_up name = unwrap_or (look_up name) []
 
 -- after a declaration its key stands for the value that it was given, and the other names for what they did; after a fault all do
 abbrev pub RemembersEntry : LookUp → LookUp → LookUp → Entry → Type 0

@@ -3,12 +3,12 @@ use Rattle.std.specs.Prelude.{ℕ, ◌≡◌, List, Option, Some, None, Result, 
 use Rattle.std.specs.Str.{chars}
 use Rattle.std.specs.FinMap as fin
 use Rattle.std.specs.declared.string.String.{String}
-use Rattle.dotenvy.specs.declared.errors.Error.{Error}
-use Rattle.dotenvy.specs.Errors.{IsLineParseOf}
-use Rattle.dotenvy.specs.Characters.{is_empty_or_comment}
-use Rattle.dotenvy.specs.Statement.{is_key, IsStatement}
-use Rattle.dotenvy.specs.Line.{Outcome, Nothing, Pair, Fault, trimmed}
-use Rattle.dotenvy.specs.Items.{LookUp, meaning}
+use Rattle.dotenv_base.specs.declared.errors.Error.{Error}
+use Rattle.dotenv_base.specs.Errors.{IsLineParseOf}
+use Rattle.dotenv_format.specs.Characters.{is_empty_or_comment}
+use Rattle.dotenv_format.specs.Statement.{is_key, IsStatement}
+use Rattle.dotenv_format.specs.Line.{Outcome, Nothing, Pair, Fault, trimmed}
+use Rattle.dotenv_format.specs.Items.{LookUp, meaning}
 use Rattle.dotenvy.specs.Remembered.{Remembered}
 
 -- the answer is what the line says, where names stand for these texts

@@ -2,17 +2,17 @@
 use Rattle.std.specs.Prelude.{ℕ, ◌≡◌, not, List, [], IsTrue, Option, Some, None, is_some, option_map, Result, Ok, Err, string_bytes, if◌then◌else◌}
 use Rattle.std.specs.Str.{chars, encode_utf8_all}
 use Rattle.std.specs.declared.string.String.{String}
-use Rattle.dotenvy.specs.declared.dialect.Dialect.{Dialect}
+use Rattle.dotenv_format.specs.declared.dialect.Dialect.{Dialect}
 use Rattle.dotenvy.specs.declared.parse.Declaration.{Declaration}
 use Rattle.dotenvy.specs.declared.parse.Value.{Value}
 use Rattle.dotenvy.specs.declared.parse.Fault.{Fault}
 use Rattle.dotenvy.specs.declared.parse.Copies.{Copies}
-use Rattle.dotenvy.specs.Characters.{byte_len, is_empty_or_comment}
-use Rattle.dotenvy.specs.Statement.{IsStatement}
-use Rattle.dotenvy.specs.Value.{Piece, IsValue}
-use Rattle.dotenvy.specs.Places.{BeginsValue, IsPlace}
-use Rattle.dotenvy.specs.Line.{Nothing, Fault as SaysFault, Says, trimmed, is_nothing, value_index}
-use Rattle.dotenvy.specs.Items.{LookUp, meaning}
+use Rattle.dotenv_format.specs.Characters.{byte_len, is_empty_or_comment}
+use Rattle.dotenv_format.specs.Statement.{IsStatement}
+use Rattle.dotenv_format.specs.Value.{Piece, IsValue}
+use Rattle.dotenv_format.specs.Places.{BeginsValue, IsPlace}
+use Rattle.dotenv_format.specs.Line.{Nothing, Fault as SaysFault, Says, trimmed, is_nothing, value_index}
+use Rattle.dotenv_format.specs.Items.{LookUp, meaning}
 use Rattle.dotenvy.specs.Names.{saturated}
 
 -- what is assigned is nothing or a comment; or it is a value, whose meaning takes so many bytes

@@ -4,9 +4,9 @@ use Rattle.std.specs.IoError.{error_kind}
 use Rattle.std.specs.declared.io.Error.{Error as IoError}
 use Rattle.std.specs.declared.io.ErrorKind.{ErrorKind}
 use Rattle.std.specs.declared.io.ErrorKind.TheVariants.{Interrupted, Other, WriteZero}
-use Rattle.dotenvy.specs.declared.errors.Error.{Error}
-use Rattle.dotenvy.specs.Errors.{IsMemory, IsIoOf}
-use Rattle.dotenvy.specs.Calls.{Call, AllMayGoOn, OnlyLastEnds}
+use Rattle.dotenv_base.specs.declared.errors.Error.{Error}
+use Rattle.dotenv_base.specs.Errors.{IsMemory, IsIoOf}
+use Rattle.dotenv_base.specs.Calls.{Call, AllMayGoOn, OnlyLastEnds}
 
 -- these bytes were appended, to a sink that tells what it holds
 abbrev pub Appended : Option (List ℕ) → Option (List ℕ) → List ℕ → Type 0

@@ -1,16 +1,16 @@
 // A file found in the current directory or above it, opened.
 ghost use Rattle.std.specs.Prelude.{◌≡◌, IfErr, IfOk, None, codes};
 ghost use Rattle.std.specs.Path.{path_bytes, path_buf_bytes};
-ghost use Rattle.dotenvy.specs.Errors.{IsFileFault, IsSystemFault};
-ghost use Rattle.dotenvy.specs.Find.{IsPathOf};
+ghost use Rattle.dotenv_base.specs.Errors.{IsFileFault, IsSystemFault};
+ghost use Rattle.dotenv_base.specs.Find.{IsPathOf};
 ghost use Rattle.dotenvy.specs.Iter.{fresh};
 
-use crate::dialect::Dialect;
-use crate::errors::{Error, Result};
 use crate::iter::Iter;
-use crate::search;
-use crate::search::Look;
-use crate::source::Plain;
+use dotenv_base::errors::{Error, Result, or_memory};
+use dotenv_base::search;
+use dotenv_base::search::Look;
+use dotenv_base::source::Plain;
+use dotenv_format::dialect::Dialect;
 use std::alloc::{Alloc, Allocator};
 use std::env::Env;
 use std::fs::{File, Files};
@@ -51,7 +51,7 @@ impl<'a> Finder<'a> {
     {
         match self.found(rt, dialect) {
             Ok(found) => Ok(found),
-            Err(error) => Err(error.or_memory()),
+            Err(error) => Err(or_memory(error)),
         }
     }
 
@@ -84,7 +84,7 @@ pub(crate) fn open<A: Allocator, R: Files>(rt: &R, path: Path<'_>) -> Result<Pla
 {
     match File::open(rt, path) {
         Ok(file) => Ok(Plain::new(file)),
-        Err(fault) => Err(Error::Io(fault).or_memory()),
+        Err(fault) => Err(or_memory(Error::Io(fault))),
     }
 }
 

@@ -1,14 +1,14 @@
 // The values of an environment, into which the first use loads `.env`.
 ghost use Rattle.std.specs.Prelude.{◌≡◌, ◌⊎◌, Err, IfErr, IfOk, None, OnErr, OnOk, false, true};
 ghost use Rattle.std.specs.FinMap as map;
-ghost use Rattle.dotenvy.specs.Environment.{KeepsNames};
-ghost use Rattle.dotenvy.specs.Errors.{IsMemory, IsMemoryErr};
+ghost use Rattle.dotenv_base.specs.Environment.{KeepsNames};
+ghost use Rattle.dotenv_base.specs.Errors.{IsMemory, IsMemoryErr};
 ghost use Rattle.dotenvy.specs.FirstUse.{AnswersVar};
 ghost use Rattle.dotenvy.specs.LoadsLeft.{ChangesKeys};
 
-use crate::environment::{Environment, Vars};
-use crate::errors::{Error, Result, VarError};
 use crate::files::dotenv;
+use dotenv_base::environment::{Environment, Vars, mark_loaded, snapshot};
+use dotenv_base::errors::{Error, Result, VarError};
 use std::alloc::{Alloc, Allocator};
 use std::env::Env;
 use std::fs::Files;
@@ -63,7 +63,7 @@ pub fn vars<A: Allocator + Clone, R: Files + Env + Alloc<A = A>>(
     ensures pairs { IfOk result (λ pairs. pairs ≡ map.entries env.new.names) }
     ensures memory { IfErr result IsMemory }
 {
-    load_once(rt, env).and_then(|()| env.snapshot())
+    load_once(rt, env).and_then(|()| snapshot(env))
 }
 
 // Loads `.env` where the mark isn't set, and sets it. A fault of the load is no fault of the use, but for refused
@@ -85,6 +85,6 @@ fn load_once<A: Allocator + Clone, R: Files + Env + Alloc<A = A>>(
     if let Err(Error::Memory(refused)) = dotenv(rt, env) {
         return Err(Error::Memory(refused));
     }
-    env.mark_loaded();
+    mark_loaded(env);
     Ok(())
 }

@@ -2,32 +2,32 @@
 
 ghost use Rattle.std.specs.Prelude.{◌≡◌, ◌≢◌, ◌<◌, ◌≤◌, ◌↔◌, ◌⊎◌, Err, IfErr, IfOk, IfSome, IsSome, IsTrue, None, Ok, OnOk, chars, string_bytes};
 ghost use Rattle.std.specs.Iterator.{at_most};
-ghost use Rattle.dotenvy.specs.declared.lines.Stage.TheVariants.{Failed, Open};
-ghost use Rattle.dotenvy.specs.Errors.{IsMemory, IsMemoryErr};
-ghost use Rattle.dotenvy.specs.Input.{AsksReads};
+ghost use Rattle.dotenv_lines.specs.declared.lines.Stage.TheVariants.{Failed, Open};
+ghost use Rattle.dotenv_base.specs.Errors.{IsMemory, IsMemoryErr};
+ghost use Rattle.dotenv_lines.specs.Input.{AsksReads};
 ghost use Rattle.dotenvy.specs.Iter.{fresh, item_fuel};
-ghost use Rattle.dotenvy.specs.Environment.{KeepsNames};
-ghost use Rattle.dotenvy.specs.Statement.{is_key};
-ghost use Rattle.dotenvy.specs.Run.{Keep, Replace, run};
-ghost use Rattle.dotenvy.specs.Loads.{load_result, override_result};
-ghost use Rattle.dotenvy.specs.Line.{Outcome, Says};
+ghost use Rattle.dotenv_base.specs.Environment.{KeepsNames};
+ghost use Rattle.dotenv_format.specs.Statement.{is_key};
+ghost use Rattle.dotenv_format.specs.Run.{Keep, Replace, run};
+ghost use Rattle.dotenv_format.specs.Loads.{load_result, override_result};
+ghost use Rattle.dotenv_format.specs.Line.{Outcome, Says};
 ghost use Rattle.dotenvy.specs.Names.{names_of};
 ghost use Rattle.dotenvy.specs.ParsedLine.{IsLineAnswer, Remembers, HasKey};
-ghost use Rattle.dotenvy.specs.Lines.{fuel_of};
+ghost use Rattle.dotenv_lines.specs.Lines.{fuel_of};
 ghost use Rattle.dotenvy.specs.Remembered.{remembered_of};
 ghost use Rattle.dotenvy.specs.LineItem.{AddsLine, state_of};
 ghost use Rattle.dotenvy.specs.NextItem.{GivesName, NextItem};
 ghost use Rattle.dotenvy.specs.LoadsLeft.{ChangesKeys, LoadsLeft};
 ghost use Rattle.dotenvy.specs.LoadedLine.{mode_of};
 
-use crate::dialect::Dialect;
-use crate::environment::Environment;
-use crate::errors::{Error, Result};
-use crate::lines::Splitter;
 use crate::loads::{Mode, load_line};
 use crate::parse::{Pair, ParsedLine, parse_line};
 use crate::remembered::Remembered;
-use crate::source::Source;
+use dotenv_base::environment::Environment;
+use dotenv_base::errors::{Error, Result};
+use dotenv_base::source::Source;
+use dotenv_format::dialect::Dialect;
+use dotenv_lines::lines::Splitter;
 use std::alloc::{Allocator, Global};
 use std::collections::HashMap;
 use std::marker::Model;
@@ -102,11 +102,13 @@ impl<R: Source, A: Allocator + Clone> Iter<R, A> {
         ensures next { NextItem env.now.names self.old result self.new }
         ensures falls { IsSome result → item_fuel self.new < item_fuel self.old }
         ensures memory { IfSome result (λ item. IsMemoryErr item → self.new.lines.stage ≡ Failed) }
-        ensures key { IfSome result (λ item. IfOk item (λ pair. IsTrue (is_key (chars (string_bytes pair.0))))) }
+        ensures key { IfSome result
+            (λ item. IfOk item (λ pair. IsTrue (is_key (chars (string_bytes pair.0))))) }
         ensures name { GivesName result }
 
         // Which reads it asks for, over every reader that tells its calls.
-        ensures asks { AsksReads (self.new.lines.stage ≡ Open) self.old.lines.input self.new.lines.input }
+        ensures asks { AsksReads (self.new.lines.stage ≡ Open) self.old.lines.input
+            self.new.lines.input }
     {
         next_of(&mut self.lines, &mut self.remembered, env, self.dialect)
     }
@@ -119,7 +121,8 @@ impl<R: Source, A: Allocator + Clone> Iter<R, A> {
     /// }
     /// ```
     pub fn items<'a>(&'a mut self, env: &'a Environment<A>) -> Items<'a, R, A>
-        ensures file { (result.file.now ≡ self.old) × (result.file.ghost_name ≡ self.entry.ghost_name) }
+        ensures file { (result.file.now ≡ self.old)
+            × (result.file.ghost_name ≡ self.entry.ghost_name) }
         ensures env { result.env.now ≡ env.now }
     {
         Items { file: self, env }
@@ -133,11 +136,15 @@ fn next_of<R: Source, A: Allocator + Clone>(
     env: &Environment<A>,
     dialect: Dialect,
 ) -> Option<Result<Pair<A>, A>>
-    ensures next { NextItem env.now.names (state_of lines.old.lines (remembered_of remembered.old.entries) dialect) result (state_of lines.new.lines (remembered_of remembered.new.entries) dialect) }
+    ensures next { NextItem env.now.names
+        (state_of lines.old.lines (remembered_of remembered.old.entries) dialect) result
+        (state_of lines.new.lines (remembered_of remembered.new.entries) dialect) }
     ensures falls { IsSome result → fuel_of lines.new.lines < fuel_of lines.old.lines }
     ensures memory { IfSome result (λ item. IsMemoryErr item → lines.new.lines.stage ≡ Failed) }
-    ensures key { IfSome result (λ item. IfOk item (λ pair. IsTrue (is_key (chars (string_bytes pair.0))))) }
-    ensures asks { AsksReads (lines.new.lines.stage ≡ Open) lines.old.lines.input lines.new.lines.input }
+    ensures key { IfSome result
+        (λ item. IfOk item (λ pair. IsTrue (is_key (chars (string_bytes pair.0))))) }
+    ensures asks { AsksReads (lines.new.lines.stage ≡ Open) lines.old.lines.input
+        lines.new.lines.input }
 {
     'lines: while let Some(outcome) = lines.advance() {
         let item = item_of(lines, outcome, remembered, env, dialect);
@@ -156,12 +163,16 @@ fn item_of<R: Source, A: Allocator + Clone>(
     env: &Environment<A>,
     dialect: Dialect,
 ) -> Option<Result<Pair<A>, A>>
-    ensures adds { AddsLine env.now.names (state_of lines.old.lines (remembered_of remembered.old.entries) dialect) outcome lines.old.line result (state_of lines.new.lines (remembered_of remembered.new.entries) dialect) }
+    ensures adds { AddsLine env.now.names
+        (state_of lines.old.lines (remembered_of remembered.old.entries) dialect) outcome
+        lines.old.line result
+        (state_of lines.new.lines (remembered_of remembered.new.entries) dialect) }
     ensures falls { fuel_of lines.new.lines ≤ fuel_of lines.old.lines }
     ensures input { lines.new.lines.input ≡ lines.old.lines.input }
     ensures stage { lines.new.lines.stage ≡ Open → lines.old.lines.stage ≡ Open }
     ensures memory { IfSome result (λ item. IsMemoryErr item → lines.new.lines.stage ≡ Failed) }
-    ensures key { IfSome result (λ item. IfOk item (λ pair. IsTrue (is_key (chars (string_bytes pair.0))))) }
+    ensures key { IfSome result
+        (λ item. IfOk item (λ pair. IsTrue (is_key (chars (string_bytes pair.0))))) }
 {
     let said = said_by(lines, outcome, remembered, env, dialect);
     if is_refused(&said) {
@@ -178,9 +189,14 @@ fn said_by<R: Source, A: Allocator + Clone>(
     env: &Environment<A>,
     dialect: Dialect,
 ) -> ParsedLine<A>
-    ensures says { OnOk outcome (IsMemoryErr result ⊎ ((said : Outcome) × Says dialect (chars lines.now.line) said × IsLineAnswer (names_of env.now.names (remembered_of remembered.old.entries)) said result)) }
-    ensures remembers { OnOk outcome (Remembers (chars lines.now.line) (remembered_of remembered.old.entries) (remembered_of remembered.new.entries) result) }
-    ensures fault { IfErr outcome (λ e. (result ≡ Err e) × (remembered_of remembered.new.entries ≡ remembered_of remembered.old.entries)) }
+    ensures says { OnOk outcome (IsMemoryErr result
+        ⊎ ((said : Outcome) × Says dialect (chars lines.now.line) said × IsLineAnswer (names_of
+        env.now.names (remembered_of remembered.old.entries)) said result)) }
+    ensures remembers { OnOk outcome (Remembers (chars lines.now.line)
+        (remembered_of remembered.old.entries) (remembered_of remembered.new.entries) result) }
+    ensures fault { IfErr outcome (λ e.
+        (result ≡ Err e)
+        × (remembered_of remembered.new.entries ≡ remembered_of remembered.old.entries)) }
     ensures key { IfOk result HasKey }
 {
     outcome?;
@@ -200,7 +216,8 @@ impl<R: Source + Drop, A: Allocator + Clone> Iter<R, A> {
     /// ```
     pub fn load(self, env: &mut Environment<A>) -> Result<(), A>
         ensures shut { self.lines.stage ≢ Open → (result ≡ Ok tt) × (env.new ≡ env.old) }
-        ensures told { self.lines.stage ≡ Open → LoadsLeft load_result self env.old.names result env.new.names }
+        ensures told { self.lines.stage ≡ Open →
+            LoadsLeft load_result self env.old.names result env.new.names }
         ensures keeps { KeepsNames env.old.names env.new.names }
         ensures keys { ChangesKeys env.old.names env.new.names }
         ensures mark { env.new.loaded ≡ env.old.loaded }
@@ -215,7 +232,8 @@ impl<R: Source + Drop, A: Allocator + Clone> Iter<R, A> {
     /// ```
     pub fn load_override(self, env: &mut Environment<A>) -> Result<(), A>
         ensures shut { self.lines.stage ≢ Open → (result ≡ Ok tt) × (env.new ≡ env.old) }
-        ensures told { self.lines.stage ≡ Open → LoadsLeft override_result self env.old.names result env.new.names }
+        ensures told { self.lines.stage ≡ Open →
+            LoadsLeft override_result self env.old.names result env.new.names }
         ensures keys { ChangesKeys env.old.names env.new.names }
         ensures mark { env.new.loaded ≡ env.old.loaded }
     {
@@ -275,8 +293,10 @@ pub fn from_read<R: Source + Drop, A: Allocator + Clone>(
     reader: R,
     env: &mut Environment<A>,
 ) -> Result<(), A>
-    ensures told { LoadsLeft load_result (fresh (R.ahead reader) (R.calls reader) Dialect.V15) env.old.names result env.new.names }
-    ensures in_turn { LoadsLeft (run Keep) (fresh (R.ahead reader) (R.calls reader) Dialect.V15) env.old.names result env.new.names }
+    ensures told { LoadsLeft load_result (fresh (R.ahead reader) (R.calls reader) Dialect.V15)
+        env.old.names result env.new.names }
+    ensures in_turn { LoadsLeft (run Keep) (fresh (R.ahead reader) (R.calls reader) Dialect.V15)
+        env.old.names result env.new.names }
     ensures keeps { KeepsNames env.old.names env.new.names }
     ensures keys { ChangesKeys env.old.names env.new.names }
     ensures mark { env.new.loaded ≡ env.old.loaded }
@@ -290,8 +310,10 @@ pub fn from_read_override<R: Source + Drop, A: Allocator + Clone>(
     reader: R,
     env: &mut Environment<A>,
 ) -> Result<(), A>
-    ensures told { LoadsLeft override_result (fresh (R.ahead reader) (R.calls reader) Dialect.V15) env.old.names result env.new.names }
-    ensures in_turn { LoadsLeft (run Replace) (fresh (R.ahead reader) (R.calls reader) Dialect.V15) env.old.names result env.new.names }
+    ensures told { LoadsLeft override_result (fresh (R.ahead reader) (R.calls reader) Dialect.V15)
+        env.old.names result env.new.names }
+    ensures in_turn { LoadsLeft (run Replace)
+        (fresh (R.ahead reader) (R.calls reader) Dialect.V15) env.old.names result env.new.names }
     ensures keys { ChangesKeys env.old.names env.new.names }
     ensures mark { env.new.loaded ≡ env.old.loaded }
 {

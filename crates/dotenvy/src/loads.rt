@@ -3,17 +3,17 @@ ghost use Rattle.std.specs.Prelude.{◌≡◌};
 ghost use Rattle.std.specs.Str.{chars};
 ghost use Rattle.dotenvy.specs.Remembered.{remembered_of};
 ghost use Rattle.dotenvy.specs.Names.{values_of};
-ghost use Rattle.dotenvy.specs.Environment.{KeepsNames};
-ghost use Rattle.dotenvy.specs.Run.{Keep, sets};
+ghost use Rattle.dotenv_base.specs.Environment.{KeepsNames};
+ghost use Rattle.dotenv_format.specs.Run.{Keep, sets};
 ghost use Rattle.dotenvy.specs.LoadsLeft.{ChangesKeys};
 ghost use Rattle.dotenvy.specs.LoadedLine.{mode_of, LoadsLine};
 
-use crate::dialect::Dialect;
-use crate::environment::Environment;
-use crate::errors::Result;
 use crate::names::Names;
-use crate::parse::{fault_error, pair_of, scan_line};
+use crate::parse::{pair_of, scan_line};
 use crate::remembered::Remembered;
+use dotenv_base::environment::Environment;
+use dotenv_base::errors::{Result, fault_error};
+use dotenv_format::dialect::Dialect;
 use std::alloc::Allocator;
 
 /// Whether a load keeps the values of names that are there, or replaces them.

@@ -1,17 +1,17 @@
 // What the names of a line stand for, and what a value means by them.
 ghost use Rattle.std.specs.Prelude.{◌≡◌, ◌≤◌, ◌+◌, ◌++◌, [], length, unwrap_or, string_bytes, string_len, MatchResult};
-ghost use Rattle.dotenvy.specs.Errors.{IsMemory};
+ghost use Rattle.dotenv_base.specs.Errors.{IsMemory};
 ghost use Rattle.std.specs.String.{string_capacity};
 ghost use Rattle.std.specs.Str.{chars, encode_utf8_all};
-ghost use Rattle.dotenvy.specs.NextPiece.{piece_bytes};
+ghost use Rattle.dotenv_format.specs.NextPiece.{piece_bytes};
 ghost use Rattle.dotenvy.specs.Names.{look_up_of, saturated, Measures, MeansBytes, HasRoom, Appends};
 
-use crate::dialect::Dialect;
-use crate::environment::Environment;
-use crate::errors::Result;
 use crate::remembered::{Remembered, recall};
-use crate::text::Quoting;
-use crate::value::{NextPiece, Piece, next_piece};
+use dotenv_base::environment::Environment;
+use dotenv_base::errors::Result;
+use dotenv_format::dialect::Dialect;
+use dotenv_format::text::Quoting;
+use dotenv_format::value::{NextPiece, Piece, next_piece};
 use std::alloc::Allocator;
 
 /// The texts that the names of a line stand for.
@@ -24,7 +24,8 @@ pub(crate) struct Names<'a, A: Allocator> {
 impl<'a, A: Allocator> Names<'a, A> {
     // The environment's value, else the remembered text, else the empty text.
     fn look_up(&self, name: &str) -> &'a str
-        ensures { result.now ≡ encode_utf8_all (unwrap_or (look_up_of self.now (chars name.now)) []) }
+        ensures { result.now
+            ≡ encode_utf8_all (unwrap_or (look_up_of self.now (chars name.now)) []) }
     {
         let found = match self.environment.get(name) {
             Some(value) => Some(value),
@@ -70,8 +71,10 @@ impl<'a, A: Allocator> Names<'a, A> {
 
     #[inline(always)]
     fn push_piece(&self, text: &mut String<A>, piece: Piece<'_>)
-        requires { string_len text.old + length (piece_bytes (look_up_of self.now) piece) ≤ string_capacity text.old }
-        ensures bytes { string_bytes text.new ≡ string_bytes text.old ++ piece_bytes (look_up_of self.now) piece.entry }
+        requires { string_len text.old + length (piece_bytes (look_up_of self.now) piece)
+            ≤ string_capacity text.old }
+        ensures bytes { string_bytes text.new
+            ≡ string_bytes text.old ++ piece_bytes (look_up_of self.now) piece.entry }
         ensures capacity { string_capacity text.old ≤ string_capacity text.new }
     {
         match piece {
@@ -85,8 +88,10 @@ impl<'a, A: Allocator> Names<'a, A> {
 
     /// Appends what the value means to a text that has room for it.
     pub(crate) fn append_meaning(&self, text: &mut String<A>, value: &str, dialect: Dialect)
-        requires { HasRoom dialect (look_up_of self.now) (chars value.now) (string_len text.old) (string_capacity text.old) }
-        ensures { Appends dialect (look_up_of self.now) (chars value.now) (string_bytes text.old) (string_bytes text.new) }
+        requires { HasRoom dialect (look_up_of self.now) (chars value.now) (string_len text.old)
+            (string_capacity text.old) }
+        ensures { Appends dialect (look_up_of self.now) (chars value.now) (string_bytes text.old)
+            (string_bytes text.new) }
     {
         let mut rest = value;
         let mut quoting = Quoting::Unquoted;
@@ -106,7 +111,10 @@ impl<'a, A: Allocator> Names<'a, A> {
         dialect: Dialect,
     ) -> Result<String<A>, A>
         requires { MeansBytes dialect (look_up_of self.now) (chars value.now) len }
-        ensures { MatchResult result (λ text. Appends dialect (look_up_of self.now) (chars value.now) [] (string_bytes text)) IsMemory }
+        ensures { MatchResult result
+            (λ text.
+            Appends dialect (look_up_of self.now) (chars value.now) [] (string_bytes text))
+            IsMemory }
     {
         let mut meaning = String::with_capacity(alloc, len)?;
         self.append_meaning(&mut meaning, value, dialect);

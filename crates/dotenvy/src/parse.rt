@@ -1,22 +1,22 @@
 // What one logical line says.
 ghost use Rattle.std.specs.Prelude.{◌≡◌, ◌⊎◌, ◌<◌, ◌++◌, not, length, List, ℕ, IfOk, IfErr};
 ghost use Rattle.std.specs.Str.{chars};
-ghost use Rattle.dotenvy.specs.Characters.{byte_len};
-ghost use Rattle.dotenvy.specs.Line.{Outcome, Says, value_index};
-ghost use Rattle.dotenvy.specs.Errors.{IsMemory, IsMemoryErr, IsLineParseOf};
+ghost use Rattle.dotenv_format.specs.Characters.{byte_len};
+ghost use Rattle.dotenv_format.specs.Line.{Outcome, Says, value_index};
+ghost use Rattle.dotenv_base.specs.Errors.{IsMemory, IsMemoryErr};
 ghost use Rattle.dotenvy.specs.Remembered.{remembered_of};
 ghost use Rattle.dotenvy.specs.Names.{look_up_of, names_of};
-ghost use Rattle.dotenvy.specs.Value.{Piece};
+ghost use Rattle.dotenv_format.specs.Value.{Piece};
 ghost use Rattle.dotenvy.specs.ScanLine.{IsAssigned, ScansAssigned, Scans, IsPairOf, AreCopiesOf};
 ghost use Rattle.dotenvy.specs.ParsedLine.{IsLineAnswer, Remembers, HasKey};
 
-use crate::dialect::Dialect;
-use crate::environment::Environment;
-use crate::errors::{Error, Result};
 use crate::names::Names;
 use crate::remembered::{Remembered, remember};
-use crate::statement::split_statement;
-use crate::text::{char_count, is_empty_or_comment};
+use dotenv_base::environment::Environment;
+use dotenv_base::errors::{Result, fault_error};
+use dotenv_format::dialect::Dialect;
+use dotenv_format::statement::split_statement;
+use dotenv_format::text::{char_count, is_empty_or_comment};
 use std::alloc::Allocator;
 
 pub(crate) type Pair<A> = (String<A>, String<A>);
@@ -53,19 +53,11 @@ struct Copies<A: Allocator> {
     remembered_value: Option<String<A>>,
 }
 
-pub(crate) fn fault_error<A: Allocator>(alloc: A, text: &str, index: usize) -> Error<A>
-    ensures { IsMemory result ⊎ IsLineParseOf (chars text.now) index result }
-{
-    match String::from_str(alloc, text) {
-        Ok(text) => Error::LineParse(text, index),
-        Err(refused) => Error::Memory(refused),
-    }
-}
-
 // How many bytes of the text stand before what is left of it.
 fn front_len(text: &str, left: &str) -> usize
     requires { (front : List ℕ) × (chars text.now ≡ front ++ chars left.now) }
-    ensures { (front : List ℕ) → chars text.now ≡ front ++ chars left.now → result ≡ byte_len front }
+    ensures { (front : List ℕ) → chars text.now ≡ front ++ chars left.now →
+        result ≡ byte_len front }
 {
     text.len() - left.len()
 }
@@ -74,7 +66,8 @@ fn front_len(text: &str, left: &str) -> usize
 fn fault_index(value: &str, left: &str) -> usize
     requires cut { (front : List ℕ) × (chars value.now ≡ front ++ chars left.now) }
     requires nonempty { 0 < length value.now }
-    ensures { (front : List ℕ) → chars value.now ≡ front ++ chars left.now → result ≡ value_index (chars value.now) (length front) }
+    ensures { (front : List ℕ) → chars value.now ≡ front ++ chars left.now →
+        result ≡ value_index (chars value.now) (length front) }
 {
     if left.is_empty() {
         value.len() - 1
@@ -191,8 +184,11 @@ pub(crate) fn parse_line<A: Allocator + Clone>(
     environment: &Environment<A>,
     dialect: Dialect,
 ) -> ParsedLine<A>
-    ensures answer { IsMemoryErr result ⊎ ((outcome : Outcome) × Says dialect (chars line.now) outcome × IsLineAnswer (names_of environment.now.names (remembered_of remembered.old.entries)) outcome result) }
-    ensures remembers { Remembers (chars line.now) (remembered_of remembered.old.entries) (remembered_of remembered.new.entries) result }
+    ensures answer { IsMemoryErr result
+        ⊎ ((outcome : Outcome) × Says dialect (chars line.now) outcome × IsLineAnswer (names_of
+        environment.now.names (remembered_of remembered.old.entries)) outcome result) }
+    ensures remembers { Remembers (chars line.now) (remembered_of remembered.old.entries)
+        (remembered_of remembered.new.entries) result }
     ensures key { IfOk result HasKey }
 {
     let names = Names {

@@ -32,7 +32,9 @@ pub(crate) fn remember<A: Allocator + Clone>(
     key: String<A>,
     value: Option<String<A>>,
 ) -> Result<(), AllocError>
-    ensures ok { OnOk result (remembered_of remembered.new.entries ≡ map.insert (remembered_of remembered.old.entries) (string_bytes key) (option_map string_bytes value)) }
+    ensures ok { OnOk result (remembered_of remembered.new.entries
+        ≡ map.insert (remembered_of remembered.old.entries) (string_bytes key)
+        (option_map string_bytes value)) }
     ensures same { OnErr result (remembered.new.entries ≡ remembered.old.entries) }
 {
     remembered.insert(key, value)?;

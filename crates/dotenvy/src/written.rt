@@ -2,21 +2,21 @@
 
 ghost use Rattle.std.specs.Prelude.{◌≡◌, ◌≤◌, ◌+◌, ◌++◌, ◌∷◌, [], length, filter, IfOk, IfErr, IsTrue, chars, encode_utf8_all, string_bytes, string_len};
 ghost use Rattle.std.specs.String.{string_capacity};
-ghost use Rattle.dotenvy.specs.Statement.{is_key};
-ghost use Rattle.dotenvy.specs.Characters.{byte_len};
+ghost use Rattle.dotenv_format.specs.Statement.{is_key};
+ghost use Rattle.dotenv_format.specs.Characters.{byte_len};
 ghost use Rattle.dotenvy.specs.Names.{saturated};
-ghost use Rattle.dotenvy.specs.Errors.{IsIoOf};
-ghost use Rattle.dotenvy.specs.Written.{needs_backslash, written_character, written_text, written_bytes};
+ghost use Rattle.dotenv_base.specs.Errors.{IsIoOf};
+ghost use Rattle.dotenv_format.specs.Written.{needs_backslash, written_character, written_text, written_bytes};
 ghost use Rattle.dotenvy.specs.Sent.{Sends, Writes};
-ghost use Rattle.dotenvy.specs.Environment.{AreTexts};
+ghost use Rattle.dotenv_base.specs.Environment.{AreTexts};
 ghost use Rattle.dotenvy.specs.Listed.{pairs_of, Lists, ListsSome};
 
-use crate::dialect::Dialect;
-use crate::environment::Environment;
-use crate::errors::{Error, Result};
 use crate::iter::Iter;
-use crate::source::{Sink, Source};
-use crate::text::{Class, Quoting, split_first, split_while};
+use dotenv_base::environment::Environment;
+use dotenv_base::errors::{Error, Result};
+use dotenv_base::source::{Sink, Source};
+use dotenv_format::dialect::Dialect;
+use dotenv_format::text::{Class, Quoting, split_first, split_while};
 use memchr::memchr3_iter;
 use std::alloc::{AllocError, Allocator};
 use std::io;
@@ -52,7 +52,8 @@ fn written_len(key: &str, text: &str) -> usize
 // Appends a character of a value, as it is written, to a text that has room for it.
 fn push_character<A: Allocator>(out: &mut String<A>, c: char)
     requires { string_len out.old + byte_len (written_character c) ≤ string_capacity out.old }
-    ensures bytes { string_bytes out.new ≡ string_bytes out.old ++ encode_utf8_all (written_character c) }
+    ensures bytes { string_bytes out.new
+        ≡ string_bytes out.old ++ encode_utf8_all (written_character c) }
     ensures capacity { string_capacity out.old ≤ string_capacity out.new }
 {
     if needs_backslash(c) {
@@ -63,8 +64,10 @@ fn push_character<A: Allocator>(out: &mut String<A>, c: char)
 
 // Appends the written form of a pair to a text that has room for it.
 fn push_written<A: Allocator>(out: &mut String<A>, key: &str, text: &str)
-    requires { string_len out.old + byte_len (written_text ((chars key.now, chars text.now) ∷ [])) ≤ string_capacity out.old }
-    ensures bytes { string_bytes out.new ≡ string_bytes out.old ++ written_bytes ((chars key.now, chars text.now) ∷ []) }
+    requires { string_len out.old + byte_len (written_text ((chars key.now, chars text.now) ∷ []))
+        ≤ string_capacity out.old }
+    ensures bytes { string_bytes out.new
+        ≡ string_bytes out.old ++ written_bytes ((chars key.now, chars text.now) ∷ []) }
     ensures capacity { string_capacity out.old ≤ string_capacity out.new }
 {
     out.push_str(key).unwrap();
@@ -100,7 +103,8 @@ fn listing<A: Allocator + Clone>(
     alloc: A,
     env: &Environment<A>,
 ) -> std::result::Result<String<A>, AllocError>
-    ensures bytes { IfOk result (λ text. string_bytes text ≡ written_bytes (pairs_of env.now.names)) }
+    ensures bytes { IfOk result
+        (λ text. string_bytes text ≡ written_bytes (pairs_of env.now.names)) }
     ensures texts { AreTexts env.now.names }
 {
     let mut out = String::with_capacity(alloc, listing_len(env))?;

@@ -1,13 +1,35 @@
 -- Words that are groups and what follows them: one group more, and the ways to end.
-use Rattle.std.proofs.Common.{◌≡◌, ℕ, Bool, true, false, ◌||◌, List, [], ◌∷◌, ◌++◌, append_assoc, append-nil, length, Result, Ok, Err, refl, sym, ◌∙◌, ap, subst}
+use Rattle.std.proofs.Common.{
+  ◌≡◌,
+  ℕ,
+  Bool,
+  true,
+  false,
+  ◌||◌,
+  List,
+  [],
+  ◌∷◌,
+  ◌++◌,
+  append_assoc,
+  append-nil,
+  length,
+  Result,
+  Ok,
+  Err,
+  refl,
+  sym,
+  ◌∙◌,
+  ap,
+  subst,
+}
 use Rattle.std.specs.Prelude.{string_bytes, if◌then◌else◌}
 use Rattle.std.specs.List.{AllZip, flat_map, list_any}
 use Rattle.std.proofs.lemmas.List.{nil_from_length}
 use Rattle.std.proofs.lemmas.Grind.{flat_map-append}
 use Rattle.std.proofs.lemmas.List.Folds.{list_any-append}
 use Rattle.std.specs.declared.string.String.{String}
-use Rattle.dotenvy.specs.declared.dialect.Dialect.{Dialect}
-use Rattle.dotenvy.specs.declared.dialect.Dialect.TheVariants.{V15, Next}
+use Rattle.dotenv_format.specs.declared.dialect.Dialect.{Dialect}
+use Rattle.dotenv_format.specs.declared.dialect.Dialect.TheVariants.{V15, Next}
 use Rattle.dotenvy_run.specs.declared.failure.Usage.{Usage}
 use Rattle.dotenvy_run.specs.declared.failure.Usage.TheVariants as refusal
 use Rattle.dotenvy_run.specs.Answers.{texts, SaysAnswer, AnswersWords}
@@ -15,7 +37,37 @@ use Rattle.dotenvy_run.specs.Failures.{IsMemory}
 use Rattle.dotenvy_run.specs.Words as definition
 use Rattle.dotenvy_run.proofs.WordsOnce.{usage_exists}
 use Rattle.dotenvy_run.specs.FirstGroup.{AreCommand, BeginsWith, IsUnknown}
-use Rattle.dotenvy_run.specs.Words.{Form, Group, file, joined_file, assigned_file, list, next, Ending, nothing, missing_file, unknown, command, file_word, AreGroups, IsGroup, IsEnding, group_words, ending_words, group_files, is_list, is_next, CommandLine, MissingCommand, MissingFile, UnknownOption, command_line, with_group, answer_to, HasUsage}
+use Rattle.dotenvy_run.specs.Words.{
+  Form,
+  Group,
+  file,
+  joined_file,
+  assigned_file,
+  list,
+  next,
+  Ending,
+  nothing,
+  missing_file,
+  unknown,
+  command,
+  file_word,
+  AreGroups,
+  IsGroup,
+  IsEnding,
+  group_words,
+  ending_words,
+  group_files,
+  is_list,
+  is_next,
+  CommandLine,
+  MissingCommand,
+  MissingFile,
+  UnknownOption,
+  command_line,
+  with_group,
+  answer_to,
+  HasUsage,
+}
 
 -- these words are groups and what is left, and the line is that of the groups
 abbrev pub SoFar : List (List ℕ) → List (List ℕ) → CommandLine → Type 0

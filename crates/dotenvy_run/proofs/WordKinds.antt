@@ -1,9 +1,28 @@
 -- What a word is by itself, from the tests of its front.
-use Rattle.std.proofs.Common.{◌≡◌, ◌≢◌, ℕ, Bool, true, false, List, [], ◌∷◌, ◌++◌, Option, Some, None, refl, sym, ◌∙◌, ap, arith}
+use Rattle.std.proofs.Common.{
+  ◌≡◌,
+  ◌≢◌,
+  ℕ,
+  Bool,
+  true,
+  false,
+  List,
+  [],
+  ◌∷◌,
+  ◌++◌,
+  Option,
+  Some,
+  None,
+  refl,
+  sym,
+  ◌∙◌,
+  ap,
+  arith,
+}
 use Rattle.std.specs.Prelude.{◌==◌, codes, MatchOption, unwrap_or, if◌then◌else◌}
 use Rattle.std.specs.Str.Pattern.{FindsTextPrefix, StripsPrefix}
 use denote.Ref.{Bor}
-use Rattle.dotenvy.specs.Characters.{equals_sign}
+use Rattle.dotenv_format.specs.Characters.{equals_sign}
 use Rattle.dotenvy_run.specs.declared.command_line.Group.TheVariants as found
 use Rattle.dotenvy_run.specs.Words.{IsGroup, joined_file, assigned_file, without_equals}
 use Rattle.dotenvy_run.specs.FirstGroup.{IsAlone}

@@ -1,6 +1,6 @@
 -- How a run ends.
 use Rattle.std.specs.Prelude.{ℕ, ◌≡◌, Result, Ok, Err}
-use Rattle.dotenvy.specs.declared.errors.Error.{Error}
+use Rattle.dotenv_base.specs.declared.errors.Error.{Error}
 use Rattle.dotenvy_run.specs.declared.failure.Failure.{Failure}
 use Rattle.dotenvy_run.specs.declared.failure.Failure.TheVariants.{Usage, Load, Start}
 use Rattle.dotenvy_run.specs.Answers.{SaysUsage}

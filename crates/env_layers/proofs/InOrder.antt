@@ -1,5 +1,26 @@
 -- What calls of `add` come to, one after another.
-use Rattle.std.proofs.Common.{◌≡◌, Bool, true, false, cond, List, [], ◌∷◌, ◌++◌, append-nil, None, Result, Ok, Err, refl, sym, ◌∙◌, ap, subst, arith}
+use Rattle.std.proofs.Common.{
+  ◌≡◌,
+  Bool,
+  true,
+  false,
+  cond,
+  List,
+  [],
+  ◌∷◌,
+  ◌++◌,
+  append-nil,
+  None,
+  Result,
+  Ok,
+  Err,
+  refl,
+  sym,
+  ◌∙◌,
+  ap,
+  subst,
+  arith,
+}
 use Rattle.std.proofs.Math.Path.{fun_ext}
 use Rattle.std.specs.Prelude.{None, filter, is_ok, option_map}
 use Rattle.std.specs.Option.{option_flatten}
@@ -8,22 +29,31 @@ use Rattle.std.specs.FinMap as fin
 use Rattle.std.specs.List.{FoldsTo}
 use Rattle.std.specs.Ordering.{nat_cmp}
 use Rattle.std.specs.Str.{chars, encode_utf8_all}
-use Rattle.dotenvy.specs.declared.dialect.Dialect.TheVariants.{V15}
-use Rattle.dotenvy.specs.declared.errors.Error.{Error}
-use Rattle.dotenvy.specs.Entries.{Failure, Entry}
-use Rattle.dotenvy.specs.Environment.{Texts}
+use Rattle.dotenv_format.specs.declared.dialect.Dialect.TheVariants.{V15}
+use Rattle.dotenv_base.specs.declared.errors.Error.{Error}
+use Rattle.dotenv_format.specs.Entries.{Failure, Entry}
+use Rattle.dotenv_base.specs.Environment.{Texts}
 use Rattle.dotenvy.specs.ItemLaws.{LoadsAllLeft, LoadsTakeAll}
 use Rattle.dotenvy.specs.ItemRuns.{CanRead}
-use Rattle.dotenvy.specs.Items.{no_values}
+use Rattle.dotenv_format.specs.Items.{no_values}
 use Rattle.dotenvy.specs.Iter.{fresh}
-use Rattle.dotenvy.specs.Laws.{HasOneReading}
+use Rattle.dotenv_format.specs.Laws.{HasOneReading}
 use Rattle.dotenvy.specs.LoadsLeft.{IsAnswer, Leaves}
-use Rattle.dotenvy.specs.Marks.{without_mark}
+use Rattle.dotenv_format.specs.Marks.{without_mark}
 use Rattle.dotenvy.specs.Names.{values_of, recalled_of}
 use Rattle.env_layers.specs.declared.layers.Mode.{Mode}
 use Rattle.env_layers.specs.declared.layers.Mode.TheVariants.{Keep, Override}
 use Rattle.env_layers.specs.Layers.{after_load, rule_of}
-use Rattle.env_layers.specs.Laws.{Layer, telling, Adds, HasLayerEntries, layer_result, Applies, LayersInOrder, AcceptedExactly}
+use Rattle.env_layers.specs.Laws.{
+  Layer,
+  telling,
+  Adds,
+  HasLayerEntries,
+  layer_result,
+  Applies,
+  LayersInOrder,
+  AcceptedExactly,
+}
 
 -- a load in either mode that was not refused memory takes all that is left
 takes_all : {A : Type 0} (mode : Mode) → LoadsTakeAll A → LoadsAllLeft (rule_of mode) A

@@ -1,12 +1,12 @@
 -- What a layer does to an environment.
 use Rattle.std.specs.Prelude.{◌≡◌, Option, None, Result, Ok, Err}
-use Rattle.dotenvy.specs.declared.dialect.Dialect.TheVariants.{V15}
-use Rattle.dotenvy.specs.declared.errors.Error.{Error}
-use Rattle.dotenvy.specs.Environment.{Texts}
+use Rattle.dotenv_format.specs.declared.dialect.Dialect.TheVariants.{V15}
+use Rattle.dotenv_base.specs.declared.errors.Error.{Error}
+use Rattle.dotenv_base.specs.Environment.{Texts}
 use Rattle.dotenvy.specs.Iter.{fresh}
-use Rattle.dotenvy.specs.Loads.{load_result, override_result}
+use Rattle.dotenv_format.specs.Loads.{load_result, override_result}
 use Rattle.dotenvy.specs.LoadsLeft.{Rule, LoadsLeft}
-use Rattle.dotenvy.specs.Source.{Ahead}
+use Rattle.dotenv_base.specs.Source.{Ahead}
 use Rattle.env_layers.specs.declared.layers.Mode.{Mode}
 use Rattle.env_layers.specs.declared.layers.Mode.TheVariants.{Keep, Override}
 

@@ -1,6 +1,6 @@
 // What a loop of writes leaves and answers where no write is left.
 use super::*;
-use crate::source::Plain;
+use dotenv_base::source::Plain;
 use std::alloc::Global;
 use std::io::Write;
 use std::test::Fail;

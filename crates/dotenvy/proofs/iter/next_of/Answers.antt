@@ -1,13 +1,13 @@
 use Rattle.std.proofs.Common.{rules, ◌≡◌, subst, sym, refl, ap, ◌∙◌}
 use Rattle.std.proofs.lemmas.Option.{none-some}
-use Rattle.dotenvy.specs.Source.{Ahead}
-use Rattle.dotenvy.specs.Lines.{LinesState}
+use Rattle.dotenv_base.specs.Source.{Ahead}
+use Rattle.dotenv_lines.specs.Lines.{LinesState}
 use Rattle.dotenvy.specs.Remembered.{remembered_of}
-use Rattle.dotenvy.specs.Splitter.{SplitterState}
+use Rattle.dotenv_lines.specs.Splitter.{SplitterState}
 use Rattle.dotenvy.specs.LineItem.{state_of}
-use Rattle.dotenvy.specs.declared.lines.Stage.TheVariants.{Open}
-use Rattle.dotenvy.specs.Input.{InputState, AsksReads}
-use Rattle.dotenvy.proofs.AskedReads.{asks_none, asks_line, asks_weaker}
+use Rattle.dotenv_lines.specs.declared.lines.Stage.TheVariants.{Open}
+use Rattle.dotenv_lines.specs.Input.{InputState, AsksReads}
+use Rattle.dotenv_lines.proofs.AskedReads.{asks_none, asks_line, asks_weaker}
 use Rattle.dotenvy.proofs.NextItems.{passed_none, passed_all, next_leads, leads_item, leads_on}
 use Rattle.dotenvy.proofs.iter.next_of.Goals as goal
 
@@ -15,7 +15,10 @@ pub lines-init : goal.lines-init
 lines-init g c = record {
   falls = search rules;
   shut = λ shut. (refl, refl);
-  passed = λ is_open a told entries has. passed_none a (state_of c.args.lines.now.lines (remembered_of c.args.remembered.now.entries) c.args.dialect) entries is_open told has;
+  passed =
+      λ is_open a told entries has.
+      passed_none a (state_of c.args.lines.now.lines (remembered_of c.args.remembered.now.entries) c.args.dialect)
+      entries is_open told has;
   asks = asks_none _ c.args.lines.now.lines.input c.args.lines.now.lines.input refl refl refl;
 }
 
@@ -24,9 +27,15 @@ returns-then-is_some-clause-next g c = (
   λ is_open a told entries has.
       let start = state_of c.args.lines.now.lines (remembered_of c.args.remembered.now.entries) c.args.dialect in
       let before = state_of c.lines.lines.lines (remembered_of c.lines.remembered.entries) c.args.dialect in
-      let after = state_of c.item_of-item.new.lines.lines (remembered_of c.item_of-item.new.remembered.entries) c.args.dialect in
-      leads_item c.args.env.now.names a start after entries c.item_of-item.result (sym c.is_some.ensures ∙ c.if-is_some.true)
-      (next_leads c.args.env.now.names start before after c.advance.new.self.lines c.in-Some.outcome c.advance.new.self.line c.item_of-item.result (λ shut. (c.in-Some.ensures.shut shut).0) c.in-Some.ensures.told c.item_of-item.ensures.adds refl a told entries (c.lines.invariant.passed is_open a told entries has)),
+      let after =
+      state_of c.item_of-item.new.lines.lines (remembered_of c.item_of-item.new.remembered.entries)
+      c.args.dialect in
+      leads_item c.args.env.now.names a start after entries c.item_of-item.result
+      (sym c.is_some.ensures ∙ c.if-is_some.true)
+      (next_leads c.args.env.now.names start before after c.advance.new.self.lines c.in-Some.outcome
+      c.advance.new.self.line c.item_of-item.result (λ shut. (c.in-Some.ensures.shut shut).0)
+      c.in-Some.ensures.told c.item_of-item.ensures.adds refl a told entries
+      (c.lines.invariant.passed is_open a told entries has)),
   λ shut.
       let same = ap (λ (l : LinesState). l.stage) (c.lines.invariant.shut shut).0 in
       absurd (none-some c.in-Some.outcome (sym (c.in-Some.ensures.shut (λ is_open. shut (sym same ∙ is_open))).0)),
@@ -41,11 +50,18 @@ lines-preserved g c = record {
   passed = λ is_open a told entries has.
       let start = state_of c.args.lines.now.lines (remembered_of c.args.remembered.now.entries) c.args.dialect in
       let before = state_of c.lines.lines.lines (remembered_of c.lines.remembered.entries) c.args.dialect in
-      let after = state_of c.item_of-item.new.lines.lines (remembered_of c.item_of-item.new.remembered.entries) c.args.dialect in
-      leads_on c.args.env.now.names a start after entries c.item_of-item.result (sym c.is_some.ensures ∙ c.if-is_some.false)
-      (next_leads c.args.env.now.names start before after c.advance.new.self.lines c.in-Some.outcome c.advance.new.self.line c.item_of-item.result (λ shut. (c.in-Some.ensures.shut shut).0) c.in-Some.ensures.told c.item_of-item.ensures.adds refl a told entries (c.lines.invariant.passed is_open a told entries has));
+      let after =
+      state_of c.item_of-item.new.lines.lines (remembered_of c.item_of-item.new.remembered.entries)
+      c.args.dialect in
+      leads_on c.args.env.now.names a start after entries c.item_of-item.result
+      (sym c.is_some.ensures ∙ c.if-is_some.false)
+      (next_leads c.args.env.now.names start before after c.advance.new.self.lines c.in-Some.outcome
+      c.advance.new.self.line c.item_of-item.result (λ shut. (c.in-Some.ensures.shut shut).0)
+      c.in-Some.ensures.told c.item_of-item.ensures.adds refl a told entries
+      (c.lines.invariant.passed is_open a told entries has));
   asks =
-      let line = asks_line c.args.lines.now.lines.input c.lines.lines.lines c.advance.new.self.lines c.lines.invariant.asks
+      let line =
+      asks_line c.args.lines.now.lines.input c.lines.lines.lines c.advance.new.self.lines c.lines.invariant.asks
       (λ shut. ap (λ (s : SplitterState). s.lines) (c.in-Some.ensures.shut shut).1) c.in-Some.ensures.asks in
       asks_weaker _ _ _ _ c.item_of-item.ensures.stage
       (subst (λ (i : InputState). AsksReads (c.advance.new.self.lines.stage ≡ Open) c.args.lines.now.lines.input i)
@@ -65,7 +81,9 @@ returns-clause-next g c = (
   λ shut.
       let was = c.lines.invariant.shut shut in
       let same = ap (λ (l : LinesState). l.stage) was.0 in
-      let lines = ap (λ (s : SplitterState). s.lines) (c.in_default.ensures.shut (λ is_open. shut (sym same ∙ is_open))).1 in (
+      let lines =
+      ap (λ (s : SplitterState). s.lines)
+      (c.in_default.ensures.shut (λ is_open. shut (sym same ∙ is_open))).1 in (
         refl,
         ap (λ (l : LinesState). state_of l (remembered_of c.lines.remembered.entries) c.args.dialect) (lines ∙ was.0)
             ∙ ap (λ r. state_of c.args.lines.now.lines r c.args.dialect) was.1,
@@ -74,7 +92,8 @@ returns-clause-next g c = (
 
 pub returns-then-is_some-clause-asks : goal.returns-then-is_some-clause-asks
 returns-then-is_some-clause-asks g c =
-    let line = asks_line c.args.lines.now.lines.input c.lines.lines.lines c.advance.new.self.lines c.lines.invariant.asks
+    let line =
+    asks_line c.args.lines.now.lines.input c.lines.lines.lines c.advance.new.self.lines c.lines.invariant.asks
     (λ shut. ap (λ (s : SplitterState). s.lines) (c.in-Some.ensures.shut shut).1) c.in-Some.ensures.asks in
     asks_weaker _ _ _ _ c.item_of-item.ensures.stage
     (subst (λ (i : InputState). AsksReads (c.advance.new.self.lines.stage ≡ Open) c.args.lines.now.lines.input i)

@@ -1,11 +1,11 @@
 use Rattle.std.proofs.Common.{◌≡◌, ◌≢◌, ◌≤◌, List}
-use Rattle.dotenvy.specs.declared.lines.Stage.TheVariants.{Open}
-use Rattle.dotenvy.specs.Entries.{Entry}
-use Rattle.dotenvy.specs.Source.{Ahead}
-use Rattle.dotenvy.specs.Input.{AsksReads, IsTold}
-use Rattle.dotenvy.specs.Lines.{fuel_of}
+use Rattle.dotenv_lines.specs.declared.lines.Stage.TheVariants.{Open}
+use Rattle.dotenv_format.specs.Entries.{Entry}
+use Rattle.dotenv_base.specs.Source.{Ahead}
+use Rattle.dotenv_lines.specs.Input.{AsksReads, IsTold}
+use Rattle.dotenv_lines.specs.Lines.{fuel_of}
 use Rattle.dotenvy.specs.LineItem.{state_of}
-use Rattle.dotenvy.specs.Reading.{HasLeft}
+use Rattle.dotenv_lines.specs.Reading.{HasLeft}
 use Rattle.dotenvy.specs.Remembered.{remembered_of}
 use Rattle.dotenvy.proofs.NextItems.{Passed}
 use Rattle.dotenvy.proofs.iter.next_of.Given as goal
@@ -14,9 +14,13 @@ use Rattle.dotenvy.proofs.iter.next_of.Given as goal
 abbrev pub invariant-lines : goal.invariant-lines
 invariant-lines g l = record {
   falls : fuel_of l.lines.lines ≤ fuel_of l.fn.lines.lines;
-  shut : l.fn.lines.lines.stage ≢ Open → (l.lines.lines ≡ l.fn.lines.lines) × (remembered_of l.remembered.entries ≡ remembered_of l.fn.remembered.entries);
-  passed : l.fn.lines.lines.stage ≡ Open → (a : Ahead) → IsTold l.fn.lines.lines.input.left a → (entries : List Entry) → HasLeft l.fn.dialect a.fault a.bytes entries →
-      Passed a (state_of l.fn.lines.lines (remembered_of l.fn.remembered.entries) l.fn.dialect) entries (state_of l.lines.lines (remembered_of l.remembered.entries) l.fn.dialect);
+  shut : l.fn.lines.lines.stage ≢ Open →
+      (l.lines.lines ≡ l.fn.lines.lines)
+      × (remembered_of l.remembered.entries ≡ remembered_of l.fn.remembered.entries);
+  passed : l.fn.lines.lines.stage ≡ Open → (a : Ahead) → IsTold l.fn.lines.lines.input.left a →
+      (entries : List Entry) → HasLeft l.fn.dialect a.fault a.bytes entries →
+      Passed a (state_of l.fn.lines.lines (remembered_of l.fn.remembered.entries) l.fn.dialect) entries
+      (state_of l.lines.lines (remembered_of l.remembered.entries) l.fn.dialect);
   asks : AsksReads (l.lines.lines.stage ≡ Open) l.fn.lines.lines.input l.lines.lines.input;
 }
 

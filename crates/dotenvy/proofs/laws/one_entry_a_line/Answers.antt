@@ -1,4 +1,4 @@
-use Rattle.dotenvy.proofs.LineCounts.{entries_count, items_count}
+use Rattle.dotenv_lines.proofs.LineCounts.{entries_count, items_count}
 use Rattle.dotenvy.proofs.laws.one_entry_a_line.Goals as goal
 
 pub returns : goal.returns

@@ -1,13 +1,13 @@
 use Rattle.std.proofs.Common.{◌≡◌, Ok, ap, subst, sym, ◌∙◌, true}
 use Rattle.std.specs.Str.{chars}
 use Rattle.std.proofs.lemmas.Str.{IsUtf8-string_bytes}
-use Rattle.dotenvy.specs.Statement.{is_key}
+use Rattle.dotenv_format.specs.Statement.{is_key}
 use Rattle.dotenvy.specs.Remembered.{remembered_of}
 use Rattle.dotenvy.specs.Names.{values_of, names_of}
-use Rattle.dotenvy.specs.Run.{sets}
+use Rattle.dotenv_format.specs.Run.{sets}
 use Rattle.dotenvy.specs.LoadedLine.{mode_of}
 use Rattle.dotenvy.specs.ScanLine.{IsDeclared, Scans}
-use Rattle.dotenvy.proofs.Keys.{name_ok-key}
+use Rattle.dotenv_base.proofs.Keys.{name_ok-key}
 use Rattle.dotenvy.proofs.LoadedLines.{fault_loaded, passed_loaded, set_loaded, set_keeps, set_changes_keys}
 use Rattle.dotenvy.proofs.loads.load_line.Goals as goal
 

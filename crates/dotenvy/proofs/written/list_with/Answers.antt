@@ -1,7 +1,7 @@
 use Rattle.std.proofs.Common.{◌∙◌, inr, subst, ℕ, List}
 use Rattle.dotenvy.specs.Sent.{Sends, most_writes}
 use Rattle.std.proofs.lemmas.Result.{err_from_is_err_and}
-use Rattle.dotenvy.specs.Loads.{load_result}
+use Rattle.dotenv_format.specs.Loads.{load_result}
 use Rattle.dotenvy.specs.LoadsLeft.{ChangesKeys}
 use Rattle.dotenvy.proofs.ListedLoads.{fresh_load, unwritten, none_listed, unread_lists, failed_lists, loaded_lists}
 use Rattle.dotenvy.proofs.written.list_with.Goals as goal

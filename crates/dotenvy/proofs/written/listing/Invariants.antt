@@ -1,8 +1,8 @@
 use Rattle.std.proofs.Common.{◌≡◌, ◌≤◌, ◌++◌}
 use Rattle.std.specs.Prelude.{string_bytes}
 use Rattle.std.specs.String.{string_capacity}
-use Rattle.dotenvy.specs.Characters.{byte_len}
-use Rattle.dotenvy.specs.Written.{written_text, written_bytes}
+use Rattle.dotenv_format.specs.Characters.{byte_len}
+use Rattle.dotenv_format.specs.Written.{written_text, written_bytes}
 use Rattle.dotenvy.specs.Listed.{pairs_of}
 use Rattle.dotenvy.proofs.WrittenBytes.{texts}
 use Rattle.dotenvy.proofs.written.listing.Given as goal

@@ -1,7 +1,7 @@
 use Rattle.std.proofs.Common.{◌≡◌, ◌+◌, ◌-◌, ◌≤◌}
 use Rattle.std.specs.Prelude.{◌^◌}
-use Rattle.dotenvy.specs.Characters.{byte_len}
-use Rattle.dotenvy.specs.Written.{written_text}
+use Rattle.dotenv_format.specs.Characters.{byte_len}
+use Rattle.dotenv_format.specs.Written.{written_text}
 use Rattle.dotenvy.specs.Names.{saturated}
 use Rattle.dotenvy.specs.Listed.{pairs_of}
 use Rattle.dotenvy.proofs.WrittenBytes.{texts}

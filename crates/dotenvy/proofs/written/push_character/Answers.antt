@@ -2,8 +2,8 @@ use Rattle.std.proofs.Common.{◌≡◌, ◌++◌, ◌∷◌, [], length, append
 use Rattle.std.specs.Prelude.{string_bytes, string_len, encode_utf8, encode_utf8_all}
 use Rattle.std.specs.String.{string_capacity}
 use Rattle.std.proofs.lemmas.Str.{encode_ascii}
-use Rattle.dotenvy.specs.Characters.{backslash}
-use Rattle.dotenvy.specs.Written.{written_character}
+use Rattle.dotenv_format.specs.Characters.{backslash}
+use Rattle.dotenv_format.specs.Written.{written_character}
 use Rattle.dotenvy.proofs.WrittenBytes.{escaped_bytes, unescaped_bytes, when_ok}
 use Rattle.dotenvy.proofs.written.push_character.Goals as goal
 use Rattle.dotenvy.proofs.written.push_character.Goals.{then-needs_backslash, else-needs_backslash}
@@ -19,7 +19,10 @@ unwrap-requires-2 g c =
     c.push-2.ensures.succeeds (elim c.if-needs_backslash.branch [
       | then-needs_backslash w ↦
           let bytes = ap length (escaped_bytes c.args.c (search rules)) in
-          let len = ap string_len w.out-is ∙ w.push.ensures.len ∙ when_ok w.push.result w.unwrap.result _ _ w.unwrap.ensures in
+          let len =
+          ap string_len w.out-is
+          ∙ w.push.ensures.len
+          ∙ when_ok w.push.result w.unwrap.result _ _ w.unwrap.ensures in
           let one = w.push.ensures.ascii_len in
           let capacity = ap string_capacity w.out-is in
           let grows = w.push.ensures.capacity in
@@ -36,9 +39,15 @@ unwrap-requires-2 g c =
 pub returns : goal.returns
 returns g c = record {
   bytes = (c.push-2.ensures.bytes ∙ when_ok c.push-2.result c.unwrap-2.result _ _ c.unwrap-2.ensures)
-      ∙ elim c.if-needs_backslash.branch as (λ x. string_bytes c.if-needs_backslash.out ++ encode_utf8 c.args.c ≡ string_bytes c.args.out.now ++ encode_utf8_all (written_character c.args.c)) [
+      ∙ elim c.if-needs_backslash.branch as
+      (λ x.
+      string_bytes c.if-needs_backslash.out ++ encode_utf8 c.args.c
+      ≡ string_bytes c.args.out.now ++ encode_utf8_all (written_character c.args.c)) [
         | then-needs_backslash w ↦
-            ap (λ bs. bs ++ encode_utf8 c.args.c) (ap string_bytes w.out-is ∙ w.push.ensures.bytes ∙ when_ok w.push.result w.unwrap.result _ _ w.unwrap.ensures ∙ ap (λ bs. string_bytes c.args.out.now ++ bs) (encode_ascii backslash (omega arith)))
+            ap (λ bs. bs ++ encode_utf8 c.args.c) (ap string_bytes w.out-is
+            ∙ w.push.ensures.bytes
+            ∙ when_ok w.push.result w.unwrap.result _ _ w.unwrap.ensures
+            ∙ ap (λ bs. string_bytes c.args.out.now ++ bs) (encode_ascii backslash (omega arith)))
             ∙ append_assoc (string_bytes c.args.out.now) (backslash ∷ []) (encode_utf8 c.args.c)
             ∙ ap (λ bs. string_bytes c.args.out.now ++ bs) (sym (escaped_bytes c.args.c (search rules)))
         | else-needs_backslash w ↦

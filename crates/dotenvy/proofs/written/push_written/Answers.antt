@@ -2,9 +2,19 @@ use Rattle.std.proofs.Common.{◌≡◌, ◌+◌, ◌∷◌, [], length, length-
 use Rattle.std.specs.Prelude.{string_bytes, string_len}
 use Rattle.std.specs.String.{string_capacity}
 use Rattle.std.specs.Str.{chars}
-use Rattle.dotenvy.specs.Characters.{double_quote, equals_sign, byte_len}
-use Rattle.dotenvy.specs.Written.{written_character, written_bytes}
-use Rattle.dotenvy.proofs.WrittenBytes.{left_bytes, pair_bytes, room, begun_bytes, next_len, left_at_least, last_bytes, run_bytes, run_bytes_len}
+use Rattle.dotenv_format.specs.Characters.{double_quote, equals_sign, byte_len}
+use Rattle.dotenv_format.specs.Written.{written_character, written_bytes}
+use Rattle.dotenvy.proofs.WrittenBytes.{
+  left_bytes,
+  pair_bytes,
+  room,
+  begun_bytes,
+  next_len,
+  left_at_least,
+  last_bytes,
+  run_bytes,
+  run_bytes_len,
+}
 use Rattle.dotenvy.proofs.written.push_written.Goals as goal
 
 pub unwrap-requires : goal.unwrap-requires

@@ -4,7 +4,7 @@ use denote.Shadow.{shadow}
 use Rattle.std.specs.Prelude.{string_bytes}
 use Rattle.std.specs.String.{string_capacity}
 use Rattle.std.specs.Str.{chars}
-use Rattle.dotenvy.specs.Written.{written_bytes}
+use Rattle.dotenv_format.specs.Written.{written_bytes}
 use Rattle.dotenvy.proofs.WrittenBytes.{left_bytes}
 use Rattle.dotenvy.proofs.written.push_written.Given as goal
 

@@ -1,6 +1,17 @@
 use Rattle.std.proofs.Common.{rules, arith, refl, ap, ◌≡◌, ◌≢◌, ◌∙◌, drop, length}
-use Rattle.dotenvy.proofs.Basics.{tested_empty, tested_some}
-use Rattle.dotenvy.proofs.Writes.{slice_rest, sending_start, sending_more, sending_again, sends_all, sends_none_left, sends_failed, sends_zero, is_no_interruption, is_interruption}
+use Rattle.dotenv_format.proofs.Basics.{tested_empty, tested_some}
+use Rattle.dotenvy.proofs.Writes.{
+  slice_rest,
+  sending_start,
+  sending_more,
+  sending_again,
+  sends_all,
+  sends_none_left,
+  sends_failed,
+  sends_zero,
+  is_no_interruption,
+  is_interruption,
+}
 use Rattle.dotenvy.proofs.written.write_all.Goals as goal
 use Rattle.dotenvy.proofs.written.write_all.Goals.{in-Ok, in-Err+else-ne}
 
@@ -89,5 +100,6 @@ returns-else-is_empty-2 g c =
     let some = tested_some c.writes.rest.now (length c.writes.rest.now) c.is_empty-2.result c.is_empty-2.ensures refl
     c.if-is_empty-2.false in
     sends_none_left {A = g.row.A.Denot} g.W.Sink.held g.W.Sink.last_fault g.W.Sink.calls c.args.writes_left
-    c.args.writer.now c.writes.writer c.args.bytes.now c.writes.rest.now c.writes.counter c.other.result c.writes.invariant
+    c.args.writer.now c.writes.writer c.args.bytes.now c.writes.rest.now c.writes.counter c.other.result
+    c.writes.invariant
     (omega (arith, within, ended)) some.1 c.other.ensures.kind

@@ -3,8 +3,20 @@ use Rattle.std.proofs.lemmas.Result.{err_from_is_err_and}
 use Rattle.dotenvy_run.specs.Answers.{texts, line_of}
 use Rattle.dotenvy_run.specs.FirstGroup.{BeginsWith}
 use Rattle.dotenvy_run.specs.Words.{MissingCommand}
-use Rattle.dotenvy_run.proofs.WordGroups.{answers_memory, answers_refused, copied, ends, ends_without_command, no_texts, no_words, one_more}
-use Rattle.dotenvy_run.proofs.command_line.command_line.Goals.{else-is_empty-via-then-is_empty+else-not-line, else-is_empty-via-else-is_empty}
+use Rattle.dotenvy_run.proofs.WordGroups.{
+  answers_memory,
+  answers_refused,
+  copied,
+  ends,
+  ends_without_command,
+  no_texts,
+  no_words,
+  one_more,
+}
+use Rattle.dotenvy_run.proofs.command_line.command_line.Goals.{
+  else-is_empty-via-then-is_empty+else-not-line,
+  else-is_empty-via-else-is_empty,
+}
 use Rattle.dotenvy_run.proofs.command_line.command_line.Goals as goal
 
 pub returns-in_err-clone : goal.returns-in_err-clone

@@ -1,5 +1,5 @@
 use Rattle.std.specs.Path.{path_bytes}
-use Rattle.dotenvy.proofs.Searching.{finds_a_path}
+use Rattle.dotenv_base.proofs.Searching.{finds_a_path}
 use Rattle.dotenvy.proofs.find.Finder.found.Goals as goal
 
 pub returns-clause-path : goal.returns-clause-path

@@ -2,7 +2,7 @@ use Rattle.std.proofs.Common.{rules, ◌∙◌, Err, Ok, ap, refl, subst}
 use Rattle.std.specs.Prelude.{is_some}
 use Rattle.std.specs.Str.{chars}
 use Rattle.std.proofs.lemmas.Result.{err_from_is_err_and}
-use Rattle.dotenvy.specs.Run.{run}
+use Rattle.dotenv_format.specs.Run.{run}
 use Rattle.dotenvy.specs.Iter.{IterState}
 use Rattle.dotenvy.specs.LoadsLeft.{LoadsLeft}
 use Rattle.dotenvy.specs.LoadedLine.{mode_of, LoadsLine}
@@ -18,7 +18,8 @@ returns-in_err-drop_mark-clause-told g c = λ opened.
     let names = c.args.env.now.names in
     let mode = mode_of c.args.mode in
     let view = c.self.view_is in
-    let inside = state_of c.self.inside.lines.lines (remembered_of c.self.inside.remembered.entries) c.self.inside.dialect in
+    let inside =
+    state_of c.self.inside.lines.lines (remembered_of c.self.inside.remembered.entries) c.self.inside.dialect in
     rw (p.1, p.2) (subst (λ s. LoadsLeft (run mode) s names (Err e) names) view
     (loads_mark mode inside c.drop_mark.new.self.lines.input names e
     (λ a told. c.in_err-drop_mark.ensures.told a (ap (λ (s : IterState). s.lines.stage) view ∙ opened) told)))
@@ -27,7 +28,8 @@ pub loading-init : goal.loading-init
 loading-init g c =
     let names = c.args.env.now.names in
     let mode = mode_of c.args.mode in
-    let inside = state_of c.self.inside.lines.lines (remembered_of c.self.inside.remembered.entries) c.self.inside.dialect in
+    let inside =
+    state_of c.self.inside.lines.lines (remembered_of c.self.inside.remembered.entries) c.self.inside.dialect in
     let start : IterState = record inside { lines = c.drop_mark.new.self.lines } in record {
       shut = λ shut. search rules;
       came =
@@ -67,7 +69,8 @@ returns-in_err-outcome-clause-told g c = λ opened.
     let self = c.loading.self-inside in
     let now = state_of self.lines.lines (remembered_of self.remembered.entries) self.dialect in
     rw (p.1, p.2) (loads_fault (mode_of c.args.mode) c.args.self now c.advance.new.self.lines c.args.env.now.names
-    c.loading.env.names c.in-Some.outcome c.advance.new.self.line c.in_err-outcome.field-0.0 opened c.loading.invariant.came c.in_err-outcome.was
+    c.loading.env.names c.in-Some.outcome c.advance.new.self.line c.in_err-outcome.field-0.0 opened
+    c.loading.invariant.came c.in_err-outcome.was
     (λ shut. (c.in-Some.ensures.shut shut).0) c.in-Some.ensures.told)
 
 pub returns-in_err-load_line-clause-told : goal.returns-in_err-load_line-clause-told
@@ -79,7 +82,8 @@ returns-in_err-load_line-clause-told g c = λ opened.
     let mode = mode_of c.args.mode in
     let self = c.loading.self-inside in
     let now = state_of self.lines.lines (remembered_of self.remembered.entries) self.dialect in
-    rw (p.1, p.2) (loads_line mode c.args.self now c.advance.new.self.lines c.args.env.now.names names new c.in-Some.outcome
+    rw (p.1, p.2)
+    (loads_line mode c.args.self now c.advance.new.self.lines c.args.env.now.names names new c.in-Some.outcome
     c.advance.new.self.line e opened c.loading.invariant.came c.in_ok-outcome.was
     (λ shut. (c.in-Some.ensures.shut shut).0) c.in-Some.ensures.told
     (subst (λ bytes. LoadsLine mode now.dialect now.remembered (chars bytes) names (Err e) new)

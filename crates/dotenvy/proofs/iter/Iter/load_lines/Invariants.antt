@@ -1,8 +1,8 @@
 use Rattle.std.proofs.Common.{◌≡◌, ◌≢◌}
-use Rattle.dotenvy.specs.Environment.{KeepsNames}
-use Rattle.dotenvy.specs.declared.lines.Stage.TheVariants.{Open}
-use Rattle.dotenvy.specs.Lines.{fuel_of}
-use Rattle.dotenvy.specs.Run.{Keep}
+use Rattle.dotenv_base.specs.Environment.{KeepsNames}
+use Rattle.dotenv_lines.specs.declared.lines.Stage.TheVariants.{Open}
+use Rattle.dotenv_lines.specs.Lines.{fuel_of}
+use Rattle.dotenv_format.specs.Run.{Keep}
 use Rattle.dotenvy.specs.LoadsLeft.{ChangesKeys}
 use Rattle.dotenvy.specs.LoadedLine.{mode_of}
 use Rattle.dotenvy.specs.Remembered.{remembered_of}
@@ -13,7 +13,10 @@ use Rattle.dotenvy.proofs.iter.Iter.load_lines.Given as goal
 -- some lines were loaded
 abbrev pub invariant-loading : goal.invariant-loading
 invariant-loading g l =
-    let now = state_of l.self-inside.lines.lines (remembered_of l.self-inside.remembered.entries) l.self-inside.dialect in record {
+    let now =
+    state_of l.self-inside.lines.lines (remembered_of l.self-inside.remembered.entries)
+    l.self-inside.dialect in
+    record {
       shut : l.fn.self.lines.stage ≢ Open → (now.lines.stage ≢ Open) × (l.env ≡ l.fn.env);
       came : CameTo (mode_of l.mode) l.fn.self l.fn.env.names l.env.names now;
       keeps : mode_of l.mode ≡ Keep → KeepsNames l.fn.env.names l.env.names;

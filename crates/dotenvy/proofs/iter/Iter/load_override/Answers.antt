@@ -1,6 +1,6 @@
-use Rattle.dotenvy.specs.Run.{Replace, run}
-use Rattle.dotenvy.specs.Loads.{override_result}
-use Rattle.dotenvy.proofs.LoadLaws.{run-replace}
+use Rattle.dotenv_format.specs.Run.{Replace, run}
+use Rattle.dotenv_format.specs.Loads.{override_result}
+use Rattle.dotenv_format.proofs.LoadLaws.{run-replace}
 use Rattle.dotenvy.proofs.LoadSteps.{loads_by}
 use Rattle.dotenvy.proofs.iter.Iter.load_override.Goals as goal
 

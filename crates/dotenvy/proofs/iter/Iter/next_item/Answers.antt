@@ -1,4 +1,4 @@
-use Rattle.dotenvy.proofs.Keys.{names_of_keys}
+use Rattle.dotenvy.proofs.KeyLookUps.{names_of_keys}
 use Rattle.dotenvy.proofs.iter.Iter.next_item.Goals as goal
 
 pub returns-clause-name : goal.returns-clause-name

@@ -1,19 +1,23 @@
 use Rattle.std.proofs.Common.{None, Ok, Err, ap, subst, ◌∙◌}
 use Rattle.std.proofs.lemmas.Result.{err_from_is_err_and}
-use Rattle.dotenvy.specs.declared.dialect.Dialect.TheVariants.{V15}
+use Rattle.dotenv_format.specs.declared.dialect.Dialect.TheVariants.{V15}
 use Rattle.dotenvy.specs.Iter.{fresh}
-use Rattle.dotenvy.specs.Loads.{load_result, override_result}
+use Rattle.dotenv_format.specs.Loads.{load_result, override_result}
 use Rattle.dotenvy.specs.LoadsLeft.{LoadsLeft}
 use Rattle.env_layers.specs.Layers.{rule_of}
 use Rattle.env_layers.proofs.Added.{adds_by, adds_none}
-use Rattle.env_layers.proofs.layers.Layers.add.Goals.{in-Keep+in_ok-from_read-in-Keep, in-Override+in_ok-from_read_override-in-Override}
+use Rattle.env_layers.proofs.layers.Layers.add.Goals.{
+  in-Keep+in_ok-from_read-in-Keep,
+  in-Override+in_ok-from_read_override-in-Override,
+}
 use Rattle.env_layers.proofs.layers.Layers.add.Goals as goal
 
 pub returns-in_err-layered-clause-told : goal.returns-in_err-layered-clause-told
 returns-in_err-layered-clause-told g c =
     let p = err_from_is_err_and c.from_residual.result c.from_residual.ensures.1 in
     rw (p.1, p.2)
-    (adds_none c.args.mode (g.R.Source.ahead c.args.reader) c.args.self.now.names c.in_err-layered.field-0.0 c.in_err-layered.ensures.memory)
+    (adds_none c.args.mode (g.R.Source.ahead c.args.reader) c.args.self.now.names c.in_err-layered.field-0.0
+    c.in_err-layered.ensures.memory)
 
 pub returns-in_err-from_read-in-Keep-clause-told : goal.returns-in_err-from_read-in-Keep-clause-told
 returns-in_err-from_read-in-Keep-clause-told g c =

@@ -1,0 +1,10 @@
+pub mod SearchOnce
+pub mod Paths
+pub mod Searching
+pub mod WorkedSearches
+pub mod TextMaps
+pub mod EnvironmentTexts
+pub mod GoodPairs
+pub mod SameEnvironments
+pub mod Keys
+pub mod Nuls

@@ -1,0 +1,29 @@
+use Rattle.std.proofs.Common.{rules, ap, ◌∙◌}
+use Rattle.dotenv_base.proofs.TextMaps.{pairs-passed_by, pairs-again, pairs-new}
+use Rattle.dotenv_base.proofs.environment.Environment.from_pairs.Goals as goal
+use Rattle.dotenv_base.proofs.environment.Environment.from_pairs.Goals.{
+  else-is_pair-via-then-is_pair+else-not-contains,
+  else-is_pair-via-else-is_pair,
+}
+
+pub loop-name-preserved-then-not-contains : goal.loop-name-preserved-then-not-contains
+loop-name-preserved-then-not-contains g c = record {
+  names =
+      ap (λ e. e.names) c.in_ok-set.ensures.ok
+      ∙ pairs-new c.loop-name.environment.names c.loop-name.yielded c.in-Some.name c.in-Some.value
+      c.loop-name.invariant.names (search rules) (search rules);
+  mark = search rules;
+}
+
+pub loop-name-preserved : goal.loop-name-preserved
+loop-name-preserved g c = record {
+  names = elim c.else-is_pair.branch [
+    | else-is_pair-via-then-is_pair+else-not-contains w ↦
+        pairs-again c.loop-name.environment.names c.loop-name.yielded c.in-Some.name c.in-Some.value
+        c.loop-name.invariant.names (search rules) (search rules)
+    | else-is_pair-via-else-is_pair w ↦
+        pairs-passed_by c.loop-name.environment.names c.loop-name.yielded c.in-Some.name c.in-Some.value
+        c.loop-name.invariant.names (search rules)
+  ];
+  mark = c.loop-name.invariant.mark;
+}

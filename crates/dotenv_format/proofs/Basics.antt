@@ -1,0 +1,115 @@
+-- Facts on tests, options and codes that many proofs use.
+use Rattle.std.proofs.Common.{
+  ◌≡◌,
+  ◌≢◌,
+  ℕ,
+  ◌<◌,
+  List,
+  [],
+  ◌∷◌,
+  ◌++◌,
+  length,
+  ap,
+  sym,
+  ◌∙◌,
+  Bool,
+  true,
+  false,
+  cond,
+  ◌&&◌,
+  ◌||◌,
+  not,
+  Option,
+  Some,
+  refl,
+  arith,
+}
+use Rattle.std.specs.Prelude.{◌==◌, IfOk, Result, Ok, Err}
+use Rattle.std.proofs.lemmas.Bool.Decides.{nat_tests}
+
+-- where two tests both hold, the first holds
+pub and_left : (a b : Bool) → (a && b) ≡ true → a ≡ true
+and_left true b h = refl
+and_left false b h = cc
+
+-- where two tests both hold, the second holds
+pub and_right : (a b : Bool) → (a && b) ≡ true → b ≡ true
+and_right true b h = h
+and_right false b h = cc
+
+-- where each of two tests holds, both hold together
+pub both : (a b : Bool) → a ≡ true → b ≡ true → (a && b) ≡ true
+both true b h k = k
+both false b h k = cc
+
+-- a test whose negation holds is false
+pub not_is : (a : Bool) → not a ≡ true → a ≡ false
+not_is true h = cc
+not_is false h = refl
+
+-- where not even one of two tests holds, both are false
+pub not_or : (a b : Bool) → not (a || b) ≡ true → (a ≡ false) × (b ≡ false)
+not_or false false h = (refl, refl)
+not_or true b h = cc
+not_or false true h = cc
+
+-- of two cases by a test that holds, the first is taken
+pub when_true : {A : Type 0} (x y : A) (b : Bool) → b ≡ true → elim b [ true ↦ x | false ↦ y ] ≡ x
+when_true x y true h = refl
+when_true x y false h = cc
+
+-- of two cases by a test that is false, the second is taken
+pub when_false : {A : Type 0} (x y : A) (b : Bool) → b ≡ false → elim b [ true ↦ x | false ↦ y ] ≡ y
+when_false x y true h = cc
+when_false x y false h = refl
+
+-- options that are equal and hold something hold the same
+pub some_same : {A : Type 0} (x y : A) → ◌≡◌ {A = Option A} (Some x) (Some y) → x ≡ y
+some_same x y h = cc
+
+-- codes that pass the test for equal ones are the same
+pub same_from : (c d : ℕ) → (c == d) ≡ true → c ≡ d
+same_from c d h = grind (arith, nat_tests, h)
+
+-- a test whose negation is false holds
+pub not_false : (b : Bool) → not b ≡ false → b ≡ true
+not_false true h = refl
+not_false false h = cc
+
+-- a choice whose test holds is its first answer
+pub if_true : {A : Type 0} (x y : A) (b : Bool) → b ≡ true → cond b x y ≡ x
+if_true x y true h = refl
+if_true x y false h = cc
+
+-- a choice whose test is false is its second answer
+pub if_false : {A : Type 0} (x y : A) (b : Bool) → b ≡ false → cond b x y ≡ y
+if_false x y false h = refl
+if_false x y true h = cc
+
+-- a list without length has nothing
+pub nil_of : (xs : List ℕ) → length xs ≡ 0 → xs ≡ []
+nil_of [] h = refl
+nil_of (x ∷ xs) h = absurd (omega (arith, h))
+
+-- a list that has something has it still with more behind it
+pub more_some : (xs ys : List ℕ) → xs ≢ [] → xs ++ ys ≢ []
+more_some [] ys h = absurd (h refl)
+more_some (x ∷ xs) ys h = λ e. cc
+
+-- A test for emptiness.
+-- a list whose length was tested to be zero is empty
+pub tested_empty : (xs : List ℕ) (n : ℕ) (b : Bool) → b ≡ (n == 0) → n ≡ length xs → b ≡ true → xs ≡ []
+tested_empty xs n b test len is =
+    let zero' : n ≡ 0 = (let t : (n == 0) ≡ true = sym test ∙ is in grind (arith, nat_tests, t)) in
+    nil_of xs (sym len ∙ zero')
+
+-- a list whose length was tested not to be zero has something, and its length is above zero
+pub tested_some : (xs : List ℕ) (n : ℕ) (b : Bool) → b ≡ (n == 0) → n ≡ length xs → b ≡ false → (0 < n) × (xs ≢ [])
+tested_some xs n b test len is =
+    let some : 0 < n = (let t : (n == 0) ≡ false = sym test ∙ is in grind (arith, nat_tests, t)) in
+    (some, λ h. let l = ap length h in omega (arith, some, len, l))
+
+-- where a fact of each value makes another, it does so of the value that is there, if there is one
+pub ok-weaker : {T E : Type 0} (P Q : T → Type 0) (r : Result T E) → ((x : T) → P x → Q x) → IfOk r P → IfOk r Q
+ok-weaker P Q (Ok x) f h = f x h
+ok-weaker P Q (Err e) f h = tt

@@ -1,0 +1,5 @@
+use Rattle.dotenv_format.proofs.DecidedFront as front
+use Rattle.dotenv_format.proofs.laws.decides_front.Goals as goal
+
+pub returns : goal.returns
+returns c = front.decides_front

@@ -1,0 +1,5 @@
+use Rattle.dotenv_format.proofs.LoadsTwice as loads
+use Rattle.dotenv_format.proofs.laws.load_keeps.Goals as goal
+
+pub returns : goal.returns
+returns c = loads.load_keeps

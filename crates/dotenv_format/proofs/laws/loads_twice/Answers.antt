@@ -1,0 +1,5 @@
+use Rattle.dotenv_format.proofs.LoadsTwice as loads
+use Rattle.dotenv_format.proofs.laws.loads_twice.Goals as goal
+
+pub returns : goal.returns
+returns c = loads.loads_twice

@@ -1,0 +1,5 @@
+use Rattle.dotenv_format.proofs.LoadsTwice.{items-agree}
+use Rattle.dotenv_format.proofs.laws.names_decide_items.Goals as goal
+
+pub returns : goal.returns
+returns c = items-agree

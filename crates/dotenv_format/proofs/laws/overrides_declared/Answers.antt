@@ -1,0 +1,5 @@
+use Rattle.dotenv_format.proofs.LoadsTwice as loads
+use Rattle.dotenv_format.proofs.laws.overrides_declared.Goals as goal
+
+pub returns : goal.returns
+returns c = loads.overrides_declared

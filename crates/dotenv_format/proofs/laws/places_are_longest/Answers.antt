@@ -1,0 +1,5 @@
+use Rattle.dotenv_format.proofs.LongestFronts.{places_are_longest}
+use Rattle.dotenv_format.proofs.laws.places_are_longest.Goals as goal
+
+pub returns : goal.returns
+returns c = places_are_longest

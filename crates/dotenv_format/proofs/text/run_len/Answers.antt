@@ -1,0 +1,13 @@
+use Rattle.std.proofs.Common.{sym, ap, ◌∙◌, subst}
+use Rattle.std.specs.List.{prefix_len}
+use Rattle.dotenv_format.specs.Slices.{PassesTo, has_character, in_run}
+use Rattle.dotenv_format.proofs.ByteRuns.{run_passes}
+use Rattle.dotenv_format.proofs.ByteClasses.{tells}
+use Rattle.dotenv_format.proofs.text.run_len.Goals as goal
+
+pub returns : goal.returns
+returns c =
+    subst (PassesTo (has_character c.args.class) c.args.text.now)
+    (ap (prefix_len (in_run c.args.class)) (sym c.as_bytes-bytes.ensures.value) ∙ sym c.run_end.ensures
+    ∙ sym c.unwrap_or.ensures)
+    (run_passes (in_run c.args.class) (has_character c.args.class) (tells c.args.class) c.args.text.now c.utf8.text)

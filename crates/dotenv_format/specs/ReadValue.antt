@@ -1,0 +1,162 @@
+-- A value read from left to right, character by character. The tests are `elim`, since `if` would read on from both answers.
+use Rattle.std.specs.Prelude.{ℕ, suc, Bool, true, false, ◌==◌, List, [], ◌∷◌, ◌++◌, Option, Some, None}
+use Rattle.dotenv_format.specs.declared.dialect.Dialect.{Dialect}
+use Rattle.dotenv_format.specs.Characters.{is_space_or_tab, is_name_character, single_quote, double_quote, dollar, backslash, left_brace, right_brace, hash}
+use Rattle.dotenv_format.specs.Value.{Quoting, unquoted, double_quoted, Piece, Text, Name, escape_meaning, is_escape, is_left_by_name}
+
+-- what the reader is in the middle of
+pub data Mode : Type 0 where
+  base : Quoting → Mode
+  escaping : Quoting → Mode
+  in_single : List ℕ → Mode
+  naming : Quoting → List ℕ → Mode
+  bracing : Quoting → List ℕ → Mode
+  in_tail : Mode
+  in_comment : Mode
+
+-- the pieces that were read, or `None` where the text is no value
+abbrev pub Reading : Type 0
+Reading = Option (List Piece)
+
+-- pieces before those that are still read
+abbrev pub given : List Piece → Reading → Reading
+given pieces None = None
+given pieces (Some more) = Some (pieces ++ more)
+
+-- a brace right after the dollar
+abbrev pub is_brace_first : List ℕ → ℕ → Bool
+is_brace_first [] c = c == left_brace
+is_brace_first (d ∷ name) c = false
+
+-- where a part may begin
+abbrev pub from_base : Quoting → ℕ → (Mode → Reading) → Reading
+from_base unquoted c next =
+    elim (c == backslash) [
+      | true ↦ next (escaping unquoted)
+      | false ↦
+          elim (c == single_quote) [
+            | true ↦ next (in_single [])
+            | false ↦
+                elim (c == double_quote) [
+                  | true ↦ next (base double_quoted)
+                  | false ↦
+                      elim (c == dollar) [
+                        | true ↦ next (naming unquoted [])
+                        | false ↦
+                            elim (is_space_or_tab c) [ true ↦ next in_tail | false ↦ given (Text (c ∷ []) ∷ []) (next (base unquoted)) ]
+                      ]
+                ]
+          ]
+    ]
+from_base double_quoted c next =
+    elim (c == backslash) [
+      | true ↦ next (escaping double_quoted)
+      | false ↦
+          elim (c == double_quote) [
+            | true ↦ next (base unquoted)
+            | false ↦
+                elim (c == dollar) [ true ↦ next (naming double_quoted []) | false ↦ given (Text (c ∷ []) ∷ []) (next (base double_quoted)) ]
+          ]
+    ]
+
+-- where a character leads, and what it gives, with what is read from there
+abbrev pub from : (dialect : Dialect) → Mode → ℕ → (Mode → Reading) → Reading
+from dialect (base q) c next = from_base q c next
+from dialect (escaping q) c next = elim (is_escape c) [ true ↦ given (Text (escape_meaning c ∷ []) ∷ []) (next (base q)) | false ↦ None ]
+from dialect (in_single inner) c next = elim (c == single_quote) [ true ↦ given (Text inner ∷ []) (next (base unquoted)) | false ↦ next (in_single (inner ++ c ∷ [])) ]
+from dialect (naming q name) c next =
+    elim (is_name_character dialect c) [
+      | true ↦ next (naming q (name ++ c ∷ []))
+      | false ↦
+          elim (is_left_by_name dialect q c) [
+            | true ↦ given (Name name ∷ []) (from_base q c next)
+            | false ↦
+                elim (is_brace_first name c) [ true ↦ next (bracing q []) | false ↦ given (Name name ∷ Text (c ∷ []) ∷ []) (next (base q)) ]
+          ]
+    ]
+from dialect (bracing q name) c next = elim (c == right_brace) [ true ↦ given (Name name ∷ []) (next (base q)) | false ↦ next (bracing q (name ++ c ∷ [])) ]
+from dialect in_tail c next = elim (is_space_or_tab c) [ true ↦ next in_tail | false ↦ elim (c == hash) [ true ↦ next in_comment | false ↦ None ] ]
+from dialect in_comment c next = next in_comment
+
+-- what the end of the text gives
+abbrev pub at_end : Mode → Reading
+at_end (base unquoted) = Some []
+at_end (escaping unquoted) = Some []
+at_end (naming unquoted name) = Some (Name name ∷ [])
+at_end in_tail = Some []
+at_end in_comment = Some []
+at_end (base double_quoted) = None
+at_end (escaping double_quoted) = None
+at_end (naming double_quoted name) = None
+at_end (bracing q name) = None
+at_end (in_single inner) = None
+
+-- what the text gives, read from this mode
+abbrev pub read : (dialect : Dialect) → List ℕ → Mode → Reading
+read dialect [] mode = at_end mode
+read dialect (c ∷ cs) mode = from dialect mode c (λ m. read dialect cs m)
+
+-- the same where a part may begin
+abbrev pub goes_base : Quoting → ℕ → Option (Mode × List Piece)
+goes_base unquoted c =
+    elim (c == backslash) [
+      | true ↦ Some (escaping unquoted, [])
+      | false ↦
+          elim (c == single_quote) [
+            | true ↦ Some (in_single [], [])
+            | false ↦
+                elim (c == double_quote) [
+                  | true ↦ Some (base double_quoted, [])
+                  | false ↦
+                      elim (c == dollar) [
+                        | true ↦ Some (naming unquoted [], [])
+                        | false ↦
+                            elim (is_space_or_tab c) [ true ↦ Some (in_tail, []) | false ↦ Some (base unquoted, Text (c ∷ []) ∷ []) ]
+                      ]
+                ]
+          ]
+    ]
+goes_base double_quoted c =
+    elim (c == backslash) [
+      | true ↦ Some (escaping double_quoted, [])
+      | false ↦
+          elim (c == double_quote) [
+            | true ↦ Some (base unquoted, [])
+            | false ↦
+                elim (c == dollar) [ true ↦ Some (naming double_quoted [], []) | false ↦ Some (base double_quoted, Text (c ∷ []) ∷ []) ]
+          ]
+    ]
+
+-- pieces before those that a step completes
+abbrev pub with_pieces : List Piece → Option (Mode × List Piece) → Option (Mode × List Piece)
+with_pieces pieces None = None
+with_pieces pieces (Some (m, more)) = Some (m, pieces ++ more)
+
+-- where one character leads, and the pieces that it completes; `None` where no value goes on with it
+abbrev pub goes : (dialect : Dialect) → Mode → ℕ → Option (Mode × List Piece)
+goes dialect (base q) c = goes_base q c
+goes dialect (escaping q) c = elim (is_escape c) [ true ↦ Some (base q, Text (escape_meaning c ∷ []) ∷ []) | false ↦ None ]
+goes dialect (in_single inner) c = elim (c == single_quote) [ true ↦ Some (base unquoted, Text inner ∷ []) | false ↦ Some (in_single (inner ++ c ∷ []), []) ]
+goes dialect (naming q name) c =
+    elim (is_name_character dialect c) [
+      | true ↦ Some (naming q (name ++ c ∷ []), [])
+      | false ↦
+          elim (is_left_by_name dialect q c) [
+            | true ↦ with_pieces (Name name ∷ []) (goes_base q c)
+            | false ↦
+                elim (is_brace_first name c) [ true ↦ Some (bracing q [], []) | false ↦ Some (base q, Name name ∷ Text (c ∷ []) ∷ []) ]
+          ]
+    ]
+goes dialect (bracing q name) c = elim (c == right_brace) [ true ↦ Some (base q, Name name ∷ []) | false ↦ Some (bracing q (name ++ c ∷ []), []) ]
+goes dialect in_tail c = elim (is_space_or_tab c) [ true ↦ Some (in_tail, []) | false ↦ elim (c == hash) [ true ↦ Some (in_comment, []) | false ↦ None ] ]
+goes dialect in_comment c = Some (in_comment, [])
+
+-- one character more, unless no value goes on with it
+abbrev pub place_after : Option (Mode × List Piece) → (Mode → ℕ) → ℕ
+place_after None next = 0
+place_after (Some (m, pieces)) next = suc (next m)
+
+-- the number of characters up to the first that no value goes on with
+abbrev pub place : (dialect : Dialect) → List ℕ → Mode → ℕ
+place dialect [] m = 0
+place dialect (c ∷ cs) m = place_after (goes dialect m c) (λ n. place dialect cs n)

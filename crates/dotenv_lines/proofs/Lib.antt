@@ -1,0 +1,9 @@
+pub mod Inputs
+pub mod AskedReads
+pub mod LineJoins
+pub mod LineEntries
+pub mod WalkedPieces
+pub mod LinePieces
+pub mod TakenLines
+pub mod LineCounts
+pub mod DroppedMarks

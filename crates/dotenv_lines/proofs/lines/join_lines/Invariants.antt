@@ -1,0 +1,16 @@
+use Rattle.std.proofs.Common.{◌≢◌, ◌≤◌, ◌<◌, [], string_bytes}
+use Rattle.std.specs.Str.{chars}
+use Rattle.dotenv_base.specs.Source.{Ahead}
+use Rattle.dotenv_lines.specs.Input.{AsksReads, IsTold, supply}
+use Rattle.dotenv_lines.proofs.LineJoins.{Joining}
+use Rattle.dotenv_lines.proofs.lines.join_lines.Given as goal
+
+abbrev pub invariant-joining : goal.invariant-joining
+invariant-joining g l =
+    (supply l.input ≤ supply l.fn.input)
+    × (string_bytes l.text ≢ [] → supply l.input < supply l.fn.input)
+    × ((a : Ahead) → IsTold l.fn.input.left a → Joining a l.fn.input (chars (string_bytes l.text)) l.mode l.input)
+    × AsksReads (Unit {0}) l.fn.input l.input
+
+abbrev pub decreases-joining : goal.decreases-joining
+decreases-joining g l = supply l.input

@@ -1,5 +1,0 @@
-use Rattle.dotenvy.proofs.LongestFronts.{places_are_longest}
-use Rattle.dotenvy.proofs.laws.places_are_longest.Goals as goal
-
-pub returns : goal.returns
-returns c = places_are_longest

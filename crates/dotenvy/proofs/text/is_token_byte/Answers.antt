@@ -1,9 +1,0 @@
-use Rattle.std.proofs.Common.{refl, arith}
-use Rattle.dotenvy.specs.declared.text.TheConstants.{KINDS}
-use Rattle.dotenvy.specs.Slices.{is_token_byte}
-use Rattle.dotenvy.proofs.ByteTables.{all_below, from_table}
-use Rattle.dotenvy.proofs.text.is_token_byte.Goals as goal
-
-pub returns : goal.returns
-unfolding all_below
-returns c = from_table KINDS 2 is_token_byte c.args.byte (omega arith) refl

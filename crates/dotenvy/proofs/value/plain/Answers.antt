@@ -1,5 +1,0 @@
-use Rattle.dotenvy.proofs.NextPiece.{gives_plain}
-use Rattle.dotenvy.proofs.value.plain.Goals as goal
-
-pub returns-clause-next : goal.returns-clause-next
-returns-clause-next c = λ dialect. gives_plain dialect c.args.quoting c.args.text.now _ _ c.split_while.ensures.texts.0 c.split_while.ensures.texts.1 c.split_while.ensures.span
