@@ -1,6 +1,7 @@
 #!/usr/bin/env bash
 # Sees that the documents say what is played and built: that crates/replay/data/grammar.rows has the examples of
-# docs/GRAMMAR.md, and that each block of Rust in README.md and docs/LIBRARY.md stands in a source file of crates/examples.
+# docs/GRAMMAR.md, and that each block of Rust in README.md and docs/LIBRARY.md stands in a source file of the crates that
+# run them, crates/examples and crates/check_file.
 # It takes a second, and no proof. The last line is `N passed, M failed`.
 set -euo pipefail
 cd "$(dirname "$0")/.."
@@ -55,7 +56,7 @@ stands_in_examples() {
         if stands_in "$1" "$source"; then
             return 0
         fi
-    done < <(find crates/examples/src -name '*.rt')
+    done < <(find crates/examples/src crates/check_file/src -name '*.rt')
     return 1
 }
 
@@ -63,7 +64,7 @@ check_blocks() {
     local line
     cut_blocks "$1"
     for line in $(ls "$room/blocks" | sort -n); do
-        check "$1, the block at line $line stands in crates/examples" stands_in_examples "$room/blocks/$line"
+        check "$1, the block at line $line stands in an example" stands_in_examples "$room/blocks/$line"
     done
 }
 

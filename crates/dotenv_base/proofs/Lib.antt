@@ -1,3 +1,5 @@
+pub mod CallLists
+pub mod Writes
 pub mod SearchOnce
 pub mod Paths
 pub mod Searching

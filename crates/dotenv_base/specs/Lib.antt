@@ -3,6 +3,7 @@ pub mod Errors
 pub mod Find
 pub mod Calls
 pub mod Source
+pub mod Output
 pub mod Environment
 pub mod WorkedSearches
 pub mod SearchLaws

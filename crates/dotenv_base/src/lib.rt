@@ -6,6 +6,7 @@
 pub mod environment;
 pub mod errors;
 pub mod laws;
+pub mod output;
 mod process;
 pub mod search;
 pub mod source;

@@ -45,7 +45,7 @@ use Rattle.dotenv_format.specs.Characters.{backslash}
 use Rattle.dotenv_format.specs.Slices.{quoting_of}
 use Rattle.dotenv_format.specs.Value.{Quoting, unquoted, double_quoted, Piece, Text}
 use Rattle.dotenv_format.specs.Items.{LookUp, meaning}
-use Rattle.dotenv_format.specs.ReadValue.{base, escaping, goes}
+use Rattle.dotenv_format.specs.ReadValue.{base, escaping, value_goes}
 use Rattle.dotenv_format.specs.NextPiece.{IsReadTo, GivesPiece}
 use Rattle.dotenv_format.proofs.Basics.{and_left, and_right, both, same_from}
 use Rattle.dotenv_format.proofs.NextPiece.{one, read_on}
@@ -105,7 +105,7 @@ row_boundary text i utf8 some most =
     (omega (arith, some, most, most_bytes)) (omega (arith, e)))
 
 -- a backslash begins an escape, and ends one
-begins_escape : (dialect : Dialect) (q : Quoting) → goes dialect (base q) backslash ≡ Some (escaping q, [])
+begins_escape : (dialect : Dialect) (q : Quoting) → value_goes dialect (base q) backslash ≡ Some (escaping q, [])
 begins_escape dialect unquoted = refl
 begins_escape dialect double_quoted = refl
 

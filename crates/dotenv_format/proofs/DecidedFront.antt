@@ -71,7 +71,7 @@ use Rattle.dotenv_format.specs.LogicalLine.{
   Broken,
   IsText,
   IsNext,
-  IsOpen,
+  IsOpenEnd,
 }
 use Rattle.dotenv_format.specs.Entries.{Entry, AreLogicalLines, GiveAll, HasEntries}
 use Rattle.dotenv_format.specs.Decided.{before_some, up_to_last_line_feed, without_open_end, HasDecided}
@@ -224,7 +224,7 @@ text_before lines more j kept h is =
 
 -- the next logical line is the same before more lines, but for an open end
 pub next_later : (lines : List (Option (List ℕ))) (m : Option (List ℕ)) (more : List (Option (List ℕ))) (k : ℕ)
-    (o : Logical) → AreCut (lines ++ m ∷ more) → lines ≢ [] → ¬ (IsOpen o) → IsNext lines k o →
+    (o : Logical) → AreCut (lines ++ m ∷ more) → lines ≢ [] → ¬ (IsOpenEnd o) → IsNext lines k o →
     (k ≤ length lines) × IsNext (lines ++ m ∷ more) k o
 next_later [] m more k o cut some closed is = absurd (some refl)
 next_later (l ∷ lines) m more k Skip cut some closed is =
@@ -271,7 +271,7 @@ some_more (l ∷ lines) m more h = cc
 
 -- a line that is not open is the first of both
 same_first : (lines : List (Option (List ℕ))) (m : Option (List ℕ)) (more : List (Option (List ℕ))) (o p : Logical)
-    (os ps : List Logical) → AreCut (lines ++ m ∷ more) → ¬ (IsOpen o) → (a : AreLogicalLines lines (o ∷ os)) →
+    (os ps : List Logical) → AreCut (lines ++ m ∷ more) → ¬ (IsOpenEnd o) → (a : AreLogicalLines lines (o ∷ os)) →
     AreLogicalLines (lines ++ m ∷ more) (p ∷ ps) →
     (p ≡ o) × AreCut (drop a.1 lines ++ m ∷ more) × AreLogicalLines (drop a.1 lines ++ m ∷ more) ps
 same_first lines m more o p os ps cut closed (some, j, is, later) (other, k, also, after) =

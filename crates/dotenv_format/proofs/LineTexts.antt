@@ -59,7 +59,7 @@ use Rattle.dotenv_format.specs.declared.walk.Walked.TheVariants.{Going, EndedAt}
 use Rattle.std.specs.List.{list_all}
 use Rattle.dotenv_format.specs.Characters.{begins_with, hash, line_feed, backslash, is_blank, is_quote}
 use Rattle.dotenv_format.specs.LogicalLine.{without_carriage_return}
-use Rattle.dotenv_format.specs.LineModes.{Walk, going, leads, kept, ended, walked, walk, PassesRun, WalksText}
+use Rattle.dotenv_format.specs.LineModes.{Walk, going, leads, kept_before, ended, walked, walk, PassesRun, WalksText}
 use Rattle.dotenv_format.specs.declared.walk.LineMode.TheVariants.{
   Outside,
   Escaping,
@@ -184,11 +184,11 @@ unfolding trim_start
 shown_is line trimmed e some h = some (e ∙ ap encode_utf8_all h)
 
 -- before a line feed the line keeps its text without one carriage return at its end
-pub kept_at_line_feed : (c : ℕ) (xs : List ℕ) → (c == line_feed) ≡ true → without_carriage_return xs ≡ kept c xs
+pub kept_at_line_feed : (c : ℕ) (xs : List ℕ) → (c == line_feed) ≡ true → without_carriage_return xs ≡ kept_before c xs
 kept_at_line_feed c xs h = ap (λ b. cond b (without_carriage_return xs) xs) (sym h)
 
 -- before a character other than a line feed the line keeps all of its text
-pub kept_elsewhere : (c : ℕ) (xs : List ℕ) → c ≢ line_feed → xs ≡ kept c xs
+pub kept_elsewhere : (c : ℕ) (xs : List ℕ) → c ≢ line_feed → xs ≡ kept_before c xs
 kept_elsewhere c xs h = at (c == line_feed) refl
   where
     at : (b : Bool) → (c == line_feed) ≡ b → xs ≡ cond b (without_carriage_return xs) xs
@@ -356,7 +356,7 @@ walking_ends start line rest after m c w begins h =
           (λ o.
           walked o c (seen ++ chars w.front) (λ k. walk k ((seen ++ chars w.front) ++ c ∷ []) (chars after)))
           (sym h)
-          ∙ ap (λ l. ended (kept c (seen ++ chars l))) (sym front),
+          ∙ ap (λ l. ended (kept_before c (seen ++ chars l))) (sym front),
     )
 
 -- a walk with nothing left went over the whole text, and leads to the mode that it reached

@@ -71,7 +71,7 @@ last_value-append ((j, w) ∷ xs) k v n =
     ])
 
 -- the look-ups of a run against the environment before and the declarations
-record Stands (env m : LookUp) (earlier : List (List ℕ × List ℕ)) (e r : LookUp) : Type 0 where
+record RunStands (env m : LookUp) (earlier : List (List ℕ × List ℕ)) (e r : LookUp) : Type 0 where
   now : (n : List ℕ) → e n ≡ or_else env (first_value earlier) n
   past : (n : List ℕ) → e n ≡ None → r n ≡ m n
 
@@ -83,7 +83,7 @@ looks None (Some b) c x y h past = rw h refl
 looks None None c x y h past = rw (h, past h) refl
 
 -- while values are kept, a name means what it does under `load`, after the earlier declarations
-stands_look : (env m : LookUp) (earlier : List (List ℕ × List ℕ)) (e r : LookUp) → Stands env m earlier e r →
+stands_look : (env m : LookUp) (earlier : List (List ℕ × List ℕ)) (e r : LookUp) → RunStands env m earlier e r →
     (n : List ℕ) → or_else e r n ≡ load_look_up env m earlier n
 stands_look env m earlier e r h n = looks (env n) (first_value earlier n) (m n) (e n) (r n) (h.now n) (h.past n)
 
@@ -138,8 +138,8 @@ skipped_past e key value n x y true is some none h =
 
 -- after a declaration that is passed by and remembered, as its key has a value, the look-ups stand
 skipped_stands : (env m : LookUp) (earlier : List (List ℕ × List ℕ)) (e r : LookUp) (key value value' : List ℕ) →
-    is_none (e key) ≡ false → Stands env m earlier e r →
-    Stands env m (earlier ++ (key, value') ∷ []) e (with_value r key value)
+    is_none (e key) ≡ false → RunStands env m earlier e r →
+    RunStands env m (earlier ++ (key, value') ∷ []) e (with_value r key value)
 skipped_stands env m earlier e r key value value' some h = record {
   now =
       λ n.
@@ -165,8 +165,8 @@ set_past value x y z true none h = absurd (cc)
 
 -- after a declaration of an absent key, which is set and remembered, the look-ups stand
 set_stands : (env m : LookUp) (earlier : List (List ℕ × List ℕ)) (e r : LookUp) (key value value' : List ℕ) →
-    value ≡ value' → is_none (e key) ≡ true → Stands env m earlier e r →
-    Stands env m (earlier ++ (key, value') ∷ []) (with_value e key value) (with_value r key value)
+    value ≡ value' → is_none (e key) ≡ true → RunStands env m earlier e r →
+    RunStands env m (earlier ++ (key, value') ∷ []) (with_value e key value) (with_value r key value)
 set_stands env m earlier e r key value value' same none h = record {
   now =
       λ n.
@@ -177,8 +177,8 @@ set_stands env m earlier e r key value value' same none h = record {
 
 -- after a declaration, which is set where its key is absent and else passed by, the look-ups stand
 declared_stands : (env m : LookUp) (earlier : List (List ℕ × List ℕ)) (e r : LookUp) (key value value' : List ℕ)
-    (b : Bool) → is_none (e key) ≡ b → value ≡ value' → Stands env m earlier e r →
-    Stands env m (earlier ++ (key, value') ∷ []) (if b then with_value e key value else e) (with_value r key value)
+    (b : Bool) → is_none (e key) ≡ b → value ≡ value' → RunStands env m earlier e r →
+    RunStands env m (earlier ++ (key, value') ∷ []) (if b then with_value e key value else e) (with_value r key value)
 declared_stands env m earlier e r key value value' true none same h =
     set_stands env m earlier e r key value value' same none h
 declared_stands env m earlier e r key value value' false some same h =
@@ -190,7 +190,7 @@ with_first_values env d = record { env = or_else env (first_value d.pairs); answ
 
 -- while the look-ups stand, a run that keeps values leaves what the closed rule of `load` says
 keep_closed : (env m : LookUp) (earlier : List (List ℕ × List ℕ)) (e r : LookUp) (entries : List Entry) →
-    Stands env m earlier e r →
+    RunStands env m earlier e r →
     SameLoad (run Keep e r entries)
     (with_first_values env (declared_from (load_look_up env m) (is_first_of_absent env) earlier entries))
 keep_closed env m earlier e r [] h = record { env = h.now; answer = refl }

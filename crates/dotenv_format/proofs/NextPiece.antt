@@ -84,7 +84,7 @@ use Rattle.dotenv_format.specs.Value.{
 }
 use Rattle.dotenv_format.specs.Items.{LookUp, meaning}
 use Rattle.dotenv_format.specs.ReadValue.{
-  Mode,
+  ValueMode,
   base,
   escaping,
   in_single,
@@ -93,12 +93,12 @@ use Rattle.dotenv_format.specs.ReadValue.{
   in_tail,
   given,
   is_brace_first,
-  read,
+  read_value,
   goes_base,
   with_pieces,
-  goes,
-  place_after,
-  place,
+  value_goes,
+  value_reach_after,
+  value_reach,
 }
 use Rattle.dotenv_format.specs.NextPiece.{
   other_quoting,
@@ -107,7 +107,7 @@ use Rattle.dotenv_format.specs.NextPiece.{
   IsReadTo,
   GivesPiece,
   StopsAt,
-  NextIs,
+  NextPieceIs,
   IsShorter,
 }
 use Rattle.dotenv_format.proofs.Basics.{and_left, and_right, not_is, when_true, when_false, same_from}
@@ -117,42 +117,42 @@ use Rattle.dotenv_format.proofs.Slices.{IsCut, no_characters}
 use Rattle.dotenv_format.proofs.ValuePlaces.{from-goes, after, given-nil}
 
 -- a character that leads to a mode is read to there, and gives the pieces of its step
-pub one : (dialect : Dialect) (m n : Mode) (c : ℕ) (cs : List ℕ) (pieces : List Piece) →
-    goes dialect m c ≡ Some (n, pieces) → IsReadTo dialect m (c ∷ cs) pieces n cs
+pub one : (dialect : Dialect) (m n : ValueMode) (c : ℕ) (cs : List ℕ) (pieces : List Piece) →
+    value_goes dialect m c ≡ Some (n, pieces) → IsReadTo dialect m (c ∷ cs) pieces n cs
 one dialect m n c cs pieces h = record {
   front = c ∷ [];
   spelled = refl;
-  reads = from-goes dialect m c (λ k. read dialect cs k) ∙ ap (λ g. after g (λ k. read dialect cs k)) h;
-  counts = ap (λ g. place_after g (λ k. place dialect cs k)) h ∙ omega arith;
+  reads = from-goes dialect m c (λ k. read_value dialect cs k) ∙ ap (λ g. after g (λ k. read_value dialect cs k)) h;
+  counts = ap (λ g. value_reach_after g (λ k. value_reach dialect cs k)) h ∙ omega arith;
 }
 
 -- at a character that no value goes on with, reading stops, and that character and the others are left
-pub stop : (dialect : Dialect) (m : Mode) (c : ℕ) (cs : List ℕ) → goes dialect m c ≡ None →
+pub stop : (dialect : Dialect) (m : ValueMode) (c : ℕ) (cs : List ℕ) → value_goes dialect m c ≡ None →
     StopsAt dialect m (c ∷ cs) (c ∷ cs)
 stop dialect m c cs h = record {
   front = [];
   spelled = refl;
-  reads = from-goes dialect m c (λ k. read dialect cs k) ∙ ap (λ g. after g (λ k. read dialect cs k)) h;
-  counts = ap (λ g. place_after g (λ k. place dialect cs k)) h;
+  reads = from-goes dialect m c (λ k. read_value dialect cs k) ∙ ap (λ g. after g (λ k. read_value dialect cs k)) h;
+  counts = ap (λ g. value_reach_after g (λ k. value_reach dialect cs k)) h;
 }
 
 -- where nothing was read yet, the mode stays, no piece is given, and the whole text is left
-pub none_read : (dialect : Dialect) (m : Mode) (text : List ℕ) → IsReadTo dialect m text [] m text
+pub none_read : (dialect : Dialect) (m : ValueMode) (text : List ℕ) → IsReadTo dialect m text [] m text
 none_read dialect m text =
-    record { front = []; spelled = refl; reads = given-nil (read dialect text m); counts = omega arith }
+    record { front = []; spelled = refl; reads = given-nil (read_value dialect text m); counts = omega arith }
 
 -- what is read to one mode, and then on to another, is read to that one, and gives the pieces of both
-pub read_on : (dialect : Dialect) (m n k : Mode) (text left rest : List ℕ) (p q : List Piece) →
+pub read_on : (dialect : Dialect) (m n k : ValueMode) (text left rest : List ℕ) (p q : List Piece) →
     IsReadTo dialect m text p n left → IsReadTo dialect n left q k rest → IsReadTo dialect m text (p ++ q) k rest
 read_on dialect m n k text left rest p q a b = record {
   front = a.front ++ b.front;
   spelled = a.spelled ∙ ap (λ t. a.front ++ t) b.spelled ∙ sym (append_assoc a.front b.front rest);
-  reads = a.reads ∙ ap (given p) b.reads ∙ given-given p q (read dialect rest k);
+  reads = a.reads ∙ ap (given p) b.reads ∙ given-given p q (read_value dialect rest k);
   counts = a.counts ∙ ap (λ n. length a.front + n) b.counts ∙ omega (arith, length-append a.front b.front);
 }
 
 -- where reading stops behind what was read, it stops there from the start
-pub stop_after : (dialect : Dialect) (m n : Mode) (text left rest : List ℕ) (p : List Piece) →
+pub stop_after : (dialect : Dialect) (m n : ValueMode) (text left rest : List ℕ) (p : List Piece) →
     IsReadTo dialect m text p n left → StopsAt dialect n left rest → StopsAt dialect m text rest
 stop_after dialect m n text left rest p a b = record {
   front = a.front ++ b.front;
@@ -162,8 +162,8 @@ stop_after dialect m n text left rest p a b = record {
 }
 
 -- behind characters that complete no piece, what comes next is what comes next from before them
-pub next_after : (dialect : Dialect) (m n : Mode) (text left : List ℕ) (result : NextPiece) →
-    IsReadTo dialect m text [] n left → NextIs dialect n left result → NextIs dialect m text result
+pub next_after : (dialect : Dialect) (m n : ValueMode) (text left : List ℕ) (result : NextPiece) →
+    IsReadTo dialect m text [] n left → NextPieceIs dialect n left result → NextPieceIs dialect m text result
 next_after dialect m n text left End a h = a.reads ∙ ap (given []) h
 next_after dialect m n text left (GivesNext next) a h =
     record {
@@ -180,8 +180,8 @@ longer : (front rest : List ℕ) (c : ℕ) → length rest < length (c ∷ (fron
 longer front rest c = omega (arith, length-append front rest)
 
 -- what comes next in a text leaves fewer characters than the text has with one more before it
-pub shorter_after : (dialect : Dialect) (m : Mode) (c : ℕ) (cs : List ℕ) (result : NextPiece) →
-    NextIs dialect m cs result → IsShorter (c ∷ cs) result
+pub shorter_after : (dialect : Dialect) (m : ValueMode) (c : ℕ) (cs : List ℕ) (result : NextPiece) →
+    NextPieceIs dialect m cs result → IsShorter (c ∷ cs) result
 shorter_after dialect m c cs End h = tt
 shorter_after dialect m c cs (GivesNext next) h =
     subst (λ t. length (chars next.rest.now) < length (c ∷ t)) (sym h.is_read.spelled)
@@ -189,8 +189,8 @@ shorter_after dialect m c cs (GivesNext next) h =
 shorter_after dialect m c cs (Fault left) h = tt
 
 -- a run of characters, each of which the mode collects, is collected, and gives no piece yet
-pub run : (dialect : Dialect) (mode : List ℕ → Mode) (passes : ℕ → Bool) →
-    ((held : List ℕ) (c : ℕ) → passes c ≡ true → goes dialect (mode held) c ≡ Some (mode (held ++ c ∷ []), [])) →
+pub run : (dialect : Dialect) (mode : List ℕ → ValueMode) (passes : ℕ → Bool) →
+    ((held : List ℕ) (c : ℕ) → passes c ≡ true → value_goes dialect (mode held) c ≡ Some (mode (held ++ c ∷ []), [])) →
     (held front rest : List ℕ) → list_all passes front ≡ true →
     IsReadTo dialect (mode held) (front ++ rest) [] (mode (held ++ front)) rest
 run dialect mode passes step held [] rest h =
@@ -207,7 +207,7 @@ run dialect mode passes step held (c ∷ front) rest h =
     (mode ((held ++ c ∷ []) ++ front)) (c ∷ (front ++ rest)) (front ++ rest) rest [] [] here later)
 
 -- where the first character leads, by what it begins
-abbrev goes_kind : Kind → Quoting → ℕ → Option (Mode × List Piece)
+abbrev goes_kind : Kind → Quoting → ℕ → Option (ValueMode × List Piece)
 goes_kind Backslash q c = Some (escaping q, [])
 goes_kind SingleQuote q c = Some (in_single [], [])
 goes_kind DoubleQuote q c = Some (base (other_quoting q), [])
@@ -220,7 +220,7 @@ pub kind_goes : (q : CodeQuoting) (c : ℕ) → goes_base (quoting_of q) c ≡ g
 kind_goes Unquoted c = at (c == backslash) (c == single_quote) (c == double_quote) (c == dollar) (is_space_or_tab c)
   where
     at : (b s d o t : Bool) →
-        elim b as (λ _. Option (Mode × List Piece)) [
+        elim b as (λ _. Option (ValueMode × List Piece)) [
           | true ↦ Some (escaping unquoted, [])
           | false ↦
               elim s [
@@ -252,7 +252,7 @@ kind_goes Unquoted c = at (c == backslash) (c == single_quote) (c == double_quot
 kind_goes DoubleQuoted c = at (c == backslash) (c == double_quote) (c == dollar)
   where
     at : (b d o : Bool) →
-        elim b as (λ _. Option (Mode × List Piece)) [
+        elim b as (λ _. Option (ValueMode × List Piece)) [
           | true ↦ Some (escaping double_quoted, [])
           | false ↦
               elim d [
@@ -273,7 +273,7 @@ kind_goes DoubleQuoted c = at (c == backslash) (c == double_quote) (c == dollar)
 
 -- a character of this kind leads there
 pub goes_as : (dialect : Dialect) (q : CodeQuoting) (c : ℕ) (kind : Kind) → kind ≡ kind_of q c →
-    goes dialect (base (quoting_of q)) c ≡ goes_kind kind (quoting_of q) c
+    value_goes dialect (base (quoting_of q)) c ≡ goes_kind kind (quoting_of q) c
 goes_as dialect q c kind h = kind_goes q c ∙ ap (λ k. goes_kind k (quoting_of q) c) (sym h)
 
 -- the bytes of a text are those of its meaning, as a piece that stands for itself
@@ -284,7 +284,7 @@ text_bytes look_up text u = sym (ap encode_utf8_all (append-nil (chars text)) �
 -- A single-quoted text, and one that lacks its end.
 -- in single quotes, a character other than the quote is collected, and gives no piece yet
 collects_single : (dialect : Dialect) (held : List ℕ) (c : ℕ) → not (c == single_quote) ≡ true →
-    goes dialect (in_single held) c ≡ Some (in_single (held ++ c ∷ []), [])
+    value_goes dialect (in_single held) c ≡ Some (in_single (held ++ c ∷ []), [])
 collects_single dialect held c h = when_false _ _ (c == single_quote) (not_is (c == single_quote) h)
 
 -- in single quotes, a text without one and then the quote are read as that text, and end the quotes
@@ -322,7 +322,7 @@ gives_single dialect text front rest cut = record {
 -- A braced name, and one that lacks its end.
 -- in braces, a character other than `}` is collected into the name, and gives no piece yet
 collects_braced : (dialect : Dialect) (q : Quoting) (held : List ℕ) (c : ℕ) → not (c == right_brace) ≡ true →
-    goes dialect (bracing q held) c ≡ Some (bracing q (held ++ c ∷ []), [])
+    value_goes dialect (bracing q held) c ≡ Some (bracing q (held ++ c ∷ []), [])
 collects_braced dialect q held c h = when_false _ _ (c == right_brace) (not_is (c == right_brace) h)
 
 -- in braces, a text without `}` and then the brace are read as a name, and end the braces
@@ -405,8 +405,8 @@ no_escape dialect q text rest c e h =
 
 -- outside quotes, the value may end behind a backslash, which then means nothing
 pub escape_ends : (dialect : Dialect) (text : List ℕ) → text ≡ [] →
-    read dialect (chars text) (escaping unquoted) ≡ Some []
-escape_ends dialect text e = ap (λ t. read dialect t (escaping unquoted)) (no_characters text e)
+    read_value dialect (chars text) (escaping unquoted) ≡ Some []
+escape_ends dialect text e = ap (λ t. read_value dialect t (escaping unquoted)) (no_characters text e)
 
 -- in double quotes, a text that ends behind a backslash is a fault at its end
 pub escape_open : (dialect : Dialect) (text : List ℕ) → text ≡ [] →
@@ -418,15 +418,15 @@ escape_open dialect text e =
 -- A space or tab, and what may follow it.
 -- in a value's tail, a space or tab is passed by, and gives nothing
 collects_blanks : (dialect : Dialect) (held : List ℕ) (c : ℕ) → is_space_or_tab c ≡ true →
-    goes dialect in_tail c ≡ Some (in_tail, [])
+    value_goes dialect in_tail c ≡ Some (in_tail, [])
 collects_blanks dialect held c h = when_true _ _ (is_space_or_tab c) h
 
 -- in a value's tail, nothing or a comment ends the value, and means nothing
 comment_read : (dialect : Dialect) (comment : List ℕ) → is_empty_or_comment comment ≡ true →
-    read dialect comment in_tail ≡ Some []
+    read_value dialect comment in_tail ≡ Some []
 comment_read dialect [] h = refl
 comment_read dialect (c ∷ comment) h =
-    subst (λ d. read dialect (d ∷ comment) in_tail ≡ Some []) (sym (same_from c hash h))
+    subst (λ d. read_value dialect (d ∷ comment) in_tail ≡ Some []) (sym (same_from c hash h))
     (read_comment dialect comment)
 
 -- in a value's tail, a character that is no space, tab or `#` is a fault where it stands
@@ -446,7 +446,7 @@ tail_run dialect text blanks comment is =
 
 -- in a value's tail, spaces and tabs, then nothing or a comment, end the value
 pub tail_ends : (dialect : Dialect) (text blanks comment : List ℕ) → IsSpan is_space_or_tab text blanks comment →
-    is_empty_or_comment comment ≡ true → read dialect text in_tail ≡ Some []
+    is_empty_or_comment comment ≡ true → read_value dialect text in_tail ≡ Some []
 tail_ends dialect text blanks comment is h =
     (tail_run dialect text blanks comment is).reads ∙ ap (given []) (comment_read dialect comment h)
 
@@ -469,11 +469,11 @@ meaning-each look_up (c ∷ cs) = ap (λ t. c ∷ t) (meaning-each look_up cs)
 
 -- a plain character gives itself as text, and a part may begin behind it
 plain_goes : (dialect : Dialect) (q : Quoting) (c : ℕ) → is_plain q c ≡ true →
-    goes dialect (base q) c ≡ Some (base q, Text (c ∷ []) ∷ [])
+    value_goes dialect (base q) c ≡ Some (base q, Text (c ∷ []) ∷ [])
 plain_goes dialect double_quoted c h = inside (c == backslash) (c == double_quote) (c == dollar) h
   where
     inside : (b d o : Bool) → not ((b || d) || o) ≡ true →
-        elim b as (λ _. Option (Mode × List Piece)) [
+        elim b as (λ _. Option (ValueMode × List Piece)) [
           | true ↦ Some (escaping double_quoted, [])
           | false ↦
               elim d [
@@ -493,7 +493,7 @@ plain_goes dialect unquoted c h =
     outside (c == backslash) (c == single_quote) (c == double_quote) (c == dollar) (is_space_or_tab c) h
   where
     outside : (b s d o t : Bool) → not ((((b || s) || d) || o) || t) ≡ true →
-        elim b as (λ _. Option (Mode × List Piece)) [
+        elim b as (λ _. Option (ValueMode × List Piece)) [
           | true ↦ Some (escaping unquoted, [])
           | false ↦
               elim s [
@@ -573,8 +573,8 @@ name_open dialect name left e =
     (record { front = []; spelled = refl; reads = refl; counts = refl })
 
 -- a step counts as far with pieces put before its own as without them
-place_with : (pieces : List Piece) (g : Option (Mode × List Piece)) (next : Mode → ℕ) →
-    place_after (with_pieces pieces g) next ≡ place_after g next
+place_with : (pieces : List Piece) (g : Option (ValueMode × List Piece)) (next : ValueMode → ℕ) →
+    value_reach_after (with_pieces pieces g) next ≡ value_reach_after g next
 place_with pieces None next = refl
 place_with pieces (Some (m, more)) next = refl
 
@@ -587,9 +587,9 @@ left_read dialect q name cs c h k = record {
   spelled = refl;
   reads = when_false _ _ (is_name_character dialect c) h ∙ when_true _ _ (is_left_by_name dialect q c) k;
   counts =
-      ap (λ g. place_after g (λ n. place dialect cs n))
+      ap (λ g. value_reach_after g (λ n. value_reach dialect cs n))
       (when_false _ _ (is_name_character dialect c) h ∙ when_true _ _ (is_left_by_name dialect q c) k)
-      ∙ place_with (Name name ∷ []) (goes_base q c) (λ n. place dialect cs n)
+      ∙ place_with (Name name ∷ []) (goes_base q c) (λ n. value_reach dialect cs n)
       ∙ omega arith;
 }
 
@@ -652,7 +652,7 @@ name_then dialect q name follows left rest c u e ended no_brace h f = record {
 
 -- a name character behind a bare name is a part of the name
 collects_name : (dialect : Dialect) (q : Quoting) (held : List ℕ) (c : ℕ) → is_name_character dialect c ≡ true →
-    goes dialect (naming q held) c ≡ Some (naming q (held ++ c ∷ []), [])
+    value_goes dialect (naming q held) c ≡ Some (naming q (held ++ c ∷ []), [])
 collects_name dialect q held c h = when_true _ _ (is_name_character dialect c) h
 
 -- behind a dollar, the longest front of name characters is taken as the bare name
@@ -684,11 +684,11 @@ after_quotes (c ∷ cs) q = after_quotes cs (other_quoting q)
 
 -- where a part may begin, a double quote leads into double quotes or out of them, and gives no piece
 quote_goes : (dialect : Dialect) (q : Quoting) (c : ℕ) → (c == double_quote) ≡ true
-    → goes dialect (base q) c ≡ Some (base (other_quoting q), [])
-quote_goes dialect q c h = subst (λ d. goes dialect (base q) d ≡ Some (base (other_quoting q), []))
+    → value_goes dialect (base q) c ≡ Some (base (other_quoting q), [])
+quote_goes dialect q c h = subst (λ d. value_goes dialect (base q) d ≡ Some (base (other_quoting q), []))
     (sym (same_from c double_quote h)) (at q)
   where
-    at : (q : Quoting) → goes dialect (base q) double_quote ≡ Some (base (other_quoting q), [])
+    at : (q : Quoting) → value_goes dialect (base q) double_quote ≡ Some (base (other_quoting q), [])
     at unquoted = refl
     at double_quoted = refl
 
@@ -771,22 +771,23 @@ odd_quotes text quotes rest q u is h =
     after_odd (chars quotes) (other_quoting q) (length quotes / 2) (omega (arith, h, n, m)) ∙ other_twice q
 
 -- a first character that leads to a mode and gives no piece is read to that mode
-pub first_read : (dialect : Dialect) (q : CodeQuoting) (n : Mode) (text cs : List ℕ) (c : ℕ) → text ≡ c ∷ cs →
-    goes dialect (base (quoting_of q)) c ≡ Some (n, []) → IsReadTo dialect (base (quoting_of q)) text [] n cs
+pub first_read : (dialect : Dialect) (q : CodeQuoting) (n : ValueMode) (text cs : List ℕ) (c : ℕ) → text ≡ c ∷ cs →
+    value_goes dialect (base (quoting_of q)) c ≡ Some (n, []) → IsReadTo dialect (base (quoting_of q)) text [] n cs
 first_read dialect q n text cs c e h =
     subst (λ t. IsReadTo dialect (base (quoting_of q)) t [] n cs) (sym e)
     (one dialect (base (quoting_of q)) n c cs [] h)
 
 -- what comes next behind the first character of a text leaves fewer characters than the text has
-pub first_shorter : (dialect : Dialect) (m : Mode) (text cs : List ℕ) (c : ℕ) (result : NextPiece) → text ≡ c ∷ cs →
-    NextIs dialect m cs result → IsShorter text result
+pub first_shorter : (dialect : Dialect) (m : ValueMode) (text cs : List ℕ) (c : ℕ) (result : NextPiece) →
+    text ≡ c ∷ cs →
+    NextPieceIs dialect m cs result → IsShorter text result
 first_shorter dialect m text cs c result e h =
     subst (λ t. IsShorter t result) (sym e) (shorter_after dialect m c cs result h)
 
 -- outside quotes, a text with nothing left ends the value
 pub ends_unquoted : (dialect : Dialect) (text : List ℕ) → text ≡ [] →
-    read dialect (chars text) (base unquoted) ≡ Some []
-ends_unquoted dialect text e = ap (λ t. read dialect t (base unquoted)) (no_characters text e)
+    read_value dialect (chars text) (base unquoted) ≡ Some []
+ends_unquoted dialect text e = ap (λ t. read_value dialect t (base unquoted)) (no_characters text e)
 
 -- in double quotes, a text with nothing left is a fault at its end
 pub open_double : (dialect : Dialect) (text : List ℕ) → text ≡ [] →

@@ -38,34 +38,37 @@ use Rattle.dotenv_format.proofs.ValuePlaces.{value_place, value_fronts, one_plac
 
 -- What a line says, computed: the outcome of a value, of what is assigned, and of a line.
 -- what a key says whose value is read so: a pair, or a fault in the value
-abbrev pub value_outcome : (dialect : Dialect) → List ℕ → List ℕ → reader.Reading → Outcome
+abbrev pub value_outcome : (dialect : Dialect) → List ℕ → List ℕ → reader.ValueReading → Outcome
 value_outcome dialect key rest (Some pieces) = Pair key pieces
-value_outcome dialect key rest None = Fault rest (value_index rest (reader.place dialect rest (reader.base unquoted)))
+value_outcome dialect key rest None =
+    Fault rest (value_index rest (reader.value_reach dialect rest (reader.base unquoted)))
 
 -- what a line says whose statement is read so: a pair, a fault in its value, or a fault in the line
-abbrev pub statement_outcome : (dialect : Dialect) → List ℕ → statements.Reading → Outcome
+abbrev pub statement_outcome : (dialect : Dialect) → List ℕ → statements.StatementReading → Outcome
 statement_outcome dialect line (Some (key, rest)) =
     elim (is_empty_or_comment rest) [
       | true ↦ Pair key []
-      | false ↦ value_outcome dialect key rest (reader.read dialect rest (reader.base unquoted))
+      | false ↦ value_outcome dialect key rest (reader.read_value dialect rest (reader.base unquoted))
     ]
 statement_outcome dialect line None =
     let u = drop_trailing_whitespace line in
-    Fault line (byte_len (take (statement_places.place u statements.start) u))
+    Fault line (byte_len (take (statement_places.statement_reach u statements.start) u))
 
 -- what a line says: nothing where it is empty or a comment, else what its statement is read as
 abbrev pub outcome_of : (dialect : Dialect) → List ℕ → Outcome
 outcome_of dialect line =
     elim (is_nothing (drop_trailing_whitespace line)) [
       | true ↦ Nothing
-      | false ↦ statement_outcome dialect line (statements.read (drop_trailing_whitespace line) statements.start)
+      | false ↦ statement_outcome dialect line
+          (statements.read_statement (drop_trailing_whitespace line) statements.start)
     ]
 
 -- a statement that assigns something, and no comment, says what its value is read as
 value_says : (dialect : Dialect) (line key rest : List ℕ) →
     IsTrue (not (is_nothing (drop_trailing_whitespace line))) →
-    IsStatement (drop_trailing_whitespace line) key rest → is_empty_or_comment rest ≡ false → (r : reader.Reading) →
-    reader.read dialect rest (reader.base unquoted) ≡ r → Says dialect line (value_outcome dialect key rest r)
+    IsStatement (drop_trailing_whitespace line) key rest → is_empty_or_comment rest ≡ false →
+    (r : reader.ValueReading) →
+    reader.read_value dialect rest (reader.base unquoted) ≡ r → Says dialect line (value_outcome dialect key rest r)
 value_says dialect line key rest some is h (Some pieces) e =
     (some, rest, is, inr (ap not h, value-read dialect rest pieces e))
 value_says dialect line key rest some is h None e = (
@@ -75,7 +78,7 @@ value_says dialect line key rest some is h None e = (
     statement = is;
     assigned = ap not h;
     none = λ pieces v. (let f : None ≡ Some pieces = sym e ∙ read-value dialect rest pieces v in cc);
-    place = reader.place dialect rest (reader.base unquoted);
+    place = reader.value_reach dialect rest (reader.base unquoted);
     is_place = value_place dialect rest;
     index_is = refl;
   }),
@@ -87,15 +90,15 @@ assigned_says : (dialect : Dialect) (line key rest : List ℕ) →
     IsStatement (drop_trailing_whitespace line) key rest → (b : Bool) → is_empty_or_comment rest ≡ b →
     Says dialect line (elim b [
       | true ↦ Pair key []
-      | false ↦ value_outcome dialect key rest (reader.read dialect rest (reader.base unquoted))
+      | false ↦ value_outcome dialect key rest (reader.read_value dialect rest (reader.base unquoted))
     ])
 assigned_says dialect line key rest some is true h = (some, rest, is, inl (h, refl))
 assigned_says dialect line key rest some is false h =
-    value_says dialect line key rest some is h (reader.read dialect rest (reader.base unquoted)) refl
+    value_says dialect line key rest some is h (reader.read_value dialect rest (reader.base unquoted)) refl
 
 -- a line that is neither empty nor a comment says what reading it as a statement gives
 statement_says : (dialect : Dialect) (line : List ℕ) → IsTrue (not (is_nothing (drop_trailing_whitespace line))) →
-    (r : statements.Reading) → statements.read (drop_trailing_whitespace line) statements.start ≡ r →
+    (r : statements.StatementReading) → statements.read_statement (drop_trailing_whitespace line) statements.start ≡ r →
     Says dialect line (statement_outcome dialect line r)
 statement_says dialect line some (Some (key, rest)) e =
     assigned_says dialect line key rest some (statement-read (drop_trailing_whitespace line) key rest e)
@@ -104,7 +107,7 @@ statement_says dialect line some None e = let u = drop_trailing_whitespace line 
   some,
   inl (record {
     none = λ key rest is. none_some (key, rest) (sym e ∙ read-statement u key rest is);
-    place = statement_places.place u statements.start;
+    place = statement_places.statement_reach u statements.start;
     is_place = statement_place u;
     line_is = refl;
     index_is = refl;
@@ -119,11 +122,13 @@ outcome_of-is dialect line = at (is_nothing (drop_trailing_whitespace line)) ref
         Says dialect line (elim b [
           | true ↦ Nothing
           | false ↦
-              statement_outcome dialect line (statements.read (drop_trailing_whitespace line) statements.start)
+              statement_outcome dialect line (statements.read_statement
+              (drop_trailing_whitespace line) statements.start)
         ])
     at true h = h
     at false h =
-        statement_says dialect line (ap not h) (statements.read (drop_trailing_whitespace line) statements.start)
+        statement_says dialect line (ap not h)
+        (statements.read_statement (drop_trailing_whitespace line) statements.start)
         refl
 
 -- no test both holds and fails

@@ -33,16 +33,16 @@ use Rattle.dotenv_format.specs.Characters.{begins_key, continues_key, equals_sig
 use Rattle.dotenv_format.specs.Statement.{IsStatement}
 use Rattle.dotenv_format.specs.Places.{BeginsStatement, IsPlace}
 use Rattle.dotenv_format.proofs.Statements.{
-  Mode,
+  StatementMode,
   start,
   in_key,
   after_key,
   after_export,
   assigned,
-  goes,
+  statement_goes,
   rest_of,
-  next_of,
-  read,
+  read_on,
+  read_statement,
   read-statement,
   statement-read,
   if_true,
@@ -50,7 +50,7 @@ use Rattle.dotenv_format.proofs.Statements.{
   white_no_equals,
 }
 use Rattle.dotenv_format.specs.ParseStatement.{export}
-use Rattle.dotenv_format.proofs.StatementPlaces.{place_after, place, statement_place, none_some}
+use Rattle.dotenv_format.proofs.StatementPlaces.{statement_reach_after, statement_reach, statement_place, none_some}
 use Rattle.dotenv_format.specs.ParseStatement.{
   Parsed,
   assigns,
@@ -67,19 +67,19 @@ use Rattle.dotenv_format.specs.ParseStatement.{
 }
 
 -- a fault in a text, read from the mode: nothing is read, and this is left, from the place on
-pub record FailsAt (m : Mode) (text left : List ℕ) : Type 0 where
-  pub none : read text m ≡ None
+pub record FailsAt (m : StatementMode) (text left : List ℕ) : Type 0 where
+  pub none : read_statement text m ≡ None
   pub front : List ℕ
   pub spelled : text ≡ front ++ left
-  pub counts : place text m ≡ length front
+  pub counts : statement_reach text m ≡ length front
 
 -- what was parsed is what is read from the mode: a key and what is assigned, or a fault with what is left
-abbrev pub Matches : Mode → List ℕ → Parsed → Type 0
-Matches m text (assigns key rest) = read text m ≡ Some (key, rest)
+abbrev pub Matches : StatementMode → List ℕ → Parsed → Type 0
+Matches m text (assigns key rest) = read_statement text m ≡ Some (key, rest)
 Matches m text (fails left) = FailsAt m text left
 
 -- no `=` was read yet in this mode
-abbrev IsBefore : Mode → Type 0
+abbrev IsBefore : StatementMode → Type 0
 IsBefore start = Unit {0}
 IsBefore (in_key first key) = Unit {0}
 IsBefore (after_key key) = Unit {0}
@@ -87,7 +87,8 @@ IsBefore after_export = Unit {0}
 IsBefore (assigned key) = ⊥
 
 -- before `=`, reading a character is going where it leads, and reading on from there
-reads_at : (m : Mode) (c : ℕ) (cs : List ℕ) → IsBefore m → read (c ∷ cs) m ≡ next_of (goes m c) (λ n. read cs n)
+reads_at : (m : StatementMode) (c : ℕ) (cs : List ℕ) → IsBefore m →
+    read_statement (c ∷ cs) m ≡ read_on (statement_goes m c) (λ n. read_statement cs n)
 reads_at start c cs is = refl
 reads_at (in_key first key) c cs is = refl
 reads_at (after_key key) c cs is = refl
@@ -95,7 +96,7 @@ reads_at after_export c cs is = refl
 reads_at (assigned key) c cs is = absurd is
 
 -- before `=`, where the text ends, no statement is read
-ends_at : (m : Mode) → IsBefore m → read [] m ≡ None
+ends_at : (m : StatementMode) → IsBefore m → read_statement [] m ≡ None
 ends_at start is = refl
 ends_at (in_key first key) is = refl
 ends_at (after_key key) is = refl
@@ -103,28 +104,30 @@ ends_at after_export is = refl
 ends_at (assigned key) is = absurd is
 
 -- where a character leads to a mode, what is parsed from that mode is parsed with the character before it
-go : (m : Mode) (c : ℕ) (cs : List ℕ) (n : Mode) (p : Parsed) → IsBefore m → goes m c ≡ Some n → Matches n cs p →
+go : (m : StatementMode) (c : ℕ) (cs : List ℕ) (n : StatementMode) (p : Parsed) → IsBefore m →
+    statement_goes m c ≡ Some n → Matches n cs p →
     Matches m (c ∷ cs) p
-go m c cs n (assigns key rest) is h r = reads_at m c cs is ∙ ap (λ g. next_of g (λ n. read cs n)) h ∙ r
+go m c cs n (assigns key rest) is h r = reads_at m c cs is ∙ ap (λ g. read_on g (λ n. read_statement cs n)) h ∙ r
 go m c cs n (fails left) is h r = record {
-  none = reads_at m c cs is ∙ ap (λ g. next_of g (λ n. read cs n)) h ∙ r.none;
+  none = reads_at m c cs is ∙ ap (λ g. read_on g (λ n. read_statement cs n)) h ∙ r.none;
   front = c ∷ r.front;
   spelled = ap (λ t. c ∷ t) r.spelled;
-  counts = ap (λ g. place_after g (λ n. place cs n)) h ∙ ap suc r.counts;
+  counts = ap (λ g. statement_reach_after g (λ n. statement_reach cs n)) h ∙ ap suc r.counts;
 }
 
 -- before `=`, a character that leads nowhere is a fault, and what is left begins with it
-stop : (m : Mode) (c : ℕ) (cs : List ℕ) → IsBefore m → goes m c ≡ None → Matches m (c ∷ cs) (fails (c ∷ cs))
+stop : (m : StatementMode) (c : ℕ) (cs : List ℕ) → IsBefore m → statement_goes m c ≡ None →
+    Matches m (c ∷ cs) (fails (c ∷ cs))
 stop m c cs is h =
     record {
-      none = reads_at m c cs is ∙ ap (λ g. next_of g (λ n. read cs n)) h;
+      none = reads_at m c cs is ∙ ap (λ g. read_on g (λ n. read_statement cs n)) h;
       front = [];
       spelled = refl;
-      counts = ap (λ g. place_after g (λ n. place cs n)) h;
+      counts = ap (λ g. statement_reach_after g (λ n. statement_reach cs n)) h;
     }
 
 -- before `=`, the end of the text is a fault, and nothing is left
-end : (m : Mode) → IsBefore m → Matches m [] (fails [])
+end : (m : StatementMode) → IsBefore m → Matches m [] (fails [])
 end m is = record { none = ends_at m is; front = []; spelled = refl; counts = refl }
 
 -- what is assigned is what follows `=`, without the white space at its front
@@ -137,12 +140,12 @@ at_assigned : (key cs : List ℕ) → Matches (assigned key) cs (after_equals ke
 at_assigned key cs = ap (λ r. Some (key, r)) (rest-skip cs)
 
 -- behind a key that is no prefix, white space leads to the same mode
-after_white : (key : List ℕ) (c : ℕ) → is_whitespace c ≡ true → goes (after_key key) c ≡ Some (after_key key)
+after_white : (key : List ℕ) (c : ℕ) → is_whitespace c ≡ true → statement_goes (after_key key) c ≡ Some (after_key key)
 after_white key c h = if_false _ _ (c == equals_sign) (white_no_equals c h) ∙ if_true _ _ (is_whitespace c) h
 
 -- behind a key that is no prefix, what is neither white space nor `=` leads nowhere
 after_other : (key : List ℕ) (c : ℕ) → is_whitespace c ≡ false → (c == equals_sign) ≡ false →
-    goes (after_key key) c ≡ None
+    statement_goes (after_key key) c ≡ None
 after_other key c h k = if_false _ _ (c == equals_sign) k ∙ if_false _ _ (is_whitespace c) h
 
 -- behind a key that is no prefix, reading is passing white space by and expecting `=`

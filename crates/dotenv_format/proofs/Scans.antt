@@ -45,12 +45,12 @@ use Rattle.dotenv_format.specs.LogicalLine.{Ending, line_end, escaped_line_end, 
 use Rattle.dotenv_format.proofs.Basics.{and_left, and_right, both, not_is, not_or, same_from, when_true, when_false}
 
 -- where a reading stands: outside, behind a backslash, in quotes, behind a backslash there, behind a blank
-pub data Mode : Type 0 where
-  outside : Mode
-  escaping : Mode
-  inside : ℕ → Mode
-  inside_escaping : ℕ → Mode
-  after_blank : ℕ → Mode
+pub data ScanMode : Type 0 where
+  outside : ScanMode
+  escaping : ScanMode
+  inside : ℕ → ScanMode
+  inside_escaping : ℕ → ScanMode
+  after_blank : ℕ → ScanMode
 
 -- what was read: the tokens' text, the ending, and what follows it; or an open end
 pub data Scan : Type 0 where
@@ -73,7 +73,7 @@ after_line [] = []
 after_line (c ∷ cs) = cond (c == line_feed) cs (after_line cs)
 
 -- from the outside: what a character gives and where it leads, with what is read from there
-abbrev pub from_outside : ℕ → List ℕ → (Mode → Scan) → Scan
+abbrev pub from_outside : ℕ → List ℕ → (ScanMode → Scan) → Scan
 from_outside c cs next =
     elim (c == line_feed) [
       | true ↦ stops [] line_end cs
@@ -90,21 +90,21 @@ from_outside c cs next =
     ]
 
 -- from any mode: what a character gives and where it leads, with what is read from there
-abbrev pub from : Mode → ℕ → List ℕ → (Mode → Scan) → Scan
-from outside c cs next = from_outside c cs next
-from escaping c cs next =
+abbrev pub scan_from : ScanMode → ℕ → List ℕ → (ScanMode → Scan) → Scan
+scan_from outside c cs next = from_outside c cs next
+scan_from escaping c cs next =
     elim (c == line_feed) [
       | true ↦ stops [] escaped_line_end cs
       | false ↦ consed (backslash ∷ c ∷ []) (next outside)
     ]
-from (inside q) c cs next =
+scan_from (inside q) c cs next =
     elim (c == q) [
       | true ↦ consed (c ∷ []) (next outside)
       | false ↦
           elim (c == backslash) [ true ↦ next (inside_escaping q) | false ↦ consed (c ∷ []) (next (inside q)) ]
     ]
-from (inside_escaping q) c cs next = consed (backslash ∷ c ∷ []) (next (inside q))
-from (after_blank b) c cs next =
+scan_from (inside_escaping q) c cs next = consed (backslash ∷ c ∷ []) (next (inside q))
+scan_from (after_blank b) c cs next =
     elim (c == hash) [
       | true ↦ stops [] (comment b (first_line cs)) (after_line cs)
       | false ↦
@@ -115,13 +115,13 @@ from (after_blank b) c cs next =
     ]
 
 -- what is read of the text from this mode: tokens, an ending and what follows, or an open end
-abbrev pub scan : List ℕ → Mode → Scan
+abbrev pub scan : List ℕ → ScanMode → Scan
 scan [] outside = stops [] input_end []
 scan [] escaping = open_end
 scan [] (inside q) = open_end
 scan [] (inside_escaping q) = open_end
 scan [] (after_blank b) = open_end
-scan (c ∷ cs) mode = from mode c cs (λ m. scan cs m)
+scan (c ∷ cs) mode = scan_from mode c cs (λ m. scan cs m)
 
 -- a reading with one text before it, and another before that, is the reading with both joined before it
 pub consed-consed : (xs ys : List ℕ) (s : Scan) → consed xs (consed ys s) ≡ consed (xs ++ ys) s
@@ -308,7 +308,7 @@ pub record Closes (q : ℕ) (text front : List ℕ) (ending : Ending) (rest : Li
   pub reads : Reads after front' ending rest
 
 -- the text is rightly read so from this mode, behind a backslash or blank that waits; an open end always is
-abbrev pub Read : Mode → List ℕ → Scan → Type 0
+abbrev pub Read : ScanMode → List ℕ → Scan → Type 0
 Read mode text open_end = Unit {0}
 Read outside text (stops front ending rest) = Reads text front ending rest
 Read escaping text (stops front ending rest) = Reads (backslash ∷ text) front ending rest
@@ -317,12 +317,12 @@ Read (inside_escaping q) text (stops front ending rest) = Closes q (backslash �
 Read (after_blank b) text (stops front ending rest) = Reads (b ∷ text) front ending rest
 
 -- the mode is one of a reading: what it holds as a quote is a quote, and as a blank a blank
-abbrev pub IsMode : Mode → Type 0
-IsMode outside = Unit {0}
-IsMode escaping = Unit {0}
-IsMode (inside q) = is_quote q ≡ true
-IsMode (inside_escaping q) = is_quote q ≡ true
-IsMode (after_blank b) = is_blank b ≡ true
+abbrev pub IsScanMode : ScanMode → Type 0
+IsScanMode outside = Unit {0}
+IsScanMode escaping = Unit {0}
+IsScanMode (inside q) = is_quote q ≡ true
+IsScanMode (inside_escaping q) = is_quote q ≡ true
+IsScanMode (after_blank b) = is_blank b ≡ true
 
 -- the character is a line feed, a backslash, a quote, a blank, or plain, which is none of these
 data Class (c : ℕ) : Type 0 where
@@ -520,7 +520,7 @@ to_inside q cs open_end r = tt
 to_inside q cs (stops front ending rest) r = r
 
 -- where a text is rightly read from each mode, so it is from the outside with a character before it
-outside_step : (c : ℕ) (cs : List ℕ) (k : Class c) → ((m : Mode) → IsMode m → Read m cs (scan cs m)) →
+outside_step : (c : ℕ) (cs : List ℕ) (k : Class c) → ((m : ScanMode) → IsScanMode m → Read m cs (scan cs m)) →
     Read outside (c ∷ cs) (scan (c ∷ cs) outside)
 outside_step c cs (at_line e) later =
     subst (λ d. Read outside (d ∷ cs) (scan (d ∷ cs) outside)) (sym e)
@@ -583,7 +583,8 @@ blank_step b c cs ok false true h i out from_here = read_blank b c cs (scan (c �
 blank_step b c cs ok false false h i out from_here = read_blank_pair b c cs (scan cs outside) ok (rw (h, i) refl) out
 
 -- where a text is rightly read from each mode, so it is from each with a character before it
-step : (mode : Mode) (c : ℕ) (cs : List ℕ) → IsMode mode → ((m : Mode) → IsMode m → Read m cs (scan cs m)) →
+step : (mode : ScanMode) (c : ℕ) (cs : List ℕ) → IsScanMode mode →
+    ((m : ScanMode) → IsScanMode m → Read m cs (scan cs m)) →
     Read mode (c ∷ cs) (scan (c ∷ cs) mode)
 step outside c cs ok later = outside_step c cs (class_of c) later
 step escaping c cs ok later = escaping_step c cs (c == line_feed) refl (later outside tt)
@@ -596,7 +597,7 @@ step (after_blank b) c cs ok later =
     (outside_step c cs (class_of c) later)
 
 -- each text is rightly read from each mode: unless it stays open, as tokens, an ending and what follows
-pub scan-reads : (text : List ℕ) (mode : Mode) → IsMode mode → Read mode text (scan text mode)
+pub scan-reads : (text : List ℕ) (mode : ScanMode) → IsScanMode mode → Read mode text (scan text mode)
 scan-reads [] outside ok = record { tokens = []; are = tt; closed = refl; spelled = refl; front_is = refl }
 scan-reads [] escaping ok = tt
 scan-reads [] (inside q) ok = tt

@@ -49,14 +49,14 @@ use Rattle.dotenv_format.specs.declared.walk.LineMode.TheVariants.{
   InsideEscaping,
   AfterBlank,
 }
-use Rattle.dotenv_format.specs.LineModes.{leads_outside, leads, kept, Walk, going, ended, walked, walk}
+use Rattle.dotenv_format.specs.LineModes.{leads_outside, leads, kept_before, Walk, going, ended, walked, walk}
 use Rattle.dotenv_format.proofs.Basics.{same_from, when_true, when_false}
 use Rattle.dotenv_format.proofs.Scans as scans
 use Rattle.dotenv_format.proofs.Scans.{Scan, stops, open_end, consed, scan, scan-reads, Reads, Read, consed-consed}
 use Rattle.dotenv_format.proofs.NextLine.{closed_words, one_line_words}
 
 -- the mode of the token scan, where b was read last; what it has read of a token that is not whole
-abbrev to_mode : LineMode → ℕ → scans.Mode
+abbrev to_mode : LineMode → ℕ → scans.ScanMode
 to_mode Outside b = scans.outside
 to_mode Escaping b = scans.escaping
 to_mode (Inside q) b = scans.inside q
@@ -82,7 +82,7 @@ record Stops (m : LineMode) (b c : ℕ) (rest : List ℕ) : Type 0 where
   front : List ℕ
   ending : Ending
   reads : scan (c ∷ rest) (to_mode m b) ≡ stops front ending []
-  keeps : (xs : List ℕ) → kept_text (xs ++ front) ending ≡ kept c (xs ++ pending m b)
+  keeps : (xs : List ℕ) → kept_text (xs ++ front) ending ≡ kept_before c (xs ++ pending m b)
   is_ending : (ending ≡ input_end) → ⊥
 
 -- one step of both, by where the character leads: to a mode, or to the end of a logical line
@@ -168,7 +168,7 @@ none_is_line c h = at (c == line_feed) (c == backslash) (is_quote c) (is_blank c
     at false false false false h = cc
 
 -- before a line feed, a line keeps what stands there without one carriage return at its end
-kept_line : (c : ℕ) (xs : List ℕ) → (c == line_feed) ≡ true → kept c xs ≡ without_carriage_return xs
+kept_line : (c : ℕ) (xs : List ℕ) → (c == line_feed) ≡ true → kept_before c xs ≡ without_carriage_return xs
 kept_line c xs h = rw h refl
 
 -- after a whole token, scan and walk take the same step
@@ -265,8 +265,8 @@ blank_step b c true y h i =
       is_ending = λ e. cc;
     }
   where
-    no_line : (xs : List ℕ) → kept c xs ≡ xs
-    no_line xs = ap (λ d. kept d xs) (same_from c hash h)
+    no_line : (xs : List ℕ) → kept_before c xs ≡ xs
+    no_line xs = ap (λ d. kept_before d xs) (same_from c hash h)
 blank_step b c false true h i = broken_step b c (leads_outside c) h i refl (line_step c)
 blank_step b c false false h i =
     record {
@@ -353,16 +353,16 @@ is_ending_from text front input_end last some e = absurd (some refl)
 
 -- the character ends the line
 pub going_ends : (seen : List ℕ) (m : LineMode) (c : ℕ) (rest : List ℕ) (last : Type 0) → IsGoing seen m →
-    leads m c ≡ None → IsOneLine (c ∷ rest) → IsWhole (seen ++ c ∷ rest) (kept c seen) last
+    leads m c ≡ None → IsOneLine (c ∷ rest) → IsWhole (seen ++ c ∷ rest) (kept_before c seen) last
 going_ends seen m c rest last g h one = at (leads m c) h (step m g.last c)
   where
-    at : (o : Option LineMode) → o ≡ None → Stepped m g.last c o → IsWhole (seen ++ c ∷ rest) (kept c seen) last
+    at : (o : Option LineMode) → o ≡ None → Stepped m g.last c o → IsWhole (seen ++ c ∷ rest) (kept_before c seen) last
     at (Some n) e s = cc
     at None e s =
         let p = s rest one in
         let r : scan (seen ++ c ∷ rest) scans.outside ≡ stops (g.front ++ p.front) p.ending [] =
         g.reads (c ∷ rest) ∙ ap (consed g.front) p.reads in
-        subst (λ k. IsWhole (seen ++ c ∷ rest) k last) (p.keeps g.front ∙ ap (kept c) g.joins)
+        subst (λ k. IsWhole (seen ++ c ∷ rest) k last) (p.keeps g.front ∙ ap (kept_before c) g.joins)
         (whole_from (seen ++ c ∷ rest) (g.front ++ p.front) p.ending last r
         (is_ending_from (seen ++ c ∷ rest) (g.front ++ p.front) p.ending last p.is_ending r))
 

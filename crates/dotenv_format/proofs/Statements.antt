@@ -38,29 +38,29 @@ use Rattle.dotenv_format.proofs.ReadBack.{begins_key_visible}
 use Rattle.dotenv_format.specs.ParseStatement.{export}
 
 -- where the reading of a statement stands; a flag says whether the key may still be a prefix
-pub data Mode : Type 0 where
-  start : Mode
-  in_key : Bool → List ℕ → Mode
-  after_key : List ℕ → Mode
-  after_export : Mode
-  assigned : List ℕ → Mode
+pub data StatementMode : Type 0 where
+  start : StatementMode
+  in_key : Bool → List ℕ → StatementMode
+  after_key : List ℕ → StatementMode
+  after_export : StatementMode
+  assigned : List ℕ → StatementMode
 
 -- the key and what is assigned to it, or none where no statement was read
-abbrev pub Reading : Type 0
-Reading = Option (List ℕ × List ℕ)
+abbrev pub StatementReading : Type 0
+StatementReading = Option (List ℕ × List ℕ)
 
 -- where white space behind a word leads: behind `export`, if it may be a prefix and is that, or behind a key
-abbrev pub after_word : Bool → List ℕ → Mode
+abbrev pub after_word : Bool → List ℕ → StatementMode
 after_word first key = elim (first && bytes_eq key export) [ true ↦ after_export | false ↦ after_key key ]
 
 -- where one character leads; none where no statement goes on with it
-abbrev pub goes : Mode → ℕ → Option Mode
-goes start c =
+abbrev pub statement_goes : StatementMode → ℕ → Option StatementMode
+statement_goes start c =
     elim (is_whitespace c) [
       | true ↦ Some start
       | false ↦ elim (begins_key c) [ true ↦ Some (in_key true (c ∷ [])) | false ↦ None ]
     ]
-goes (in_key first key) c =
+statement_goes (in_key first key) c =
     elim (continues_key c) [
       | true ↦ Some (in_key first (key ++ c ∷ []))
       | false ↦
@@ -69,12 +69,12 @@ goes (in_key first key) c =
             | false ↦ elim (is_whitespace c) [ true ↦ Some (after_word first key) | false ↦ None ]
           ]
     ]
-goes (after_key key) c =
+statement_goes (after_key key) c =
     elim (c == equals_sign) [
       | true ↦ Some (assigned key)
       | false ↦ elim (is_whitespace c) [ true ↦ Some (after_key key) | false ↦ None ]
     ]
-goes after_export c =
+statement_goes after_export c =
     elim (c == equals_sign) [
       | true ↦ Some (assigned export)
       | false ↦
@@ -83,7 +83,7 @@ goes after_export c =
             | false ↦ elim (begins_key c) [ true ↦ Some (in_key false (c ∷ [])) | false ↦ None ]
           ]
     ]
-goes (assigned key) c = Some (assigned key)
+statement_goes (assigned key) c = Some (assigned key)
 
 -- the rest begins at the first character after `=` that is no white space
 abbrev pub rest_of : List ℕ → List ℕ
@@ -91,21 +91,21 @@ rest_of [] = []
 rest_of (c ∷ cs) = cond (is_whitespace c) (rest_of cs) (c ∷ cs)
 
 -- what is read on from the mode that was reached; none where none was
-abbrev pub next_of : Option Mode → (Mode → Reading) → Reading
-next_of None next = None
-next_of (Some m) next = next m
+abbrev pub read_on : Option StatementMode → (StatementMode → StatementReading) → StatementReading
+read_on None next = None
+read_on (Some m) next = next m
 
 -- what a text gives, read from this mode; none where no statement goes on, or it ends before an `=`
-abbrev pub read : List ℕ → Mode → Reading
-read cs (assigned key) = Some (key, rest_of cs)
-read [] start = None
-read [] (in_key first key) = None
-read [] (after_key key) = None
-read [] after_export = None
-read (c ∷ cs) start = next_of (goes start c) (λ m. read cs m)
-read (c ∷ cs) (in_key first key) = next_of (goes (in_key first key) c) (λ m. read cs m)
-read (c ∷ cs) (after_key key) = next_of (goes (after_key key) c) (λ m. read cs m)
-read (c ∷ cs) after_export = next_of (goes after_export c) (λ m. read cs m)
+abbrev pub read_statement : List ℕ → StatementMode → StatementReading
+read_statement cs (assigned key) = Some (key, rest_of cs)
+read_statement [] start = None
+read_statement [] (in_key first key) = None
+read_statement [] (after_key key) = None
+read_statement [] after_export = None
+read_statement (c ∷ cs) start = read_on (statement_goes start c) (λ m. read_statement cs m)
+read_statement (c ∷ cs) (in_key first key) = read_on (statement_goes (in_key first key) c) (λ m. read_statement cs m)
+read_statement (c ∷ cs) (after_key key) = read_on (statement_goes (after_key key) c) (λ m. read_statement cs m)
+read_statement (c ∷ cs) after_export = read_on (statement_goes after_export c) (λ m. read_statement cs m)
 
 -- where a test holds, the choice by it is the first of two
 pub if_true : {X : Type 0} (x y : X) (b : Bool) → b ≡ true → elim b [ true ↦ x | false ↦ y ] ≡ x
@@ -130,65 +130,68 @@ pub key_no_equals : (c : ℕ) → begins_key c ≡ true → (c == equals_sign) �
 key_no_equals c h = grind (arith, nat_tests, h)
 
 -- where a character leads to a mode, what follows is read from that mode
-to_next : (g : Option Mode) (m : Mode) (cs : List ℕ) → g ≡ Some m → next_of g (λ n. read cs n) ≡ read cs m
-to_next g m cs h = ap (λ g. next_of g (λ n. read cs n)) h
+to_next : (g : Option StatementMode) (m : StatementMode) (cs : List ℕ) → g ≡ Some m →
+    read_on g (λ n. read_statement cs n) ≡ read_statement cs m
+to_next g m cs h = ap (λ g. read_on g (λ n. read_statement cs n)) h
 
 -- white space at the start of a line changes nothing of what is read
-start_white : (ws cs : List ℕ) → is_white_space ws ≡ true → read (ws ++ cs) start ≡ read cs start
+start_white : (ws cs : List ℕ) → is_white_space ws ≡ true → read_statement (ws ++ cs) start ≡ read_statement cs start
 start_white [] cs h = refl
 start_white (w ∷ ws) cs h =
-    to_next (goes start w) start (ws ++ cs)
+    to_next (statement_goes start w) start (ws ++ cs)
     (if_true _ _ (is_whitespace w) (and_left (is_whitespace w) (list_all is_whitespace ws) h))
     ∙ start_white ws cs (and_right (is_whitespace w) (list_all is_whitespace ws) h)
 
 -- at the start, what begins a key leads into a word that may be a prefix
-start_key : (c : ℕ) (cs : List ℕ) → begins_key c ≡ true → read (c ∷ cs) start ≡ read cs (in_key true (c ∷ []))
+start_key : (c : ℕ) (cs : List ℕ) → begins_key c ≡ true →
+    read_statement (c ∷ cs) start ≡ read_statement cs (in_key true (c ∷ []))
 start_key c cs h =
-    to_next (goes start c) (in_key true (c ∷ [])) cs
+    to_next (statement_goes start c) (in_key true (c ∷ [])) cs
     (if_false _ _ (is_whitespace c) (begins_key_visible c h) ∙ if_true _ _ (begins_key c) h)
 
 -- within a word, characters of a key go on with the word
 key_more : (first : Bool) (acc key cs : List ℕ) → list_all continues_key key ≡ true →
-    read (key ++ cs) (in_key first acc) ≡ read cs (in_key first (acc ++ key))
-key_more first acc [] cs h = ap (λ k. read cs (in_key first k)) (sym (append-nil acc))
+    read_statement (key ++ cs) (in_key first acc) ≡ read_statement cs (in_key first (acc ++ key))
+key_more first acc [] cs h = ap (λ k. read_statement cs (in_key first k)) (sym (append-nil acc))
 key_more first acc (c ∷ key) cs h =
-    to_next (goes (in_key first acc) c) (in_key first (acc ++ c ∷ [])) (key ++ cs)
+    to_next (statement_goes (in_key first acc) c) (in_key first (acc ++ c ∷ [])) (key ++ cs)
     (if_true _ _ (continues_key c) (and_left (continues_key c) (list_all continues_key key) h))
     ∙ key_more first (acc ++ c ∷ []) key cs (and_right (continues_key c) (list_all continues_key key) h)
-    ∙ ap (λ k. read cs (in_key first k)) (append_assoc acc (c ∷ []) key)
+    ∙ ap (λ k. read_statement cs (in_key first k)) (append_assoc acc (c ∷ []) key)
 
 -- behind a key, white space, if any, and `=` are read as that key and what is assigned
 after_key_white : (key ws cs : List ℕ) → is_white_space ws ≡ true →
-    read (ws ++ equals_sign ∷ cs) (after_key key) ≡ Some (key, rest_of cs)
+    read_statement (ws ++ equals_sign ∷ cs) (after_key key) ≡ Some (key, rest_of cs)
 after_key_white key [] cs h = refl
 after_key_white key (w ∷ ws) cs h =
     let t = and_left (is_whitespace w) (list_all is_whitespace ws) h in
-    to_next (goes (after_key key) w) (after_key key) (ws ++ equals_sign ∷ cs)
+    to_next (statement_goes (after_key key) w) (after_key key) (ws ++ equals_sign ∷ cs)
     (if_false _ _ (w == equals_sign) (white_no_equals w t) ∙ if_true _ _ (is_whitespace w) t)
     ∙ after_key_white key ws cs (and_right (is_whitespace w) (list_all is_whitespace ws) h)
 
 -- behind `export`, white space, if any, and `=` make `export` itself the key
 after_export_equals : (ws cs : List ℕ) → is_white_space ws ≡ true →
-    read (ws ++ equals_sign ∷ cs) after_export ≡ Some (export, rest_of cs)
+    read_statement (ws ++ equals_sign ∷ cs) after_export ≡ Some (export, rest_of cs)
 after_export_equals [] cs h = refl
 after_export_equals (w ∷ ws) cs h =
     let t = and_left (is_whitespace w) (list_all is_whitespace ws) h in
-    to_next (goes after_export w) after_export (ws ++ equals_sign ∷ cs)
+    to_next (statement_goes after_export w) after_export (ws ++ equals_sign ∷ cs)
     (if_false _ _ (w == equals_sign) (white_no_equals w t) ∙ if_true _ _ (is_whitespace w) t)
     ∙ after_export_equals ws cs (and_right (is_whitespace w) (list_all is_whitespace ws) h)
 
 -- behind `export`, more white space changes nothing of what is read
-after_export_white : (ws cs : List ℕ) → is_white_space ws ≡ true → read (ws ++ cs) after_export ≡ read cs after_export
+after_export_white : (ws cs : List ℕ) → is_white_space ws ≡ true →
+    read_statement (ws ++ cs) after_export ≡ read_statement cs after_export
 after_export_white [] cs h = refl
 after_export_white (w ∷ ws) cs h =
     let t = and_left (is_whitespace w) (list_all is_whitespace ws) h in
-    to_next (goes after_export w) after_export (ws ++ cs)
+    to_next (statement_goes after_export w) after_export (ws ++ cs)
     (if_false _ _ (w == equals_sign) (white_no_equals w t) ∙ if_true _ _ (is_whitespace w) t)
     ∙ after_export_white ws cs (and_right (is_whitespace w) (list_all is_whitespace ws) h)
 
 -- behind a word and its white space, more white space, if any, and `=` make the word the key
 word_white : (first : Bool) (key : List ℕ) (ws cs : List ℕ) → is_white_space ws ≡ true →
-    read (ws ++ equals_sign ∷ cs) (after_word first key) ≡ Some (key, rest_of cs)
+    read_statement (ws ++ equals_sign ∷ cs) (after_word first key) ≡ Some (key, rest_of cs)
 word_white first key ws cs h = by (first && bytes_eq key export) refl
   where
     same_key : (f e : Bool) → (f && e) ≡ true → e ≡ true
@@ -196,7 +199,7 @@ word_white first key ws cs h = by (first && bytes_eq key export) refl
     same_key false e h = cc
 
     by : (b : Bool) → (first && bytes_eq key export) ≡ b →
-        read (ws ++ equals_sign ∷ cs) (elim b [ true ↦ after_export | false ↦ after_key key ])
+        read_statement (ws ++ equals_sign ∷ cs) (elim b [ true ↦ after_export | false ↦ after_key key ])
         ≡ Some (key, rest_of cs)
     by true e =
         after_export_equals ws cs h
@@ -206,11 +209,11 @@ word_white first key ws cs h = by (first && bytes_eq key export) refl
 
 -- behind a word, white space, if any, and `=` make the word the key, whether it may be a prefix or not
 key_ends : (first : Bool) (key ws cs : List ℕ) → is_white_space ws ≡ true →
-    read (ws ++ equals_sign ∷ cs) (in_key first key) ≡ Some (key, rest_of cs)
+    read_statement (ws ++ equals_sign ∷ cs) (in_key first key) ≡ Some (key, rest_of cs)
 key_ends first key [] cs h = refl
 key_ends first key (w ∷ ws) cs h =
     let t = and_left (is_whitespace w) (list_all is_whitespace ws) h in
-    to_next (goes (in_key first key) w) (after_word first key) (ws ++ equals_sign ∷ cs)
+    to_next (statement_goes (in_key first key) w) (after_word first key) (ws ++ equals_sign ∷ cs)
     (if_false _ _ (continues_key w) (white_no_key w t)
     ∙ if_false _ _ (w == equals_sign) (white_no_equals w t)
     ∙ if_true _ _ (is_whitespace w) t)
@@ -236,7 +239,7 @@ rest_white (w ∷ ws) rest h k =
 
 -- a line that begins with a key, white space, if any, and `=` is read as that key and what is assigned
 first_key : (key before after rest : List ℕ) → is_key key ≡ true → is_white_space before ≡ true →
-    read (key ++ (before ++ equals_sign ∷ (after ++ rest))) start ≡ Some (key, rest_of (after ++ rest))
+    read_statement (key ++ (before ++ equals_sign ∷ (after ++ rest))) start ≡ Some (key, rest_of (after ++ rest))
 first_key [] before after rest h k = cc
 first_key (c ∷ key) before after rest h k =
     start_key c (key ++ (before ++ equals_sign ∷ (after ++ rest)))
@@ -246,12 +249,12 @@ first_key (c ∷ key) before after rest h k =
     ∙ key_ends true (c ∷ key) before (after ++ rest) k
 
 -- behind `export`, a key, white space, if any, and `=` are read as that key and what is assigned
-second_key : (key before after rest : List ℕ) → is_key key ≡ true → is_white_space before ≡ true →
-    read (key ++ (before ++ equals_sign ∷ (after ++ rest))) after_export ≡ Some (key, rest_of (after ++ rest))
-second_key [] before after rest h k = cc
-second_key (c ∷ key) before after rest h k =
+reads_second_key : (key before after rest : List ℕ) → is_key key ≡ true → is_white_space before ≡ true →
+    read_statement (key ++ (before ++ equals_sign ∷ (after ++ rest))) after_export ≡ Some (key, rest_of (after ++ rest))
+reads_second_key [] before after rest h k = cc
+reads_second_key (c ∷ key) before after rest h k =
     let b = and_left (begins_key c) (list_all continues_key key) h in
-    to_next (goes after_export c) (in_key false (c ∷ [])) (key ++ (before ++ equals_sign ∷ (after ++ rest)))
+    to_next (statement_goes after_export c) (in_key false (c ∷ [])) (key ++ (before ++ equals_sign ∷ (after ++ rest)))
     (if_false _ _ (c == equals_sign) (key_no_equals c b)
     ∙ if_false _ _ (is_whitespace c) (begins_key_visible c b)
     ∙ if_true _ _ (begins_key c) b)
@@ -261,10 +264,11 @@ second_key (c ∷ key) before after rest h k =
 
 -- white space ends a first word `export`, and what follows is read as behind `export`
 gap_white : (w : ℕ) (ws cs : List ℕ) → is_white_space (w ∷ ws) ≡ true →
-    read ((w ∷ ws) ++ cs) (in_key true export) ≡ read cs after_export
+    read_statement ((w ∷ ws) ++ cs) (in_key true export) ≡ read_statement cs after_export
 gap_white w ws cs h =
     let t = and_left (is_whitespace w) (list_all is_whitespace ws) h in
-    to_next (goes (in_key true export) w) after_export (ws ++ cs) (if_false _ _ (continues_key w) (white_no_key w t)
+    to_next (statement_goes (in_key true export) w) after_export (ws ++ cs)
+    (if_false _ _ (continues_key w) (white_no_key w t)
     ∙ if_false _ _ (w == equals_sign) (white_no_equals w t)
     ∙ if_true _ _ (is_whitespace w) t)
     ∙ after_export_white ws cs (and_right (is_whitespace w) (list_all is_whitespace ws) h)
@@ -272,22 +276,23 @@ gap_white w ws cs h =
 -- a prefix, or none, a key, white space, if any, and `=` are read as that key and what is assigned
 from_prefix : (prefix key before after rest : List ℕ) → IsPrefix prefix → is_key key ≡ true →
     is_white_space before ≡ true →
-    read (prefix ++ (key ++ (before ++ equals_sign ∷ (after ++ rest)))) start ≡ Some (key, rest_of (after ++ rest))
+    read_statement (prefix ++ (key ++ (before ++ equals_sign ∷ (after ++ rest)))) start
+    ≡ Some (key, rest_of (after ++ rest))
 from_prefix prefix key before after rest (inl none) h k =
-    ap (λ p. read (p ++ (key ++ (before ++ equals_sign ∷ (after ++ rest)))) start) none
+    ap (λ p. read_statement (p ++ (key ++ (before ++ equals_sign ∷ (after ++ rest)))) start) none
     ∙ first_key key before after rest h k
 from_prefix prefix key before after rest (inr (first, gap, is, white)) h k =
     let more = key ++ (before ++ equals_sign ∷ (after ++ rest)) in
-    ap (λ p. read (p ++ more) start) is
-    ∙ ap (λ t. read t start) (append_assoc export (first ∷ gap) more)
+    ap (λ p. read_statement (p ++ more) start) is
+    ∙ ap (λ t. read_statement t start) (append_assoc export (first ∷ gap) more)
     ∙ gap_white first gap more white
-    ∙ second_key key before after rest h k
+    ∙ reads_second_key key before after rest h k
 
 -- a statement is read as its key and what is assigned
-pub read-statement : (line key rest : List ℕ) → IsStatement line key rest → read line start ≡ Some (key, rest)
+pub read-statement : (line key rest : List ℕ) → IsStatement line key rest → read_statement line start ≡ Some (key, rest)
 read-statement line key rest is =
     let w = and_left (is_white_space is.indent && is_white_space is.before) (is_white_space is.after) is.white_space in
-    ap (λ t. read t start) is.spelled
+    ap (λ t. read_statement t start) is.spelled
     ∙ start_white is.indent (is.prefix ++ (key ++ (is.before ++ equals_sign ∷ (is.after ++ rest))))
     (and_left (is_white_space is.indent) (is_white_space is.before) w)
     ∙ from_prefix is.prefix key is.before is.after rest is.is_prefix is.is_key
@@ -323,7 +328,7 @@ pub record IsEquals (text rest : List ℕ) : Type 0 where
   pub spelled : text ≡ before ++ equals_sign ∷ (after ++ rest)
 
 -- a text that is a key and, behind it, `=` with what is assigned
-pub record IsAssigned (text key rest : List ℕ) : Type 0 where
+pub record IsKeyAssigned (text key rest : List ℕ) : Type 0 where
   pub key_is : is_key key ≡ true
   pub tail : List ℕ
   pub equals : IsEquals tail rest
@@ -334,33 +339,33 @@ pub record Exports (text key rest : List ℕ) : Type 0 where
   pub gap : List ℕ
   pub tail : List ℕ
   pub white : is_white_space gap ≡ true
-  pub assigned : IsAssigned tail key rest
+  pub assigned : IsKeyAssigned tail key rest
   pub spelled : text ≡ gap ++ tail
 
 -- the text is a statement, where its first word may be a prefix; else a key with what is assigned
-abbrev pub IsWord : Bool → List ℕ → List ℕ → List ℕ → Type 0
-IsWord true text key rest = IsStatement text key rest
-IsWord false text key rest = IsAssigned text key rest
+abbrev pub IsModeWord : Bool → List ℕ → List ℕ → List ℕ → Type 0
+IsModeWord true text key rest = IsStatement text key rest
+IsModeWord false text key rest = IsKeyAssigned text key rest
 
 -- a reading of the text from this mode is right: the text splits into its key and rest, if it has any
-abbrev pub IsRead : Mode → List ℕ → Reading → Type 0
-IsRead m text None = Unit {0}
-IsRead start text (Some (key, rest)) = IsStatement text key rest
-IsRead (in_key first acc) text (Some (key, rest)) = IsWord first (acc ++ text) key rest
-IsRead (after_key acc) text (Some (key, rest)) = (key ≡ acc) × IsEquals text rest
-IsRead after_export text (Some (key, rest)) = Exports text key rest ⊎ ((key ≡ export) × IsEquals text rest)
-IsRead (assigned acc) text (Some (key, rest)) = (key ≡ acc) × IsRest text rest
+abbrev pub IsStatementRead : StatementMode → List ℕ → StatementReading → Type 0
+IsStatementRead m text None = Unit {0}
+IsStatementRead start text (Some (key, rest)) = IsStatement text key rest
+IsStatementRead (in_key first acc) text (Some (key, rest)) = IsModeWord first (acc ++ text) key rest
+IsStatementRead (after_key acc) text (Some (key, rest)) = (key ≡ acc) × IsEquals text rest
+IsStatementRead after_export text (Some (key, rest)) = Exports text key rest ⊎ ((key ≡ export) × IsEquals text rest)
+IsStatementRead (assigned acc) text (Some (key, rest)) = (key ≡ acc) × IsRest text rest
 
 -- the word that the mode holds is a key
-abbrev pub IsMode : Mode → Type 0
-IsMode start = Unit {0}
-IsMode (in_key first acc) = is_key acc ≡ true
-IsMode (after_key acc) = is_key acc ≡ true
-IsMode after_export = Unit {0}
-IsMode (assigned acc) = is_key acc ≡ true
+abbrev pub IsStatementMode : StatementMode → Type 0
+IsStatementMode start = Unit {0}
+IsStatementMode (in_key first acc) = is_key acc ≡ true
+IsStatementMode (after_key acc) = is_key acc ≡ true
+IsStatementMode after_export = Unit {0}
+IsStatementMode (assigned acc) = is_key acc ≡ true
 
 -- a key with what is assigned is a statement without indent and prefix
-statement_from : (text key rest : List ℕ) → IsAssigned text key rest → IsStatement text key rest
+statement_from : (text key rest : List ℕ) → IsKeyAssigned text key rest → IsStatement text key rest
 statement_from text key rest a = let e = a.equals in record {
   indent = [];
   prefix = [];
@@ -375,7 +380,7 @@ statement_from text key rest a = let e = a.equals in record {
 
 -- a word that is a key, with `=` and what is assigned behind it, assigns to that key
 word_from : (first : Bool) (acc text rest : List ℕ) → is_key acc ≡ true → IsEquals text rest →
-    IsWord first (acc ++ text) acc rest
+    IsModeWord first (acc ++ text) acc rest
 word_from true acc text rest h e =
     statement_from (acc ++ text) acc rest (record { key_is = h; tail = text; equals = e; spelled = refl })
 word_from false acc text rest h e = record { key_is = h; tail = text; equals = e; spelled = refl }
@@ -425,7 +430,8 @@ front_true true b c d h k = k
 front_true false b c d h k = cc
 
 -- a right reading from the start stays right with one white space more before the text
-indented : (w : ℕ) (cs : List ℕ) (r : Reading) → is_whitespace w ≡ true → IsRead start cs r → IsRead start (w ∷ cs) r
+indented : (w : ℕ) (cs : List ℕ) (r : StatementReading) → is_whitespace w ≡ true → IsStatementRead start cs r →
+    IsStatementRead start (w ∷ cs) r
 indented w cs None h is = tt
 indented w cs (Some (key, rest)) h is = record {
   indent = w ∷ is.indent;
@@ -442,44 +448,48 @@ indented w cs (Some (key, rest)) h is = record {
 }
 
 -- a right reading behind the first character of a first word is right from the start, before the character
-key_from_start : (c : ℕ) (cs : List ℕ) (r : Reading) → IsRead (in_key true (c ∷ [])) cs r → IsRead start (c ∷ cs) r
+key_from_start : (c : ℕ) (cs : List ℕ) (r : StatementReading) → IsStatementRead (in_key true (c ∷ [])) cs r →
+    IsStatementRead start (c ∷ cs) r
 key_from_start c cs None is = tt
 key_from_start c cs (Some (key, rest)) is = is
 
 -- a right reading within a word is right before the word's last character too
-key_longer : (first : Bool) (acc : List ℕ) (c : ℕ) (cs : List ℕ) (r : Reading) →
-    IsRead (in_key first (acc ++ c ∷ [])) cs r → IsRead (in_key first acc) (c ∷ cs) r
+key_longer : (first : Bool) (acc : List ℕ) (c : ℕ) (cs : List ℕ) (r : StatementReading) →
+    IsStatementRead (in_key first (acc ++ c ∷ [])) cs r → IsStatementRead (in_key first acc) (c ∷ cs) r
 key_longer first acc c cs None is = tt
-key_longer first acc c cs (Some (key, rest)) is = subst (λ t. IsWord first t key rest) (append_assoc acc (c ∷ []) cs) is
+key_longer first acc c cs (Some (key, rest)) is =
+    subst (λ t. IsModeWord first t key rest) (append_assoc acc (c ∷ []) cs) is
 
 -- a right reading behind `=` is right before it, at the end of a word that is a key
-key_equals : (first : Bool) (acc : List ℕ) (cs : List ℕ) (r : Reading) → is_key acc ≡ true →
-    IsRead (assigned acc) cs r → IsRead (in_key first acc) (equals_sign ∷ cs) r
+key_equals : (first : Bool) (acc : List ℕ) (cs : List ℕ) (r : StatementReading) → is_key acc ≡ true →
+    IsStatementRead (assigned acc) cs r → IsStatementRead (in_key first acc) (equals_sign ∷ cs) r
 key_equals first acc cs None h is = tt
 key_equals first acc cs (Some (key, rest)) h is =
-    subst (λ k. IsWord first (acc ++ equals_sign ∷ cs) k rest) (sym is.0)
+    subst (λ k. IsModeWord first (acc ++ equals_sign ∷ cs) k rest) (sym is.0)
     (word_from first acc (equals_sign ∷ cs) rest h (equals_from cs rest is.1))
 
 -- a right reading behind `=` is right before it, behind a key and white space
-after_equals : (acc : List ℕ) (cs : List ℕ) (r : Reading) → IsRead (assigned acc) cs r →
-    IsRead (after_key acc) (equals_sign ∷ cs) r
-after_equals acc cs None is = tt
-after_equals acc cs (Some (key, rest)) is = (is.0, equals_from cs rest is.1)
+behind_equals : (acc : List ℕ) (cs : List ℕ) (r : StatementReading) → IsStatementRead (assigned acc) cs r →
+    IsStatementRead (after_key acc) (equals_sign ∷ cs) r
+behind_equals acc cs None is = tt
+behind_equals acc cs (Some (key, rest)) is = (is.0, equals_from cs rest is.1)
 
 -- a right reading behind a key stays right with one white space more before the text
-after_white : (acc : List ℕ) (w : ℕ) (cs : List ℕ) (r : Reading) → is_whitespace w ≡ true →
-    IsRead (after_key acc) cs r → IsRead (after_key acc) (w ∷ cs) r
+after_white : (acc : List ℕ) (w : ℕ) (cs : List ℕ) (r : StatementReading) → is_whitespace w ≡ true →
+    IsStatementRead (after_key acc) cs r → IsStatementRead (after_key acc) (w ∷ cs) r
 after_white acc w cs None h is = tt
 after_white acc w cs (Some (key, rest)) h is = (is.0, equals_white w cs rest h is.1)
 
 -- a right reading behind `=` for the key `export` is right before it, behind `export` and white space
-export_equals : (cs : List ℕ) (r : Reading) → IsRead (assigned export) cs r → IsRead after_export (equals_sign ∷ cs) r
+export_equals : (cs : List ℕ) (r : StatementReading) → IsStatementRead (assigned export) cs r →
+    IsStatementRead after_export (equals_sign ∷ cs) r
 export_equals cs None is = tt
 export_equals cs (Some (key, rest)) is = inr (is.0, equals_from cs rest is.1)
 
 -- a right reading behind `export` stays right with one white space more before the text
-export_white : (w : ℕ) (cs : List ℕ) (r : Reading) → is_whitespace w ≡ true → IsRead after_export cs r →
-    IsRead after_export (w ∷ cs) r
+export_white : (w : ℕ) (cs : List ℕ) (r : StatementReading) → is_whitespace w ≡ true →
+    IsStatementRead after_export cs r →
+    IsStatementRead after_export (w ∷ cs) r
 export_white w cs None h is = tt
 export_white w cs (Some (key, rest)) h (inl e) =
     inl (record {
@@ -492,14 +502,16 @@ export_white w cs (Some (key, rest)) h (inl e) =
 export_white w cs (Some (key, rest)) h (inr e) = inr (e.0, equals_white w cs rest h e.1)
 
 -- a right reading behind the first character of a second word is right behind `export`, before the character
-export_key : (c : ℕ) (cs : List ℕ) (r : Reading) → IsRead (in_key false (c ∷ [])) cs r → IsRead after_export (c ∷ cs) r
+export_key : (c : ℕ) (cs : List ℕ) (r : StatementReading) → IsStatementRead (in_key false (c ∷ [])) cs r →
+    IsStatementRead after_export (c ∷ cs) r
 export_key c cs None is = tt
 export_key c cs (Some (key, rest)) is =
     inl (record { gap = []; tail = c ∷ cs; white = refl; assigned = is; spelled = refl })
 
 -- where the first word is `export`, a right reading behind white space is right at the word's end
-export_word : (w : ℕ) (cs : List ℕ) (r : Reading) → is_whitespace w ≡ true → IsRead after_export cs r →
-    IsRead (in_key true export) (w ∷ cs) r
+export_word : (w : ℕ) (cs : List ℕ) (r : StatementReading) → is_whitespace w ≡ true →
+    IsStatementRead after_export cs r →
+    IsStatementRead (in_key true export) (w ∷ cs) r
 export_word w cs None white is = tt
 export_word w cs (Some (key, rest)) white (inl e) = let a = e.assigned in let q = a.equals in record {
   indent = [];
@@ -517,24 +529,24 @@ export_word w cs (Some (key, rest)) white (inr e) =
     (word_from true export (w ∷ cs) rest refl (equals_white w cs rest white e.1))
 
 -- where a word may be a prefix and is `export`, a right reading behind white space is right at its end
-word_gap : (first : Bool) (acc : List ℕ) (w : ℕ) (cs : List ℕ) (r : Reading) → is_key acc ≡ true →
-    is_whitespace w ≡ true → (first ≡ true) → (acc ≡ export) → IsRead after_export cs r →
-    IsRead (in_key first acc) (w ∷ cs) r
+word_gap : (first : Bool) (acc : List ℕ) (w : ℕ) (cs : List ℕ) (r : StatementReading) → is_key acc ≡ true →
+    is_whitespace w ≡ true → (first ≡ true) → (acc ≡ export) → IsStatementRead after_export cs r →
+    IsStatementRead (in_key first acc) (w ∷ cs) r
 word_gap false acc w cs r h white f e is = cc
 word_gap true acc w cs r h white f e is =
-    subst (λ a. IsRead (in_key true a) (w ∷ cs) r) (sym e) (export_word w cs r white is)
+    subst (λ a. IsStatementRead (in_key true a) (w ∷ cs) r) (sym e) (export_word w cs r white is)
 
 -- where a word is a key, a right reading behind it and white space is right at its end
-word_after : (first : Bool) (acc : List ℕ) (w : ℕ) (cs : List ℕ) (r : Reading) → is_key acc ≡ true →
-    is_whitespace w ≡ true → IsRead (after_key acc) cs r → IsRead (in_key first acc) (w ∷ cs) r
+word_after : (first : Bool) (acc : List ℕ) (w : ℕ) (cs : List ℕ) (r : StatementReading) → is_key acc ≡ true →
+    is_whitespace w ≡ true → IsStatementRead (after_key acc) cs r → IsStatementRead (in_key first acc) (w ∷ cs) r
 word_after first acc w cs None h white is = tt
 word_after first acc w cs (Some (key, rest)) h white is =
-    subst (λ k. IsWord first (acc ++ w ∷ cs) k rest) (sym is.0)
+    subst (λ k. IsModeWord first (acc ++ w ∷ cs) k rest) (sym is.0)
     (word_from first acc (w ∷ cs) rest h (equals_white w cs rest white is.1))
 
 -- from each mode whose word is a key, what is read of this text is right
-abbrev Later : List ℕ → Type 0
-Later cs = (m : Mode) → IsMode m → IsRead m cs (read cs m)
+abbrev StatementLater : List ℕ → Type 0
+StatementLater cs = (m : StatementMode) → IsStatementMode m → IsStatementRead m cs (read_statement cs m)
 
 -- a key with one more character of a key behind it is a key
 is_key_more : (acc : List ℕ) (c : ℕ) → is_key acc ≡ true → continues_key c ≡ true → is_key (acc ++ c ∷ []) ≡ true
@@ -557,31 +569,32 @@ and_both true b h = (refl, h)
 and_both false b h = cc
 
 -- at the start, what is read of one character more is right, where what is read behind it is
-start_step : (c : ℕ) (cs : List ℕ) (w b : Bool) → is_whitespace c ≡ w → begins_key c ≡ b → Later cs →
-    IsRead start (c ∷ cs) (next_of
+start_step : (c : ℕ) (cs : List ℕ) (w b : Bool) → is_whitespace c ≡ w → begins_key c ≡ b → StatementLater cs →
+    IsStatementRead start (c ∷ cs) (read_on
     (elim w [ true ↦ Some start | false ↦ elim b [ true ↦ Some (in_key true (c ∷ [])) | false ↦ None ] ])
-    (λ m. read cs m))
-start_step c cs true b hw hb later = indented c cs (read cs start) hw (later start tt)
+    (λ m. read_statement cs m))
+start_step c cs true b hw hb later = indented c cs (read_statement cs start) hw (later start tt)
 start_step c cs false true hw hb later =
-    key_from_start c cs (read cs (in_key true (c ∷ [])))
+    key_from_start c cs (read_statement cs (in_key true (c ∷ [])))
     (later (in_key true (c ∷ [])) (both (begins_key c) true hb refl))
 start_step c cs false false hw hb later = tt
 
 -- at white space behind a word, what is read is right, where what is read behind it is
 word_step : (first : Bool) (acc : List ℕ) (c : ℕ) (cs : List ℕ) (b : Bool) → (first && bytes_eq acc export) ≡ b →
-    is_whitespace c ≡ true → is_key acc ≡ true → Later cs →
-    IsRead (in_key first acc) (c ∷ cs) (read cs (elim b [ true ↦ after_export | false ↦ after_key acc ]))
+    is_whitespace c ≡ true → is_key acc ≡ true → StatementLater cs →
+    IsStatementRead (in_key first acc) (c ∷ cs)
+    (read_statement cs (elim b [ true ↦ after_export | false ↦ after_key acc ]))
 word_step first acc c cs true e hw ok later =
     let t = and_both first (bytes_eq acc export) e in
-    word_gap first acc c cs (read cs after_export) ok hw t.0 (same_text acc export (sym t.1))
+    word_gap first acc c cs (read_statement cs after_export) ok hw t.0 (same_text acc export (sym t.1))
     (later after_export tt)
 word_step first acc c cs false e hw ok later =
-    word_after first acc c cs (read cs (after_key acc)) ok hw (later (after_key acc) ok)
+    word_after first acc c cs (read_statement cs (after_key acc)) ok hw (later (after_key acc) ok)
 
 -- within a word, what is read of one character more is right, where what is read behind it is
 key_step : (first : Bool) (acc : List ℕ) (c : ℕ) (cs : List ℕ) (k e w : Bool) → continues_key c ≡ k →
-    (c == equals_sign) ≡ e → is_whitespace c ≡ w → is_key acc ≡ true → Later cs →
-    IsRead (in_key first acc) (c ∷ cs) (next_of
+    (c == equals_sign) ≡ e → is_whitespace c ≡ w → is_key acc ≡ true → StatementLater cs →
+    IsStatementRead (in_key first acc) (c ∷ cs) (read_on
     (elim k [
       | true ↦ Some (in_key first (acc ++ c ∷ []))
       | false ↦
@@ -589,32 +602,33 @@ key_step : (first : Bool) (acc : List ℕ) (c : ℕ) (cs : List ℕ) (k e w : Bo
             | true ↦ Some (assigned acc)
             | false ↦ elim w [ true ↦ Some (after_word first acc) | false ↦ None ]
           ]
-    ]) (λ m. read cs m))
+    ]) (λ m. read_statement cs m))
 key_step first acc c cs true e w hk he hw ok later =
-    key_longer first acc c cs (read cs (in_key first (acc ++ c ∷ [])))
+    key_longer first acc c cs (read_statement cs (in_key first (acc ++ c ∷ [])))
     (later (in_key first (acc ++ c ∷ [])) (is_key_more acc c ok hk))
 key_step first acc c cs false true w hk he hw ok later =
-    rw (same_from c equals_sign he) (key_equals first acc cs (read cs (assigned acc)) ok (later (assigned acc) ok))
+    rw (same_from c equals_sign he)
+    (key_equals first acc cs (read_statement cs (assigned acc)) ok (later (assigned acc) ok))
 key_step first acc c cs false false true hk he hw ok later =
     word_step first acc c cs (first && bytes_eq acc export) refl hw ok later
 key_step first acc c cs false false false hk he hw ok later = tt
 
 -- behind a key, what is read of one character more is right, where what is read behind it is
 after_step : (acc : List ℕ) (c : ℕ) (cs : List ℕ) (e w : Bool) → (c == equals_sign) ≡ e → is_whitespace c ≡ w →
-    is_key acc ≡ true → Later cs →
-    IsRead (after_key acc) (c ∷ cs) (next_of
+    is_key acc ≡ true → StatementLater cs →
+    IsStatementRead (after_key acc) (c ∷ cs) (read_on
     (elim e [ true ↦ Some (assigned acc) | false ↦ elim w [ true ↦ Some (after_key acc) | false ↦ None ] ])
-    (λ m. read cs m))
+    (λ m. read_statement cs m))
 after_step acc c cs true w he hw ok later =
-    rw (same_from c equals_sign he) (after_equals acc cs (read cs (assigned acc)) (later (assigned acc) ok))
+    rw (same_from c equals_sign he) (behind_equals acc cs (read_statement cs (assigned acc)) (later (assigned acc) ok))
 after_step acc c cs false true he hw ok later =
-    after_white acc c cs (read cs (after_key acc)) hw (later (after_key acc) ok)
+    after_white acc c cs (read_statement cs (after_key acc)) hw (later (after_key acc) ok)
 after_step acc c cs false false he hw ok later = tt
 
 -- behind `export`, what is read of one character more is right, where what is read behind it is
 export_step : (c : ℕ) (cs : List ℕ) (e w b : Bool) → (c == equals_sign) ≡ e → is_whitespace c ≡ w →
-    begins_key c ≡ b → Later cs →
-    IsRead after_export (c ∷ cs) (next_of
+    begins_key c ≡ b → StatementLater cs →
+    IsStatementRead after_export (c ∷ cs) (read_on
     (elim e [
       | true ↦ Some (assigned export)
       | false ↦
@@ -622,17 +636,19 @@ export_step : (c : ℕ) (cs : List ℕ) (e w b : Bool) → (c == equals_sign) �
             | true ↦ Some after_export
             | false ↦ elim b [ true ↦ Some (in_key false (c ∷ [])) | false ↦ None ]
           ]
-    ]) (λ m. read cs m))
+    ]) (λ m. read_statement cs m))
 export_step c cs true w b he hw hb later =
-    rw (same_from c equals_sign he) (export_equals cs (read cs (assigned export)) (later (assigned export) refl))
-export_step c cs false true b he hw hb later = export_white c cs (read cs after_export) hw (later after_export tt)
+    rw (same_from c equals_sign he)
+    (export_equals cs (read_statement cs (assigned export)) (later (assigned export) refl))
+export_step c cs false true b he hw hb later =
+    export_white c cs (read_statement cs after_export) hw (later after_export tt)
 export_step c cs false false true he hw hb later =
-    export_key c cs (read cs (in_key false (c ∷ [])))
+    export_key c cs (read_statement cs (in_key false (c ∷ [])))
     (later (in_key false (c ∷ [])) (both (begins_key c) true hb refl))
 export_step c cs false false false he hw hb later = tt
 
 -- each reading of a text from a mode whose word is a key is right
-read-is : (text : List ℕ) (m : Mode) → IsMode m → IsRead m text (read text m)
+read-is : (text : List ℕ) (m : StatementMode) → IsStatementMode m → IsStatementRead m text (read_statement text m)
 read-is text (assigned key) ok = (refl, rest_is text)
 read-is [] start ok = tt
 read-is [] (in_key first acc) ok = tt
@@ -648,5 +664,5 @@ read-is (c ∷ cs) after_export ok =
     export_step c cs (c == equals_sign) (is_whitespace c) (begins_key c) refl refl refl (λ m ok. read-is cs m ok)
 
 -- a line that is read as a key and a rest is a statement that assigns the rest to the key
-pub statement-read : (line key rest : List ℕ) → read line start ≡ Some (key, rest) → IsStatement line key rest
-statement-read line key rest h = subst (IsRead start line) h (read-is line start tt)
+pub statement-read : (line key rest : List ℕ) → read_statement line start ≡ Some (key, rest) → IsStatement line key rest
+statement-read line key rest h = subst (IsStatementRead start line) h (read-is line start tt)

@@ -56,7 +56,7 @@ use Rattle.dotenv_format.proofs.NameCharacters.{space_no_name}
 use Rattle.dotenv_format.specs.Places.{BeginsValue, IsPlace}
 use Rattle.dotenv_format.proofs.Values.{given-given, read-value, value-read, read_bare_end}
 use Rattle.dotenv_format.specs.ReadValue.{
-  Mode,
+  ValueMode,
   base,
   escaping,
   in_single,
@@ -64,33 +64,34 @@ use Rattle.dotenv_format.specs.ReadValue.{
   bracing,
   in_tail,
   in_comment,
-  Reading,
+  ValueReading,
   given,
   is_brace_first,
   from_base,
-  from,
-  read,
+  value_from,
+  read_value,
 }
-use Rattle.dotenv_format.specs.ReadValue.{goes_base, with_pieces, goes, place_after, place}
+use Rattle.dotenv_format.specs.ReadValue.{goes_base, with_pieces, value_goes, value_reach_after, value_reach}
 
 -- what is read on from where a step leads, behind the pieces of the step; none where it leads nowhere
-abbrev pub after : Option (Mode × List Piece) → (Mode → Reading) → Reading
+abbrev pub after : Option (ValueMode × List Piece) → (ValueMode → ValueReading) → ValueReading
 after None next = None
 after (Some (m, pieces)) next = given pieces (next m)
 
 -- no pieces before those that are read change nothing
-pub given-nil : (r : Reading) → r ≡ given [] r
+pub given-nil : (r : ValueReading) → r ≡ given [] r
 given-nil None = refl
 given-nil (Some ps) = refl
 
 -- a test decides alike on both sides
-either : (b : Bool) (x y : Reading) (u v : Option (Mode × List Piece)) (next : Mode → Reading) → x ≡ after u next →
+either : (b : Bool) (x y : ValueReading) (u v : Option (ValueMode × List Piece)) (next : ValueMode → ValueReading) →
+    x ≡ after u next →
     y ≡ after v next → elim b [ true ↦ x | false ↦ y ] ≡ after (elim b [ true ↦ u | false ↦ v ]) next
 either true x y u v next h k = h
 either false x y u v next h k = k
 
 -- where a part may begin, reading a character is taking its step and reading on from there
-base-goes : (q : Quoting) (c : ℕ) (next : Mode → Reading) → from_base q c next ≡ after (goes_base q c) next
+base-goes : (q : Quoting) (c : ℕ) (next : ValueMode → ValueReading) → from_base q c next ≡ after (goes_base q c) next
 base-goes unquoted c next =
     either (c == backslash) _ _ _ _ next (given-nil (next (escaping unquoted))) (either (c == single_quote) _ _ _ _
     next (given-nil (next (in_single []))) (either (c == double_quote) _ _ _ _ next
@@ -103,14 +104,14 @@ base-goes double_quoted c next =
     (either (c == dollar) _ _ _ _ next (given-nil (next (naming double_quoted []))) refl))
 
 -- pieces before what is read from a step on are pieces before those of the step
-given-after : (ps : List Piece) (g : Option (Mode × List Piece)) (next : Mode → Reading) →
+given-after : (ps : List Piece) (g : Option (ValueMode × List Piece)) (next : ValueMode → ValueReading) →
     given ps (after g next) ≡ after (with_pieces ps g) next
 given-after ps None next = refl
 given-after ps (Some (m, qs)) next = given-given ps qs (next m)
 
 -- in each mode, reading a character is taking its step and reading on from there
-pub from-goes : (dialect : Dialect) (m : Mode) (c : ℕ) (next : Mode → Reading) →
-    from dialect m c next ≡ after (goes dialect m c) next
+pub from-goes : (dialect : Dialect) (m : ValueMode) (c : ℕ) (next : ValueMode → ValueReading) →
+    value_from dialect m c next ≡ after (value_goes dialect m c) next
 from-goes dialect (base q) c next = base-goes q c next
 from-goes dialect (escaping q) c next = either (is_escape c) _ _ _ _ next refl refl
 from-goes dialect (in_single inner) c next =
@@ -128,8 +129,8 @@ from-goes dialect in_tail c next =
 from-goes dialect in_comment c next = given-nil (next in_comment)
 
 -- read from this mode, the text can be completed to one that gives pieces
-abbrev Completes : (dialect : Dialect) → List ℕ → Mode → Type 0
-Completes dialect text m = (more : List ℕ) × (pieces : List Piece) × (read dialect (text ++ more) m ≡ Some pieces)
+abbrev Completes : (dialect : Dialect) → List ℕ → ValueMode → Type 0
+Completes dialect text m = (more : List ℕ) × (pieces : List Piece) × (read_value dialect (text ++ more) m ≡ Some pieces)
 
 -- a bare name leaves no space to what follows
 space_not_left : (dialect : Dialect) (q : Quoting) → is_left_by_name dialect q 32 ≡ false
@@ -143,7 +144,7 @@ space_ends dialect q [] = rw (space_no_name dialect, space_not_left dialect q) r
 space_ends dialect q (c ∷ name) = rw (space_no_name dialect, space_not_left dialect q) refl
 
 -- from each mode the empty text can be completed
-completes : (dialect : Dialect) (m : Mode) → Completes dialect [] m
+completes : (dialect : Dialect) (m : ValueMode) → Completes dialect [] m
 completes dialect (base unquoted) = ([], [], refl)
 completes dialect (base double_quoted) = (double_quote ∷ [], [], refl)
 completes dialect (escaping unquoted) = ([], [], refl)
@@ -161,70 +162,71 @@ completes dialect in_tail = ([], [], refl)
 completes dialect in_comment = ([], [], refl)
 
 -- the first n characters can be completed, and no more
-record Placed (dialect : Dialect) (text : List ℕ) (m : Mode) (n : ℕ) : Type 0 where
+record Placed (dialect : Dialect) (text : List ℕ) (m : ValueMode) (n : ℕ) : Type 0 where
   within : n ≤ length text
   completed : Completes dialect (take n text) m
   longest : n < length text → ¬ (Completes dialect (take (suc n) text) m)
 
 -- what can be completed from where a character leads can be completed with that character before it
-goes_on : (dialect : Dialect) (m : Mode) (c : ℕ) (cs : List ℕ) (n : Mode) (ps : List Piece) →
-    goes dialect m c ≡ Some (n, ps) → Completes dialect cs n → Completes dialect (c ∷ cs) m
+goes_on : (dialect : Dialect) (m : ValueMode) (c : ℕ) (cs : List ℕ) (n : ValueMode) (ps : List Piece) →
+    value_goes dialect m c ≡ Some (n, ps) → Completes dialect cs n → Completes dialect (c ∷ cs) m
 goes_on dialect m c cs n ps g (more, qs, h) = (
   more,
   ps ++ qs,
-  from-goes dialect m c (λ k. read dialect (cs ++ more) k)
-      ∙ ap (λ o. after o (λ k. read dialect (cs ++ more) k)) g
+  from-goes dialect m c (λ k. read_value dialect (cs ++ more) k)
+      ∙ ap (λ o. after o (λ k. read_value dialect (cs ++ more) k)) g
       ∙ ap (given ps) h,
 )
 
 -- where something is read with pieces before it, something is read without them
-given_some : (ps qs : List Piece) (r : Reading) → given ps r ≡ Some qs → (rs : List Piece) × (r ≡ Some rs)
+given_some : (ps qs : List Piece) (r : ValueReading) → given ps r ≡ Some qs → (rs : List Piece) × (r ≡ Some rs)
 given_some ps qs None h = cc
 given_some ps qs (Some rs) h = (rs, refl)
 
 -- what can be completed with a character before it can be completed from where that character leads
-goes_back : (dialect : Dialect) (m : Mode) (c : ℕ) (cs : List ℕ) (n : Mode) (ps : List Piece) →
-    goes dialect m c ≡ Some (n, ps) → Completes dialect (c ∷ cs) m → Completes dialect cs n
+goes_back : (dialect : Dialect) (m : ValueMode) (c : ℕ) (cs : List ℕ) (n : ValueMode) (ps : List Piece) →
+    value_goes dialect m c ≡ Some (n, ps) → Completes dialect (c ∷ cs) m → Completes dialect cs n
 goes_back dialect m c cs n ps g (more, qs, h) =
     let r =
-    given_some ps qs (read dialect (cs ++ more) n) (sym (ap (λ o. after o (λ k. read dialect (cs ++ more) k)) g)
-    ∙ sym (from-goes dialect m c (λ k. read dialect (cs ++ more) k))
+    given_some ps qs (read_value dialect (cs ++ more) n)
+    (sym (ap (λ o. after o (λ k. read_value dialect (cs ++ more) k)) g)
+    ∙ sym (from-goes dialect m c (λ k. read_value dialect (cs ++ more) k))
     ∙ h) in
     (more, r.0, r.1)
 
 -- a text whose first character leads nowhere can't be completed
-goes_nowhere : (dialect : Dialect) (m : Mode) (c : ℕ) (cs : List ℕ) → goes dialect m c ≡ None →
+goes_nowhere : (dialect : Dialect) (m : ValueMode) (c : ℕ) (cs : List ℕ) → value_goes dialect m c ≡ None →
     ¬ (Completes dialect (c ∷ cs) m)
 goes_nowhere dialect m c cs g (more, qs, h) =
     let e : None ≡ Some qs =
-    sym (ap (λ o. after o (λ k. read dialect (cs ++ more) k)) g)
-    ∙ sym (from-goes dialect m c (λ k. read dialect (cs ++ more) k))
+    sym (ap (λ o. after o (λ k. read_value dialect (cs ++ more) k)) g)
+    ∙ sym (from-goes dialect m c (λ k. read_value dialect (cs ++ more) k))
     ∙ h in
     cc
 
 -- the place in a text is one more than in what follows its first character, or 0 if that leads nowhere
-placed_step : (dialect : Dialect) (c : ℕ) (cs : List ℕ) (m : Mode) (g : Option (Mode × List Piece)) →
-    goes dialect m c ≡ g → ((n : Mode) → Placed dialect cs n (place dialect cs n)) →
-    Placed dialect (c ∷ cs) m (place_after g (λ n. place dialect cs n))
+placed_step : (dialect : Dialect) (c : ℕ) (cs : List ℕ) (m : ValueMode) (g : Option (ValueMode × List Piece)) →
+    value_goes dialect m c ≡ g → ((n : ValueMode) → Placed dialect cs n (value_reach dialect cs n)) →
+    Placed dialect (c ∷ cs) m (value_reach_after g (λ n. value_reach dialect cs n))
 placed_step dialect c cs m None h later =
     record { within = omega arith; completed = completes dialect m; longest = λ _. goes_nowhere dialect m c [] h }
 placed_step dialect c cs m (Some (n, ps)) h later = let p = later n in record {
   within = let w = p.within in omega arith;
-  completed = goes_on dialect m c (take (place dialect cs n) cs) n ps h p.completed;
+  completed = goes_on dialect m c (take (value_reach dialect cs n) cs) n ps h p.completed;
   longest =
       λ below done.
-      p.longest (omega (arith, below)) (goes_back dialect m c (take (suc (place dialect cs n)) cs) n ps h done);
+      p.longest (omega (arith, below)) (goes_back dialect m c (take (suc (value_reach dialect cs n)) cs) n ps h done);
 }
 
 -- from each mode, the place that is computed is the length of the longest front that can be completed
-placed : (dialect : Dialect) (text : List ℕ) (m : Mode) → Placed dialect text m (place dialect text m)
+placed : (dialect : Dialect) (text : List ℕ) (m : ValueMode) → Placed dialect text m (value_reach dialect text m)
 placed dialect [] m =
     record {
       within = omega arith;
       completed = completes dialect m;
       longest = λ below. absurd (omega (arith, below));
     }
-placed dialect (c ∷ cs) m = placed_step dialect c cs m (goes dialect m c) refl (λ n. placed dialect cs n)
+placed dialect (c ∷ cs) m = placed_step dialect c cs m (value_goes dialect m c) refl (λ n. placed dialect cs n)
 
 -- what can be completed, read from where a value begins, is the front of a value
 to_begins : (dialect : Dialect) (text : List ℕ) → Completes dialect text (base unquoted) → BeginsValue dialect text
@@ -236,15 +238,15 @@ from_begins dialect text (more, ps, h) = (more, ps, read-value dialect (text ++ 
 
 -- the place that is computed of a text is that of its longest front that begins a value
 pub value_place : (dialect : Dialect) (text : List ℕ) →
-    IsPlace (BeginsValue dialect) text (place dialect text (base unquoted))
+    IsPlace (BeginsValue dialect) text (value_reach dialect text (base unquoted))
 value_place dialect text =
     let p = placed dialect text (base unquoted) in
     record {
       within = p.within;
-      completed = to_begins dialect (take (place dialect text (base unquoted)) text) p.completed;
+      completed = to_begins dialect (take (value_reach dialect text (base unquoted)) text) p.completed;
       longest =
           λ below begins.
-          p.longest below (from_begins dialect (take (suc (place dialect text (base unquoted))) text) begins);
+          p.longest below (from_begins dialect (take (suc (value_reach dialect text (base unquoted))) text) begins);
     }
 
 -- where a text begins what is to come, so does each front of it

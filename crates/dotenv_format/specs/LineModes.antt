@@ -22,8 +22,8 @@ leads (InsideEscaping quote) c = Some (Inside quote)
 leads AfterBlank c = if c == hash then None else (if stands_for_itself c then leads_outside c else Some Outside)
 
 -- the text that a line keeps, of what stands before the character that ends it
-abbrev pub kept : ℕ → List ℕ → List ℕ
-kept c seen = if c == line_feed then without_carriage_return seen else seen
+abbrev pub kept_before : ℕ → List ℕ → List ℕ
+kept_before c seen = if c == line_feed then without_carriage_return seen else seen
 
 -- how far a physical line leads: to a mode, or to an end with the text that is kept
 pub data Walk : Type 0 where
@@ -31,7 +31,7 @@ pub data Walk : Type 0 where
   ended : List ℕ → Walk
 
 abbrev pub walked : Option LineMode → ℕ → List ℕ → (LineMode → Walk) → Walk
-walked None c seen next = ended (kept c seen)
+walked None c seen next = ended (kept_before c seen)
 walked (Some m) c seen next = next m
 
 -- one physical line, after the text `seen`
@@ -42,7 +42,7 @@ walk m seen (c ∷ cs) = walked (leads m c) c seen (λ n. walk n (seen ++ c ∷ 
 -- a walk over the characters of a text's bytes
 abbrev pub WalksText : LineMode → List ℕ → Walked → Type 0
 WalksText m text (Going n) = (seen : List ℕ) → walk m seen (chars text) ≡ going n
-WalksText m text (EndedAt at c) = (at ≤ length text) × IsCharBoundary text at × ((seen : List ℕ) → walk m seen (chars text) ≡ ended (kept c (seen ++ chars (take at text))))
+WalksText m text (EndedAt at c) = (at ≤ length text) × IsCharBoundary text at × ((seen : List ℕ) → walk m seen (chars text) ≡ ended (kept_before c (seen ++ chars (take at text))))
 
 -- the characters at the front of a text leave the mode as it is, and the rest follows them
 pub record PassesRun (m : LineMode) (text rest : List ℕ) : Type 0 where

@@ -103,8 +103,8 @@ IsNext lines k Broken =
     × ((j : ℕ) (kept : List ℕ) → j < k → ¬ (IsText lines j kept))
 
 -- an open end
-abbrev pub IsOpen : Logical → Type 0
-IsOpen Skip = ⊥
-IsOpen (Text kept) = ⊥
-IsOpen (Open text n) = Unit {0}
-IsOpen Broken = ⊥
+abbrev pub IsOpenEnd : Logical → Type 0
+IsOpenEnd Skip = ⊥
+IsOpenEnd (Text kept) = ⊥
+IsOpenEnd (Open text n) = Unit {0}
+IsOpenEnd Broken = ⊥

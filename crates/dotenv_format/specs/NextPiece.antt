@@ -16,7 +16,7 @@ use Rattle.dotenv_format.specs.Characters.{single_quote, double_quote, dollar, b
 use Rattle.dotenv_format.specs.Value.{Quoting, unquoted, double_quoted, Piece, is_escape, escape_meaning}
 use Rattle.dotenv_format.specs.Slices.{quoting_of}
 use Rattle.dotenv_format.specs.Items.{LookUp, meaning}
-use Rattle.dotenv_format.specs.ReadValue.{Mode, base, given, read, place}
+use Rattle.dotenv_format.specs.ReadValue.{ValueMode, base, given, read_value, value_reach}
 
 -- a double quote changes where the code stands
 abbrev pub other_quoting : Quoting → Quoting
@@ -51,31 +51,31 @@ piece_bytes look_up (Text text) = text.now
 piece_bytes look_up (Name name after) = encode_utf8_all (unwrap_or (look_up (chars name.now)) []) ++ after.now
 
 -- reading the text from one mode gives the pieces, and goes on with the rest from another
-pub record IsReadTo (dialect : Dialect) (m : Mode) (text : List ℕ) (pieces : List Piece) (n : Mode) (rest : List ℕ) : Type 0 where
+pub record IsReadTo (dialect : Dialect) (m : ValueMode) (text : List ℕ) (pieces : List Piece) (n : ValueMode) (rest : List ℕ) : Type 0 where
   pub front : List ℕ
   pub spelled : text ≡ front ++ rest
-  pub reads : read dialect text m ≡ given pieces (read dialect rest n)
-  pub counts : place dialect text m ≡ length front + place dialect rest n
+  pub reads : read_value dialect text m ≡ given pieces (read_value dialect rest n)
+  pub counts : value_reach dialect text m ≡ length front + value_reach dialect rest n
 
 -- the piece and where the value goes on, whatever names stand for
-pub record GivesPiece (dialect : Dialect) (m : Mode) (text : List ℕ) (next : Given) : Type 0 where
+pub record GivesPiece (dialect : Dialect) (m : ValueMode) (text : List ℕ) (next : Given) : Type 0 where
   pub pieces : List Piece
   pub is_read : IsReadTo dialect m text pieces (base (quoting_of next.quoting)) (chars next.rest.now)
   pub follows : IsUtf8 next.rest.now
   pub means : (look_up : LookUp) → piece_bytes look_up next.piece ≡ encode_utf8_all (meaning look_up pieces)
 
 -- no value goes on with what is left
-pub record StopsAt (dialect : Dialect) (m : Mode) (text left : List ℕ) : Type 0 where
+pub record StopsAt (dialect : Dialect) (m : ValueMode) (text left : List ℕ) : Type 0 where
   pub front : List ℕ
   pub spelled : text ≡ front ++ left
-  pub reads : read dialect text m ≡ None
-  pub counts : place dialect text m ≡ length front
+  pub reads : read_value dialect text m ≡ None
+  pub counts : value_reach dialect text m ≡ length front
 
 -- the end of the value, a piece, or what is left at a fault
-abbrev pub NextIs : (dialect : Dialect) (m : Mode) (text : List ℕ) → NextPiece → Type 0
-NextIs dialect m text End = read dialect text m ≡ Some []
-NextIs dialect m text (GivesNext next) = GivesPiece dialect m text next
-NextIs dialect m text (Fault left) = StopsAt dialect m text (chars left.now)
+abbrev pub NextPieceIs : (dialect : Dialect) (m : ValueMode) (text : List ℕ) → NextPiece → Type 0
+NextPieceIs dialect m text End = read_value dialect text m ≡ Some []
+NextPieceIs dialect m text (GivesNext next) = GivesPiece dialect m text next
+NextPieceIs dialect m text (Fault left) = StopsAt dialect m text (chars left.now)
 
 -- a piece leaves fewer characters
 abbrev pub IsShorter : List ℕ → NextPiece → Type 0

@@ -5,21 +5,21 @@ use Rattle.dotenv_format.specs.Characters.{is_space_or_tab, is_name_character, s
 use Rattle.dotenv_format.specs.Value.{Quoting, unquoted, double_quoted, Piece, Text, Name, escape_meaning, is_escape, is_left_by_name}
 
 -- what the reader is in the middle of
-pub data Mode : Type 0 where
-  base : Quoting → Mode
-  escaping : Quoting → Mode
-  in_single : List ℕ → Mode
-  naming : Quoting → List ℕ → Mode
-  bracing : Quoting → List ℕ → Mode
-  in_tail : Mode
-  in_comment : Mode
+pub data ValueMode : Type 0 where
+  base : Quoting → ValueMode
+  escaping : Quoting → ValueMode
+  in_single : List ℕ → ValueMode
+  naming : Quoting → List ℕ → ValueMode
+  bracing : Quoting → List ℕ → ValueMode
+  in_tail : ValueMode
+  in_comment : ValueMode
 
 -- the pieces that were read, or `None` where the text is no value
-abbrev pub Reading : Type 0
-Reading = Option (List Piece)
+abbrev pub ValueReading : Type 0
+ValueReading = Option (List Piece)
 
 -- pieces before those that are still read
-abbrev pub given : List Piece → Reading → Reading
+abbrev pub given : List Piece → ValueReading → ValueReading
 given pieces None = None
 given pieces (Some more) = Some (pieces ++ more)
 
@@ -29,7 +29,7 @@ is_brace_first [] c = c == left_brace
 is_brace_first (d ∷ name) c = false
 
 -- where a part may begin
-abbrev pub from_base : Quoting → ℕ → (Mode → Reading) → Reading
+abbrev pub from_base : Quoting → ℕ → (ValueMode → ValueReading) → ValueReading
 from_base unquoted c next =
     elim (c == backslash) [
       | true ↦ next (escaping unquoted)
@@ -60,11 +60,11 @@ from_base double_quoted c next =
     ]
 
 -- where a character leads, and what it gives, with what is read from there
-abbrev pub from : (dialect : Dialect) → Mode → ℕ → (Mode → Reading) → Reading
-from dialect (base q) c next = from_base q c next
-from dialect (escaping q) c next = elim (is_escape c) [ true ↦ given (Text (escape_meaning c ∷ []) ∷ []) (next (base q)) | false ↦ None ]
-from dialect (in_single inner) c next = elim (c == single_quote) [ true ↦ given (Text inner ∷ []) (next (base unquoted)) | false ↦ next (in_single (inner ++ c ∷ [])) ]
-from dialect (naming q name) c next =
+abbrev pub value_from : (dialect : Dialect) → ValueMode → ℕ → (ValueMode → ValueReading) → ValueReading
+value_from dialect (base q) c next = from_base q c next
+value_from dialect (escaping q) c next = elim (is_escape c) [ true ↦ given (Text (escape_meaning c ∷ []) ∷ []) (next (base q)) | false ↦ None ]
+value_from dialect (in_single inner) c next = elim (c == single_quote) [ true ↦ given (Text inner ∷ []) (next (base unquoted)) | false ↦ next (in_single (inner ++ c ∷ [])) ]
+value_from dialect (naming q name) c next =
     elim (is_name_character dialect c) [
       | true ↦ next (naming q (name ++ c ∷ []))
       | false ↦
@@ -74,30 +74,30 @@ from dialect (naming q name) c next =
                 elim (is_brace_first name c) [ true ↦ next (bracing q []) | false ↦ given (Name name ∷ Text (c ∷ []) ∷ []) (next (base q)) ]
           ]
     ]
-from dialect (bracing q name) c next = elim (c == right_brace) [ true ↦ given (Name name ∷ []) (next (base q)) | false ↦ next (bracing q (name ++ c ∷ [])) ]
-from dialect in_tail c next = elim (is_space_or_tab c) [ true ↦ next in_tail | false ↦ elim (c == hash) [ true ↦ next in_comment | false ↦ None ] ]
-from dialect in_comment c next = next in_comment
+value_from dialect (bracing q name) c next = elim (c == right_brace) [ true ↦ given (Name name ∷ []) (next (base q)) | false ↦ next (bracing q (name ++ c ∷ [])) ]
+value_from dialect in_tail c next = elim (is_space_or_tab c) [ true ↦ next in_tail | false ↦ elim (c == hash) [ true ↦ next in_comment | false ↦ None ] ]
+value_from dialect in_comment c next = next in_comment
 
 -- what the end of the text gives
-abbrev pub at_end : Mode → Reading
-at_end (base unquoted) = Some []
-at_end (escaping unquoted) = Some []
-at_end (naming unquoted name) = Some (Name name ∷ [])
-at_end in_tail = Some []
-at_end in_comment = Some []
-at_end (base double_quoted) = None
-at_end (escaping double_quoted) = None
-at_end (naming double_quoted name) = None
-at_end (bracing q name) = None
-at_end (in_single inner) = None
+abbrev pub value_at_end : ValueMode → ValueReading
+value_at_end (base unquoted) = Some []
+value_at_end (escaping unquoted) = Some []
+value_at_end (naming unquoted name) = Some (Name name ∷ [])
+value_at_end in_tail = Some []
+value_at_end in_comment = Some []
+value_at_end (base double_quoted) = None
+value_at_end (escaping double_quoted) = None
+value_at_end (naming double_quoted name) = None
+value_at_end (bracing q name) = None
+value_at_end (in_single inner) = None
 
 -- what the text gives, read from this mode
-abbrev pub read : (dialect : Dialect) → List ℕ → Mode → Reading
-read dialect [] mode = at_end mode
-read dialect (c ∷ cs) mode = from dialect mode c (λ m. read dialect cs m)
+abbrev pub read_value : (dialect : Dialect) → List ℕ → ValueMode → ValueReading
+read_value dialect [] mode = value_at_end mode
+read_value dialect (c ∷ cs) mode = value_from dialect mode c (λ m. read_value dialect cs m)
 
 -- the same where a part may begin
-abbrev pub goes_base : Quoting → ℕ → Option (Mode × List Piece)
+abbrev pub goes_base : Quoting → ℕ → Option (ValueMode × List Piece)
 goes_base unquoted c =
     elim (c == backslash) [
       | true ↦ Some (escaping unquoted, [])
@@ -128,16 +128,16 @@ goes_base double_quoted c =
     ]
 
 -- pieces before those that a step completes
-abbrev pub with_pieces : List Piece → Option (Mode × List Piece) → Option (Mode × List Piece)
+abbrev pub with_pieces : List Piece → Option (ValueMode × List Piece) → Option (ValueMode × List Piece)
 with_pieces pieces None = None
 with_pieces pieces (Some (m, more)) = Some (m, pieces ++ more)
 
 -- where one character leads, and the pieces that it completes; `None` where no value goes on with it
-abbrev pub goes : (dialect : Dialect) → Mode → ℕ → Option (Mode × List Piece)
-goes dialect (base q) c = goes_base q c
-goes dialect (escaping q) c = elim (is_escape c) [ true ↦ Some (base q, Text (escape_meaning c ∷ []) ∷ []) | false ↦ None ]
-goes dialect (in_single inner) c = elim (c == single_quote) [ true ↦ Some (base unquoted, Text inner ∷ []) | false ↦ Some (in_single (inner ++ c ∷ []), []) ]
-goes dialect (naming q name) c =
+abbrev pub value_goes : (dialect : Dialect) → ValueMode → ℕ → Option (ValueMode × List Piece)
+value_goes dialect (base q) c = goes_base q c
+value_goes dialect (escaping q) c = elim (is_escape c) [ true ↦ Some (base q, Text (escape_meaning c ∷ []) ∷ []) | false ↦ None ]
+value_goes dialect (in_single inner) c = elim (c == single_quote) [ true ↦ Some (base unquoted, Text inner ∷ []) | false ↦ Some (in_single (inner ++ c ∷ []), []) ]
+value_goes dialect (naming q name) c =
     elim (is_name_character dialect c) [
       | true ↦ Some (naming q (name ++ c ∷ []), [])
       | false ↦
@@ -147,16 +147,16 @@ goes dialect (naming q name) c =
                 elim (is_brace_first name c) [ true ↦ Some (bracing q [], []) | false ↦ Some (base q, Name name ∷ Text (c ∷ []) ∷ []) ]
           ]
     ]
-goes dialect (bracing q name) c = elim (c == right_brace) [ true ↦ Some (base q, Name name ∷ []) | false ↦ Some (bracing q (name ++ c ∷ []), []) ]
-goes dialect in_tail c = elim (is_space_or_tab c) [ true ↦ Some (in_tail, []) | false ↦ elim (c == hash) [ true ↦ Some (in_comment, []) | false ↦ None ] ]
-goes dialect in_comment c = Some (in_comment, [])
+value_goes dialect (bracing q name) c = elim (c == right_brace) [ true ↦ Some (base q, Name name ∷ []) | false ↦ Some (bracing q (name ++ c ∷ []), []) ]
+value_goes dialect in_tail c = elim (is_space_or_tab c) [ true ↦ Some (in_tail, []) | false ↦ elim (c == hash) [ true ↦ Some (in_comment, []) | false ↦ None ] ]
+value_goes dialect in_comment c = Some (in_comment, [])
 
 -- one character more, unless no value goes on with it
-abbrev pub place_after : Option (Mode × List Piece) → (Mode → ℕ) → ℕ
-place_after None next = 0
-place_after (Some (m, pieces)) next = suc (next m)
+abbrev pub value_reach_after : Option (ValueMode × List Piece) → (ValueMode → ℕ) → ℕ
+value_reach_after None next = 0
+value_reach_after (Some (m, pieces)) next = suc (next m)
 
 -- the number of characters up to the first that no value goes on with
-abbrev pub place : (dialect : Dialect) → List ℕ → Mode → ℕ
-place dialect [] m = 0
-place dialect (c ∷ cs) m = place_after (goes dialect m c) (λ n. place dialect cs n)
+abbrev pub value_reach : (dialect : Dialect) → List ℕ → ValueMode → ℕ
+value_reach dialect [] m = 0
+value_reach dialect (c ∷ cs) m = value_reach_after (value_goes dialect m c) (λ n. value_reach dialect cs n)

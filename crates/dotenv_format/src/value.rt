@@ -6,7 +6,7 @@ ghost use Rattle.dotenv_format.specs.ReadValue.{base, escaping, in_single, namin
 ghost use Rattle.dotenv_format.specs.Characters.{backslash, left_brace, begins_with, is_name_character};
 ghost use Rattle.dotenv_format.specs.Slices.{quoting_of, begins_passing};
 ghost use Rattle.dotenv_format.specs.Value.{is_left_by_name, is_plain};
-ghost use Rattle.dotenv_format.specs.NextPiece.{other_quoting, is_empty, kind_of, Escapes, NextIs, IsShorter};
+ghost use Rattle.dotenv_format.specs.NextPiece.{other_quoting, is_empty, kind_of, Escapes, NextPieceIs, IsShorter};
 
 use crate::dialect::Dialect;
 use crate::text::{Class, Quoting, is_empty_or_comment, row_len, split_first, split_while};
@@ -100,10 +100,10 @@ fn escaped(c: char) -> Option<&'static str>
 fn at_end(text: &str, quoting: Quoting) -> NextPiece<'_>
     requires { text.now ≡ [] }
     ensures after_part { (dialect : _) →
-        NextIs dialect (base (quoting_of quoting)) (chars text.now) result }
+        NextPieceIs dialect (base (quoting_of quoting)) (chars text.now) result }
     ensures shorter { IsShorter (chars text.now) result }
     ensures after_backslash { (dialect : _) →
-        NextIs dialect (escaping (quoting_of quoting)) (chars text.now) result }
+        NextPieceIs dialect (escaping (quoting_of quoting)) (chars text.now) result }
 {
     match quoting {
         Quoting::Unquoted => NextPiece::End,
@@ -115,7 +115,7 @@ fn at_end(text: &str, quoting: Quoting) -> NextPiece<'_>
 #[inline(always)]
 fn escape_one(left: &str, quoting: Quoting) -> NextPiece<'_>
     ensures { (dialect : _) →
-        NextIs dialect (escaping (quoting_of quoting)) (chars left.now) result }
+        NextPieceIs dialect (escaping (quoting_of quoting)) (chars left.now) result }
 {
     match split_first(left) {
         None => at_end(left, quoting),
@@ -135,7 +135,7 @@ fn backslashes(left: &str, more: usize, quoting: Quoting) -> NextPiece<'_>
     requires some { 0 < more }
     requires row { more ≡ prefix_len (λ b. b == backslash) left.now }
     ensures { (dialect : _) →
-        NextIs dialect (escaping (quoting_of quoting)) (chars left.now) result }
+        NextPieceIs dialect (escaping (quoting_of quoting)) (chars left.now) result }
 {
     let pairs = more / 2 + more % 2;
     let (meant, _) = left.split_at(pairs);
@@ -151,7 +151,7 @@ fn backslashes(left: &str, more: usize, quoting: Quoting) -> NextPiece<'_>
 #[inline(always)]
 fn escape(left: &str, quoting: Quoting) -> NextPiece<'_>
     ensures { (dialect : _) →
-        NextIs dialect (escaping (quoting_of quoting)) (chars left.now) result }
+        NextPieceIs dialect (escaping (quoting_of quoting)) (chars left.now) result }
 {
     match row_len(left, b'\\') {
         0 => escape_one(left, quoting),
@@ -161,7 +161,7 @@ fn escape(left: &str, quoting: Quoting) -> NextPiece<'_>
 
 // What follows a single quote outside double quotes.
 fn single_quoted(left: &str) -> NextPiece<'_>
-    ensures { (dialect : _) → NextIs dialect (in_single []) (chars left.now) result }
+    ensures { (dialect : _) → NextPieceIs dialect (in_single []) (chars left.now) result }
 {
     match left.split_once('\'') {
         Some((text, rest)) => NextPiece::Piece(Given {
@@ -176,7 +176,7 @@ fn single_quoted(left: &str) -> NextPiece<'_>
 // What follows `${`.
 fn braced(left: &str, quoting: Quoting) -> NextPiece<'_>
     ensures { (dialect : _) →
-        NextIs dialect (bracing (quoting_of quoting) []) (chars left.now) result }
+        NextPieceIs dialect (bracing (quoting_of quoting) []) (chars left.now) result }
 {
     match left.split_once('}') {
         Some((name, rest)) => NextPiece::Piece(Given {
@@ -193,7 +193,7 @@ fn after_name<'a>(name: &'a str, left: &'a str, quoting: Quoting, dialect: Diale
     requires ended { IsTrue (not (begins_passing (is_name_character dialect) (chars left.now))) }
     requires no_brace { IsTrue
         (not (is_empty (chars name.now) && begins_with left_brace (chars left.now))) }
-    ensures { NextIs dialect (naming (quoting_of quoting) (chars name.now)) (chars left.now)
+    ensures { NextPieceIs dialect (naming (quoting_of quoting) (chars name.now)) (chars left.now)
         result }
 {
     match split_first(left) {
@@ -227,7 +227,7 @@ fn after_name<'a>(name: &'a str, left: &'a str, quoting: Quoting, dialect: Diale
 // What follows `$` without a brace.
 fn bare(left: &str, quoting: Quoting, dialect: Dialect) -> NextPiece<'_>
     requires { IsTrue (not (begins_with left_brace (chars left.now))) }
-    ensures { NextIs dialect (naming (quoting_of quoting) []) (chars left.now) result }
+    ensures { NextPieceIs dialect (naming (quoting_of quoting) []) (chars left.now) result }
 {
     let (name, rest) = split_while(left, Class::Name(dialect));
     after_name(name, rest, quoting, dialect)
@@ -235,7 +235,7 @@ fn bare(left: &str, quoting: Quoting, dialect: Dialect) -> NextPiece<'_>
 
 // What follows `$`.
 fn substitution(left: &str, quoting: Quoting, dialect: Dialect) -> NextPiece<'_>
-    ensures { NextIs dialect (naming (quoting_of quoting) []) (chars left.now) result }
+    ensures { NextPieceIs dialect (naming (quoting_of quoting) []) (chars left.now) result }
 {
     match left.strip_prefix('{') {
         Some(name) => braced(name, quoting),
@@ -245,7 +245,7 @@ fn substitution(left: &str, quoting: Quoting, dialect: Dialect) -> NextPiece<'_>
 
 // What follows a space or tab outside quotes.
 fn tail(left: &str) -> NextPiece<'_>
-    ensures { (dialect : _) → NextIs dialect in_tail (chars left.now) result }
+    ensures { (dialect : _) → NextPieceIs dialect in_tail (chars left.now) result }
 {
     let (_, comment) = split_while(left, Class::SpaceOrTab);
     if is_empty_or_comment(comment) {
@@ -259,7 +259,7 @@ fn tail(left: &str) -> NextPiece<'_>
 fn plain(text: &str, quoting: Quoting) -> NextPiece<'_>
     requires { IsTrue (begins_passing (is_plain (quoting_of quoting)) (chars text.now)) }
     ensures next { (dialect : _) →
-        NextIs dialect (base (quoting_of quoting)) (chars text.now) result }
+        NextPieceIs dialect (base (quoting_of quoting)) (chars text.now) result }
     ensures shorter { IsShorter (chars text.now) result }
 {
     let (plain, rest) = split_while(text, Class::Plain(quoting));
@@ -283,7 +283,7 @@ fn other_quoting(quoting: Quoting) -> Quoting
 #[inline(always)]
 fn double_quote(left: &str, quoting: Quoting) -> NextPiece<'_>
     ensures { (dialect : _) →
-        NextIs dialect (base (other_quoting (quoting_of quoting))) (chars left.now) result }
+        NextPieceIs dialect (base (other_quoting (quoting_of quoting))) (chars left.now) result }
 {
     let (more, rest) = split_while(left, Class::DoubleQuote);
     let quoting = if more.len() % 2 == 0 {
@@ -301,7 +301,7 @@ fn double_quote(left: &str, quoting: Quoting) -> NextPiece<'_>
 /// The next piece of a value at this place.
 #[inline(always)]
 pub fn next_piece(text: &str, quoting: Quoting, dialect: Dialect) -> NextPiece<'_>
-    ensures next { NextIs dialect (base (quoting_of quoting)) (chars text.now) result }
+    ensures next { NextPieceIs dialect (base (quoting_of quoting)) (chars text.now) result }
     ensures shorter { IsShorter (chars text.now) result }
 {
     match split_first(text) {

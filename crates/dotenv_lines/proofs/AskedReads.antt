@@ -23,26 +23,13 @@ use Rattle.std.proofs.Common.{
 }
 use Rattle.std.specs.Prelude.{Option, Result, Ok, Err, IsOk, IsErrAnd}
 use Rattle.std.proofs.lemmas.Bool.{false≢true}
-use Rattle.std.specs.List.{AllByRecursion}
+use Rattle.dotenv_base.proofs.CallLists.{all_of_both, ends_behind}
 use Rattle.dotenv_base.specs.declared.errors.Error.{Error}
 use Rattle.dotenv_base.specs.Calls.{Call, TellsCall, MayGoOn, AllMayGoOn, OnlyLastEnds}
 use Rattle.dotenv_lines.specs.declared.lines.Stage.{Stage}
 use Rattle.dotenv_lines.specs.declared.lines.Stage.TheVariants.{Open, Ended, Failed}
 use Rattle.dotenv_lines.specs.Lines.{LinesState}
 use Rattle.dotenv_lines.specs.Input.{InputState, AsksReads, AsksOnce}
-
--- what holds of each of two lists holds of each of both
-pub all_of_both : {T : Type 0} (P : T → Type 0) (xs ys : List T) → AllByRecursion P xs → AllByRecursion P ys →
-    AllByRecursion P (xs ++ ys)
-all_of_both P [] ys all later = later
-all_of_both P (x ∷ xs) ys (first, all) later = (first, all_of_both P xs ys all later)
-
--- where another call may follow each of the first, the last of both alone may end
-pub ends_behind : (first later : List Call) → AllMayGoOn first → OnlyLastEnds later → OnlyLastEnds (first ++ later)
-ends_behind [] later all ends = ends
-ends_behind (call ∷ []) [] all ends = tt
-ends_behind (call ∷ []) (next ∷ later) (goes, all) ends = (goes, ends)
-ends_behind (call ∷ next ∷ first) later (goes, all) ends = (goes, ends_behind (next ∷ first) later all ends)
 
 -- no read is made where neither the calls nor the reads left change
 pub asks_none : (goes_on : Type 0) (s t : InputState) → t.calls ≡ s.calls → t.reads ≡ s.reads →

@@ -75,6 +75,7 @@ use Rattle.dotenv_lines.specs.Input.{
   used_up,
   IsLinePiece,
   MovesLine,
+  Moves,
   TakesLine,
   begins_mark,
 }
@@ -262,17 +263,55 @@ read_more_gives s t e at_end o after old new a h se te n size reads left told on
       omega (arith, long, none, ends, n, size, reads, lens, length-append old k.some),
     )
 
+-- reads that fit the bytes of one step, and reads that fit those of the next, fit those of both
+pub fits_more : (a b d : Ahead) (s t v : InputState) → ReadsFit a s b t → ReadsFit b t d v → ReadsFit a s d v
+fits_more a b d s t v f g = omega (arith, f, g)
+
+-- at first nothing is used, and all is left
+pub moves_none : (a : Ahead) (s : InputState) → s.left ≡ Some a → Moves a s [] a.bytes s
+moves_none a s left = record { joins = refl; is_left = left; reads = omega arith }
+
+-- unread bytes are used without a read
+pub moves_piece : (a : Ahead) (s t : InputState) (piece left : List ℕ) → a.bytes ≡ piece ++ left →
+    t.left ≡ Some (ahead_of left a.fault) → t.unread + length piece ≡ s.unread → t.reads ≡ s.reads →
+    t.at_end ≡ s.at_end → Moves a s piece left t
+moves_piece a s t piece left joins is_left unread reads ends = record {
+  joins = joins;
+  is_left = is_left;
+  reads =
+      let l = ap length joins in
+      let e = ap end_reads ends in
+      omega (arith, l, e, unread, reads, length-append piece left);
+}
+
+-- what is used in one step and in the next is used in both
+pub moves_on : (a : Ahead) (s t v : InputState) (used more left later : List ℕ) → Moves a s used left t →
+    Moves (ahead_of left a.fault) t more later v → Moves a s (used ++ more) later v
+moves_on a s t v used more left later first next = record {
+  joins = first.joins ∙ ap (λ bytes. used ++ bytes) next.joins ∙ sym (append_assoc used more later);
+  is_left = next.is_left;
+  reads = fits_more a (ahead_of left a.fault) (ahead_of later a.fault) s t v first.reads next.reads;
+}
+
+-- a wait behind some steps leaves what these used as it is
+pub moves_still : (a : Ahead) (s t v : InputState) (used left : List ℕ) → Moves a s used left t →
+    v.left ≡ Some (ahead_of left a.fault) → ReadsFit (ahead_of left a.fault) t (ahead_of left a.fault) v →
+    Moves a s used left v
+moves_still a s t v used left first is_left fits = record {
+  joins = first.joins;
+  is_left = is_left;
+  reads = fits_more a (ahead_of left a.fault) (ahead_of left a.fault) s t v first.reads fits;
+}
+
 -- a line that is being read: no line feed was met
-pub record Reading (a : Ahead) (s : InputState) (line : List ℕ) (t : InputState) : Type 0 where
+pub record LineSoFar (a : Ahead) (s : InputState) (line : List ℕ) (t : InputState) : Type 0 where
   pub left : List ℕ
-  pub joins : a.bytes ≡ line ++ left
-  pub is_left : t.left ≡ Some (record { bytes = left; fault = a.fault })
+  pub moves : Moves a s line left t
   pub none : no_line_feed line ≡ true
-  pub reads : ReadsFit a s (record { bytes = left; fault = a.fault }) t
 
 -- where it is told what is left, a line of which nothing was read yet is being read
-pub reading_start : (a : Ahead) (s : InputState) → IsTold s.left a → Reading a s [] s
-reading_start a s told = record { left = a.bytes; joins = refl; is_left = told.0; none = refl; reads = omega arith }
+pub reading_start : (a : Ahead) (s : InputState) → IsTold s.left a → LineSoFar a s [] s
+reading_start a s told = record { left = a.bytes; moves = moves_none a s told.0; none = refl }
 
 -- bytes without a line feed and a whole line behind them are a whole line
 pub whole_after : (xs line : List ℕ) → no_line_feed xs ≡ true → is_whole_line line ≡ true →
@@ -293,93 +332,77 @@ none_after (x ∷ xs) ys h k =
     ap (λ b. b && no_line_feed (xs ++ ys)) (and_left (not (x == line_feed)) (no_line_feed xs) h)
     ∙ none_after xs ys (and_right (not (x == line_feed)) (no_line_feed xs) h) k
 
--- reads that fit the bytes that came still fit them when unread bytes are used without a read
-pub fits_moved : (a : Ahead) (s t v : InputState) (moved left now : List ℕ) → now ≡ moved ++ left →
-    v.unread + length moved ≡ t.unread → v.reads ≡ t.reads → v.at_end ≡ t.at_end →
-    ReadsFit a s (ahead_of now a.fault) t → ReadsFit a s (ahead_of left a.fault) v
-fits_moved a s t v moved left now cut unread reads ends fits =
-    let l = ap length cut in
-    let e = ap end_reads ends in
-    omega (arith, fits, l, e, unread, reads, length-append moved left)
-
 -- where no line feed was met in the unread bytes, all are used and the line is still being read
 pub reading_moves : (a : Ahead) (s t v : InputState) (line : List ℕ) (whole : Bool) → whole ≡ false →
-    Reading a s line t → ((b : Ahead) → t.left ≡ Some b → MovesLine b t whole v) →
-    (new : List ℕ) × Reading a s new v × (v.unread ≡ 0)
+    LineSoFar a s line t → ((b : Ahead) → t.left ≡ Some b → MovesLine b t whole v) →
+    (new : List ℕ) × LineSoFar a s new v × (v.unread ≡ 0)
 reading_moves a s t v line true h r move = let f : true ≡ false = h in cc
 reading_moves a s t v line false h r move =
-    let m = move (ahead_of r.left a.fault) r.is_left in (
+    let m = move (ahead_of r.left a.fault) r.moves.is_left in (
       line ++ m.some,
       record {
         left = m.left;
-        joins = r.joins ∙ ap (λ l. line ++ l) m.joins ∙ sym (append_assoc line m.some m.left);
-        is_left = m.is_left;
+        moves =
+            moves_on a s t v line m.some r.left m.left r.moves
+            (moves_piece (ahead_of r.left a.fault) t v m.some m.left m.joins m.is_left m.unread m.reads m.at_end);
         none = none_after line m.some r.none m.is_line.0;
-        reads = fits_moved a s t v m.some m.left r.left m.joins m.unread m.reads m.at_end r.reads;
       },
       m.is_line.1,
     )
 
 -- where unread bytes up to a line feed are used, the line that was being read is taken with them
 pub reading_whole : (a : Ahead) (s t v : InputState) (line : List ℕ) (whole : Bool) → whole ≡ true →
-    Reading a s line t → ((b : Ahead) → t.left ≡ Some b → MovesLine b t whole v) →
+    LineSoFar a s line t → ((b : Ahead) → t.left ≡ Some b → MovesLine b t whole v) →
     (new : List ℕ) × TakesLine a s new v
 reading_whole a s t v line false h r move = let f : false ≡ true = h in cc
 reading_whole a s t v line true h r move =
-    let m = move (ahead_of r.left a.fault) r.is_left in (
+    let m = move (ahead_of r.left a.fault) r.moves.is_left in (
       line ++ m.some,
       record {
         left = m.left;
-        joins = r.joins ∙ ap (λ l. line ++ l) m.joins ∙ sym (append_assoc line m.some m.left);
-        is_left = m.is_left;
+        moves =
+            moves_on a s t v line m.some r.left m.left r.moves
+            (moves_piece (ahead_of r.left a.fault) t v m.some m.left m.joins m.is_left m.unread m.reads m.at_end);
         is_line = inl (whole_after line m.some r.none m.is_line);
-        reads = fits_moved a s t v m.some m.left r.left m.joins m.unread m.reads m.at_end r.reads;
       },
     )
 
 -- where the end was read and nothing is unread, the line that is being read is taken as it is
-pub reading_ends : (a : Ahead) (s t : InputState) (line : List ℕ) → Reading a s line t → t.unread ≡ 0 →
+pub reading_ends : (a : Ahead) (s t : InputState) (line : List ℕ) → LineSoFar a s line t → t.unread ≡ 0 →
     t.at_end ≡ true → ((b : Ahead) → t.left ≡ Some b → IsAllRead b t.unread) → TakesLine a s line t
 reading_ends a s t line r zero ended all =
-    let k = all (ahead_of r.left a.fault) r.is_left in record {
+    let k = all (ahead_of r.left a.fault) r.moves.is_left in record {
       left = r.left;
-      joins = r.joins;
-      is_left = r.is_left;
+      moves = r.moves;
       is_line = inr (r.none, nil_of r.left (k.0 ∙ zero), k.1, ended);
-      reads = r.reads;
     }
 
 -- where it was told what is left before a line, it is told what is left behind what was read of it
-reading_told : (a : Ahead) (s t : InputState) (line : List ℕ) → IsTold s.left a → (r : Reading a s line t) →
+reading_told : (a : Ahead) (s t : InputState) (line : List ℕ) → IsTold s.left a → (r : LineSoFar a s line t) →
     IsTold t.left (ahead_of r.left a.fault)
-reading_told a s t line told r = (r.is_left, told.1)
-
--- reads that fit the bytes of one step, and reads that fit those of the next, fit those of both
-pub fits_more : (a b d : Ahead) (s t v : InputState) → ReadsFit a s b t → ReadsFit b t d v → ReadsFit a s d v
-fits_more a b d s t v f g = omega (arith, f, g)
+reading_told a s t line told r = (r.moves.is_left, told.1)
 
 -- a read that uses nothing leaves the line that is being read as it is
-pub reading_more : (a : Ahead) (s t v : InputState) (line : List ℕ) → IsTold s.left a → Reading a s line t →
-    ((b : Ahead) → IsTold t.left b → (v.left ≡ Some b) × ReadsFit b t b v) → Reading a s line v
+pub reading_more : (a : Ahead) (s t v : InputState) (line : List ℕ) → IsTold s.left a → LineSoFar a s line t →
+    ((b : Ahead) → IsTold t.left b → (v.left ≡ Some b) × ReadsFit b t b v) → LineSoFar a s line v
 reading_more a s t v line told r more =
     let m = more (ahead_of r.left a.fault) (reading_told a s t line told r) in
     record {
       left = r.left;
-      joins = r.joins;
-      is_left = m.0;
+      moves = moves_still a s t v line r.left r.moves m.0 m.1;
       none = r.none;
-      reads = fits_more a (ahead_of r.left a.fault) (ahead_of r.left a.fault) s t v r.reads m.1;
     }
 
 -- a fault of reading after some bytes were used, where P of the bytes after them makes Q of all
-pub fault_before : (a b : Ahead) (s t v : InputState) (P Q : List ℕ → Type 0) (used : List ℕ) (x : IoError) →
-    a.bytes ≡ used ++ b.bytes → a.fault ≡ b.fault → ReadsFit a s b t →
-    ((front later : List ℕ) → b.bytes ≡ front ++ later → (b.fault
+pub fault_before : (a : Ahead) (s t v : InputState) (P Q : List ℕ → Type 0) (used left : List ℕ) (x : IoError) →
+    a.bytes ≡ used ++ left → ReadsFit a s (ahead_of left a.fault) t →
+    ((front later : List ℕ) → left ≡ front ++ later → (a.fault
     ≡ Some (error_kind x)) ⊎ (t.reads + t.unread + end_reads t.at_end
-    ≤ length front) → P front → Q (used ++ front)) → IsReadFault b t P v x → IsReadFault a s Q v x
-fault_before a b s t v P Q used x joins fault fits weaker (inl f) =
-    inl (fault ∙ f.0, subst Q (sym joins) (weaker b.bytes [] (sym (append-nil b.bytes)) (inl f.0) f.1))
-fault_before a b s t v P Q used x joins fault fits weaker (inr (kind, met)) =
+    ≤ length front) → P front → Q (used ++ front)) → IsReadFault (ahead_of left a.fault) t P v x →
+    IsReadFault a s Q v x
+fault_before a s t v P Q used left x joins fits weaker (inl f) =
+    inl (f.0, subst Q (sym joins) (weaker left [] (sym (append-nil left)) (inl f.0) f.1))
+fault_before a s t v P Q used left x joins fits weaker (inr (kind, met)) =
     let all = ap length joins in
     let each = met.each_gave in
     inr (
@@ -390,29 +413,29 @@ fault_before a b s t v P Q used x joins fault fits weaker (inr (kind, met)) =
         cut = joins ∙ ap (λ l. used ++ l) met.cut ∙ sym (append_assoc used met.front met.later);
         holds = weaker met.front met.later met.cut (inr each) met.holds;
         none_left = met.none_left;
-        each_gave = omega (arith, fits, each, all, length-append used b.bytes, length-append used met.front);
+        each_gave = omega (arith, fits, each, all, length-append used left, length-append used met.front);
       },
     )
 
 -- a final fault after some bytes were used is one of all bytes, where P of those after them makes Q of all
-pub final_before : {A : Type 0} (a b : Ahead) (s t v : InputState) (P Q : List ℕ → Type 0) (used : List ℕ)
-    (e : Error A) → a.bytes ≡ used ++ b.bytes → a.fault ≡ b.fault → ReadsFit a s b t →
-    ((kind : ErrorKind) (front later : List ℕ) → b.bytes ≡ front ++ later → (b.fault
+pub final_before : {A : Type 0} (a : Ahead) (s t v : InputState) (P Q : List ℕ → Type 0) (used left : List ℕ)
+    (e : Error A) → a.bytes ≡ used ++ left → ReadsFit a s (ahead_of left a.fault) t →
+    ((kind : ErrorKind) (front later : List ℕ) → left ≡ front ++ later → (a.fault
     ≡ Some kind) ⊎ (t.reads + t.unread + end_reads t.at_end
-    ≤ length front) → P front → Q (used ++ front)) → IsFinal b t P e v → IsFinal a s Q e v
-final_before a b s t v P Q used e joins fault fits weaker fails =
-    io_weaker (IsReadFault b t P v) (IsReadFault a s Q v) e
-    (λ x h. fault_before a b s t v P Q used x joins fault fits (weaker (error_kind x)) h) fails
+    ≤ length front) → P front → Q (used ++ front)) → IsFinal (ahead_of left a.fault) t P e v → IsFinal a s Q e v
+final_before a s t v P Q used left e joins fits weaker fails =
+    io_weaker (IsReadFault (ahead_of left a.fault) t P v) (IsReadFault a s Q v) e
+    (λ x h. fault_before a s t v P Q used left x joins fits (weaker (error_kind x)) h) fails
 
 -- where nothing is unread, a final fault of the next read of a line comes before any line feed
 pub reading_fails : {A : Type 0} (a : Ahead) (s t v : InputState) (line : List ℕ) (e : Error A) → IsTold s.left a →
-    Reading a s line t → t.unread ≡ 0 →
+    LineSoFar a s line t → t.unread ≡ 0 →
     ((b : Ahead) → IsTold t.left b → IsFinal b t (λ bytes. length bytes ≡ t.unread) e v) →
     IsFinal a s (λ bytes. no_line_feed bytes ≡ true) e v
 reading_fails a s t v line e told r zero fails =
     let b = ahead_of r.left a.fault in
-    final_before a b s t v (λ bytes. length bytes ≡ t.unread) (λ bytes. no_line_feed bytes ≡ true) line e r.joins
-    refl r.reads
+    final_before a s t v (λ bytes. length bytes ≡ t.unread) (λ bytes. no_line_feed bytes ≡ true) line r.left e
+    r.moves.joins r.moves.reads
     (λ kind front later cut why none.
     ap no_line_feed (ap (λ l. line ++ l) (nil_of front (none ∙ zero)) ∙ append-nil line) ∙ r.none)
     (fails b (reading_told a s t line told r))
@@ -472,7 +495,8 @@ pub deciding_fails : {A : Type 0} (a : Ahead) (s t v : InputState) (e : Error A)
     begins_mark (take t.unread a.bytes) ≡ true → IsFinal a t (λ bytes. length bytes ≡ t.unread) e v →
     IsFinal a s (λ bytes. begins_mark bytes ≡ true) e v
 deciding_fails a s t v e fits begins fails =
-    final_before a a s t v (λ bytes. length bytes ≡ t.unread) (λ bytes. begins_mark bytes ≡ true) [] e refl refl fits
+    final_before a s t v (λ bytes. length bytes ≡ t.unread) (λ bytes. begins_mark bytes ≡ true) [] a.bytes e refl
+    fits
     (λ kind front later cut why read.
     ap begins_mark (sym (take-append_seam front later)
     ∙ ap (take (length front)) (sym cut)
@@ -551,7 +575,7 @@ piece_open s unread len told none = record {
 pub waiting_fails : {A : Type 0} (a : Ahead) (s t v : InputState) (e : Error A) → ReadsFit a s a t → t.unread ≡ 0 →
     IsFinal a t (λ bytes. length bytes ≡ t.unread) e v → IsFinal a s (λ bytes. bytes ≡ []) e v
 waiting_fails a s t v e fits zero fails =
-    final_before a a s t v (λ bytes. length bytes ≡ t.unread) (λ bytes. bytes ≡ []) [] e refl refl fits
+    final_before a s t v (λ bytes. length bytes ≡ t.unread) (λ bytes. bytes ≡ []) [] a.bytes e refl fits
     (λ kind front later cut why read. nil_of front (read ∙ zero)) fails
 
 -- either a byte is unread, or what holds where none is

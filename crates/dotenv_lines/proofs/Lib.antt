@@ -1,5 +1,6 @@
 pub mod Inputs
 pub mod AskedReads
+pub mod NumberedLines
 pub mod LineJoins
 pub mod LineEntries
 pub mod WalkedPieces

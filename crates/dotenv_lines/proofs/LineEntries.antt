@@ -3,7 +3,7 @@ use Rattle.std.proofs.Common.{◌≡◌, ℕ, length, arith, List, [], ◌∷◌
 use Rattle.std.proofs.lemmas.Option.{none-some}
 use Rattle.std.specs.declared.io.ErrorKind.{ErrorKind}
 use Rattle.dotenv_format.specs.declared.dialect.Dialect.{Dialect}
-use Rattle.dotenv_format.specs.LogicalLine.{Logical, Skip, Text, Open, Broken, IsOpen}
+use Rattle.dotenv_format.specs.LogicalLine.{Logical, Skip, Text, Open, Broken, IsOpenEnd}
 use Rattle.dotenv_format.specs.Entries.{Entry, AreLogicalLines, Gives, GiveAll, HasEntries}
 use Rattle.dotenv_format.specs.Decided.{up_to_last_line_feed, without_open_end, HasDecided}
 use Rattle.dotenv_lines.specs.Input.{InputState}
@@ -34,7 +34,7 @@ left-none dialect (Some kind) bytes e f = absurd (none-some kind (sym f))
 
 -- a logical line that is no open end gives its entries before those of the later lines up to an open end
 decided_give : (dialect : Dialect) (next : Logical) (lines : List Logical) (front after : List Entry) →
-    (IsOpen next → ⊥) → Gives dialect next front → GiveAll dialect (without_open_end lines) after →
+    (IsOpenEnd next → ⊥) → Gives dialect next front → GiveAll dialect (without_open_end lines) after →
     GiveAll dialect (without_open_end (next ∷ lines)) (front ++ after)
 decided_give dialect Skip lines front after no_open gives later = (front, after, gives, later, refl)
 decided_give dialect (Text text) lines front after no_open gives later = (front, after, gives, later, refl)
@@ -42,25 +42,27 @@ decided_give dialect (Open text n) lines front after no_open gives later = absur
 decided_give dialect Broken lines front after no_open gives later = (front, after, gives, later, refl)
 
 -- the entries of the next logical line come first, and then those of what it leaves
-pub left-next : (dialect : Dialect) (fault : Option ErrorKind) (bytes : List ℕ) (s t : InputState) (next : Logical)
-    (front after : List Entry) → (k : TakesNext (record { bytes = bytes; fault = fault }) s next t) →
+pub left-next : {count : ℕ} (dialect : Dialect) (fault : Option ErrorKind) (bytes : List ℕ) (s t : InputState)
+    (next : Logical) (front after : List Entry) →
+    (k : TakesNext (record { bytes = bytes; fault = fault }) s next count t) →
     Gives dialect next front → HasLeft dialect fault k.left after → HasLeft dialect fault bytes (front ++ after)
-left-next dialect None bytes s t next front after k gives has = record {
+left-next {count = count} dialect None bytes s t next front after k gives has = record {
   lines = next ∷ has.lines;
-  are_lines = (k.some, k.count, k.is_next, subst (λ ls. AreLogicalLines ls has.lines) k.later has.are_lines);
+  are_lines = (k.some, count, k.is_next, subst (λ ls. AreLogicalLines ls has.lines) k.later has.are_lines);
   give = (front, after, gives, has.give, refl);
 }
-left-next dialect (Some kind) bytes s t next front after k gives has = record {
+left-next {count = count} dialect (Some kind) bytes s t next front after k gives has = record {
   lines = next ∷ has.lines;
-  are_lines = (k.some, k.count, k.is_next, subst (λ ls. AreLogicalLines ls has.lines) k.later has.are_lines);
+  are_lines = (k.some, count, k.is_next, subst (λ ls. AreLogicalLines ls has.lines) k.later has.are_lines);
   give =
       decided_give dialect next has.lines front after (λ is_open. none-some kind (sym (k.open_at_end is_open)))
       gives has.give;
 }
 
 -- a logical line was taken: the entries left are its own, and then those of what it leaves
-pub took : (dialect : Dialect) (fault : Option ErrorKind) (bytes : List ℕ) (entries : List Entry) (s t : InputState)
-    (next : Logical) (front : List Entry) → (k : TakesNext (record { bytes = bytes; fault = fault }) s next t) →
+pub took : {count : ℕ} (dialect : Dialect) (fault : Option ErrorKind) (bytes : List ℕ) (entries : List Entry)
+    (s t : InputState) (next : Logical) (front : List Entry) →
+    (k : TakesNext (record { bytes = bytes; fault = fault }) s next count t) →
     Gives dialect next front → HasLeft dialect fault bytes entries →
     (later : List Entry) × HasLeft dialect fault k.left later × (entries ≡ front ++ later)
 took dialect fault bytes entries s t next front k gives has =
@@ -76,7 +78,7 @@ no_lines (Some kind) left empty = ap lines_so_far empty
 
 -- bytes that are a logical line, whatever follows them, decide its entries before what more bytes decide
 pub decided-next : (dialect : Dialect) (bytes more : List ℕ) (count : ℕ) (next : Logical)
-    (front after : List Entry) → (IsOpen next → ⊥) → IsNextAlways bytes count next → Gives dialect next front →
+    (front after : List Entry) → (IsOpenEnd next → ⊥) → IsNextAlways bytes count next → Gives dialect next front →
     HasDecided dialect more after → HasDecided dialect (bytes ++ more) (front ++ after)
 decided-next dialect bytes more count next front after no_open always gives has =
     let n = always more in record {
@@ -97,7 +99,7 @@ decided-none dialect bytes undecided = at has.0 has.1
         (h.0, h.1)
 
     first : (next : Logical) (lines : List Logical) → AreLogicalLines (lines_so_far bytes) (next ∷ lines) →
-        IsOpen next → HasDecided dialect bytes []
+        IsOpenEnd next → HasDecided dialect bytes []
     first Skip lines are is = absurd is
     first (Text text) lines are is = absurd is
     first (Open text n) lines are is = record { lines = Open text n ∷ lines; are_lines = are; give = refl }

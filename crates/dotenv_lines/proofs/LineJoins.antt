@@ -34,7 +34,7 @@ use Rattle.std.proofs.Common.{
   inr,
   ◌⊎◌,
 }
-use Rattle.std.specs.Prelude.{◌==◌, IsUtf8, encode_utf8_all, string_bytes, Result, Ok, Err}
+use Rattle.std.specs.Prelude.{◌==◌, ◌^◌, ◌-◌, min, IsUtf8, encode_utf8_all, string_bytes, Result, Ok, Err}
 use Rattle.std.specs.List.{concat}
 use Rattle.std.specs.Str.{chars, is_utf8, skip_leading_whitespace}
 use Rattle.std.specs.declared.io.ErrorKind.{ErrorKind}
@@ -78,11 +78,11 @@ use Rattle.dotenv_format.specs.LogicalLine.{
   IsOneLine,
   IsWhole,
   input_end,
-  IsOpen,
+  IsOpenEnd,
 }
 use Rattle.dotenv_format.specs.LineModes.{walk, going, ended}
 use Rattle.dotenv_base.specs.Source.{Ahead}
-use Rattle.dotenv_lines.specs.Input.{InputState, IsTold, ReadsFit, IsFinal, TakesLine, end_reads}
+use Rattle.dotenv_lines.specs.Input.{InputState, IsTold, ReadsFit, IsFinal, Moves, TakesLine, end_reads}
 use Rattle.dotenv_lines.specs.Lines.{
   LinesState,
   whole_before,
@@ -91,12 +91,15 @@ use Rattle.dotenv_lines.specs.Lines.{
   IsAtEnd,
   IsNextAlways,
   TakesNext,
+  Counts,
   IsUndecided,
   GoesOn,
-  NextIs,
+  NextTextIs,
 }
 use Rattle.dotenv_lines.specs.JoinedLines.{begun_at_end, joined_at_end, TakesJoined, is_refused, stage_after, IsOutcome}
 use Rattle.dotenv_lines.specs.Splitter.{AdvanceIs}
+use Rattle.dotenv_lines.specs.declared.physical_line.Taken.{Taken}
+use Rattle.dotenv_lines.specs.TakenLine.{LineMakes}
 use Rattle.dotenv_format.proofs.Scans as scans
 use Rattle.dotenv_format.proofs.Scans.{stops, scan, scan-reads, Reads, Read}
 use Rattle.dotenv_format.proofs.Basics.{and_left, and_right}
@@ -117,7 +120,8 @@ use Rattle.dotenv_format.proofs.SplitLines.{
   next-open,
   next-broken,
 }
-use Rattle.dotenv_lines.proofs.Inputs.{ahead_of, fits_more, final_before}
+use Rattle.dotenv_lines.proofs.Inputs.{ahead_of, moves_none, moves_on, moves_still, final_before}
+use Rattle.dotenv_lines.proofs.NumberedLines.{counts_none, counts_one}
 
 -- the texts of physical lines, in order, with none where a line is broken
 abbrev Lines : Type 0
@@ -190,13 +194,14 @@ parts b t v line some k = at k.is_line
         ⊎ ((no_line_feed line ≡ true) × (k.left ≡ []) × (b.fault ≡ None) × (v.at_end ≡ true)) →
         Parts b line k.left v
     at (inl whole) = record {
-      bytes = ap physical_lines k.joins ∙ whole_line line k.left whole;
-      texts = ap (λ l. line_texts (whole_before b.fault l)) k.joins ∙ whole_line_texts b.fault line k.left whole;
+      bytes = ap physical_lines k.moves.joins ∙ whole_line line k.left whole;
+      texts =
+          ap (λ l. line_texts (whole_before b.fault l)) k.moves.joins ∙ whole_line_texts b.fault line k.left whole;
       ends = inr whole;
     }
     at (inr (none, empty, fault, at_last)) =
         let last = last_of line some none in
-        let all : b.bytes ≡ line = k.joins ∙ ap (λ l. line ++ l) empty ∙ append-nil line in record {
+        let all : b.bytes ≡ line = k.moves.joins ∙ ap (λ l. line ++ l) empty ∙ append-nil line in record {
           bytes = ap physical_lines all ∙ last_line line last ∙ ap (λ l. line ∷ physical_lines l) (sym empty);
           texts =
               ap (λ l. line_texts (whole_before b.fault l)) all
@@ -215,7 +220,7 @@ none_parts b t v k = at k.is_line
         ⊎ ((no_line_feed [] ≡ true) × (k.left ≡ []) × (b.fault ≡ None) × (v.at_end ≡ true)) →
         (b.bytes ≡ []) × (k.left ≡ []) × (b.fault ≡ None) × (v.at_end ≡ true)
     at (inl whole) = let f : false ≡ true = whole in cc
-    at (inr (none, empty, fault, at_last)) = (k.joins ∙ empty, empty, fault, at_last)
+    at (inr (none, empty, fault, at_last)) = (k.moves.joins ∙ empty, empty, fault, at_last)
 
 -- the bytes are whole lines with these texts, and whatever follows them is other lines
 pub record AreWhole (used : List ℕ) (taken : List (List ℕ)) (seen : List ℕ) : Type 0 where
@@ -226,7 +231,6 @@ pub record AreWhole (used : List ℕ) (taken : List (List ℕ)) (seen : List ℕ
 pub record Joining (a : Ahead) (s : InputState) (seen : List ℕ) (m : LineMode) (t : InputState) : Type 0 where
   pub taken : List (List ℕ)
   pub left : List ℕ
-  pub is_left : t.left ≡ Some (record { bytes = left; fault = a.fault })
   pub rest : physical_lines left ≡ drop (length taken) (physical_lines a.bytes)
   pub lines : whole_lines a ≡ map Some taken ++ whole_lines (record { bytes = left; fault = a.fault })
   pub joined : seen ≡ concat taken
@@ -234,16 +238,14 @@ pub record Joining (a : Ahead) (s : InputState) (seen : List ℕ) (m : LineMode)
   pub shown : taken ≢ [] → ¬ (IsSkipped (whole_lines a))
   pub first : seen ≡ [] → taken ≡ []
   pub used : List ℕ
-  pub joins : a.bytes ≡ used ++ left
+  pub moves : Moves a s used left t
   pub ends : IsAtEnd a.fault left t ⊎ AreWhole used taken seen
-  pub reads : ReadsFit a s (record { bytes = left; fault = a.fault }) t
 
 -- at the start no text was taken, all is left, and the walk is outside
 joining_start : (a : Ahead) (s : InputState) → IsTold s.left a → Joining a s [] Outside s
 joining_start a s told = record {
   taken = [];
   left = a.bytes;
-  is_left = told.0;
   rest = refl;
   lines = refl;
   joined = refl;
@@ -251,21 +253,22 @@ joining_start a s told = record {
   shown = λ some. absurd (some refl);
   first = λ e. refl;
   used = [];
-  joins = refl;
+  moves = moves_none a s told.0;
   ends = inr (record { ends = inl refl; lines = λ more. refl });
-  reads = omega arith;
 }
 
--- where nothing is in the line buffer, no text was taken, and the walk is outside
-pub joining_empty : (a : Ahead) (s : InputState) (text : List ℕ) → text ≡ [] → IsTold s.left a →
-    Joining a s (chars text) Outside s
-joining_empty a s text empty told =
-    subst (λ seen. Joining a s seen Outside s) (sym (ap chars empty ∙ chars-nil)) (joining_start a s told)
+-- where nothing is in the line buffer, no text was taken and none is counted, and the walk is outside
+pub joining_empty : (a : Ahead) (s : InputState) (text : List ℕ) (before : ℕ) → text ≡ [] → IsTold s.left a →
+    (j : Joining a s (chars text) Outside s) × Counts before (length j.taken) before
+unfolding joining_start
+joining_empty a s text before empty told =
+    subst (λ seen. (j : Joining a s seen Outside s) × Counts before (length j.taken) before)
+    (sym (ap chars empty ∙ chars-nil)) (joining_start a s told, counts_none before)
 
 -- where the input tells what it has left, it does so behind the texts that were taken
 pub joining_told : (a : Ahead) (s t : InputState) (seen : List ℕ) (m : LineMode) → IsTold s.left a →
     (j : Joining a s seen m t) → IsTold t.left (record { bytes = j.left; fault = a.fault })
-joining_told a s t seen m told j = (j.is_left, told.1)
+joining_told a s t seen m told j = (j.moves.is_left, told.1)
 
 -- what follows the element behind the first n is what follows the first n and one more
 drop_one : {A : Type 0} (n : ℕ) (xs : List A) (y : A) (ys : List A) → y ∷ ys ≡ drop n xs → ys ≡ drop (suc n) xs
@@ -278,8 +281,8 @@ chars_some : (line : List ℕ) → IsUtf8 line → line ≢ [] → chars line �
 chars_some line u some h = some (sym (encodes-chars line u) ∙ ap encode_utf8_all h)
 
 -- the text of a line in UTF-8 is its characters
-text_of : (line : List ℕ) → IsUtf8 line → line_text line ≡ Some (chars line)
-text_of line u = ap (λ b. cond b (Some (chars line)) None) (is_utf8-from_IsUtf8 line u)
+text_is : (line : List ℕ) → IsUtf8 line → line_text line ≡ Some (chars line)
+text_is line u = ap (λ b. cond b (Some (chars line)) None) (is_utf8-from_IsUtf8 line u)
 
 -- a line that isn't UTF-8 has no text
 no_text : (line : List ℕ) → ¬ (IsUtf8 line) → line_text line ≡ None
@@ -310,9 +313,9 @@ record Next (a : Ahead) (taken : List (List ℕ)) (line left : List ℕ) (v : In
   ends : IsAtEnd a.fault left v ⊎ (is_whole_line line ≡ true)
 
 -- a line taken behind texts that go on is the next physical line, and those behind it are left
-next_of : (a : Ahead) (s t v : InputState) (seen line : List ℕ) (m : LineMode) → line ≢ [] →
+stands_next : (a : Ahead) (s t v : InputState) (seen line : List ℕ) (m : LineMode) → line ≢ [] →
     (j : Joining a s seen m t) → (k : TakesLine (ahead_of j.left a.fault) t line v) → Next a j.taken line k.left v
-next_of a s t v seen line m some j k =
+stands_next a s t v seen line m some j k =
     let p = parts (ahead_of j.left a.fault) t v line some k in record {
       rest = drop_one (length j.taken) (physical_lines a.bytes) line (physical_lines k.left) (sym p.bytes ∙ j.rest);
       lines = j.lines ∙ ap (λ ls. map Some j.taken ++ ls) p.texts;
@@ -357,10 +360,10 @@ among : (a : Ahead) (s t v : InputState) (seen line : List ℕ) (m : LineMode) �
     (j : Joining a s seen m t) → (k : TakesLine (ahead_of j.left a.fault) t line v) →
     Among a seen j.taken line k.left v
 among a s t v seen line m some u j k =
-    let n = next_of a s t v seen line m some j k in
+    let n = stands_next a s t v seen line m some j k in
     let ls = whole_lines (ahead_of k.left a.fault) in
     let e : whole_lines a ≡ map Some j.taken ++ Some (chars line) ∷ ls =
-    n.lines ∙ ap (λ l. map Some j.taken ++ l ∷ ls) (text_of line u) in
+    n.lines ∙ ap (λ l. map Some j.taken ++ l ∷ ls) (text_is line u) in
     record {
       rest = n.rest;
       lines = e;
@@ -388,7 +391,7 @@ more_whole : (used line : List ℕ) (taken : List (List ℕ)) (seen : List ℕ) 
 more_whole used line taken seen u w h = record {
   ends = inr (ends_join seen (chars line) (whole_ends (chars line) (whole_chars line (is_utf8-from_IsUtf8 line u) w)));
   lines = λ more. ap lines_so_far (append_assoc used line more) ∙ h.lines (line ++ more)
-      ∙ ap (λ ls. map Some taken ++ ls) (lines_first line more w ∙ ap (λ l. l ∷ lines_so_far more) (text_of line u))
+      ∙ ap (λ ls. map Some taken ++ ls) (lines_first line more w ∙ ap (λ l. l ∷ lines_so_far more) (text_is line u))
       ∙ one_more taken (chars line) (lines_so_far more);
 }
 
@@ -396,7 +399,7 @@ more_whole used line taken seen u w h = record {
 whole_so_far : (a : Ahead) (s t v : InputState) (seen line : List ℕ) (m : LineMode) → line ≢ [] →
     (j : Joining a s seen m t) → TakesLine (ahead_of j.left a.fault) t line v → AreWhole j.used j.taken seen
 whole_so_far a s t v seen line m some j k =
-    elim j.ends [ inl f ↦ absurd (nothing_left line k.left some (sym k.joins ∙ f.1)) | inr h ↦ h ]
+    elim j.ends [ inl f ↦ absurd (nothing_left line k.left some (sym k.moves.joins ∙ f.1)) | inr h ↦ h ]
 
 -- where texts were taken, they and any other lines are not none
 some_texts : (taken : List (List ℕ)) (ls : Lines) → taken ≢ [] → map Some taken ++ ls ≢ []
@@ -463,7 +466,7 @@ broken_always bytes taken m ls lines shown goes = λ more.
     )
 
 -- a line after which the walk goes on is one more text taken, and the walk goes on from its new mode
-pub joining_goes : (a : Ahead) (s t v : InputState) (seen line : List ℕ) (m n : LineMode) → line ≢ [] →
+joining_goes : (a : Ahead) (s t v : InputState) (seen line : List ℕ) (m n : LineMode) → line ≢ [] →
     IsUtf8 line → (seen ≡ [] → begins_with hash (skip_leading_whitespace (chars line)) ≡ false) →
     walk m seen (chars line) ≡ going n → (j : Joining a s seen m t) →
     TakesLine (record { bytes = j.left; fault = a.fault }) t line v → Joining a s (seen ++ chars line) n v
@@ -471,7 +474,6 @@ joining_goes a s t v seen line m n some u comment walks j k =
     let p = among a s t v seen line m some u j k in record {
       taken = j.taken ++ chars line ∷ [];
       left = k.left;
-      is_left = k.is_left;
       rest = p.rest ∙ ap (λ i. drop i (physical_lines a.bytes)) (sym (length_more j.taken (chars line)));
       lines = p.lines ∙ one_more j.taken (chars line) (whole_lines (ahead_of k.left a.fault));
       joined = ap (λ l. l ++ chars line) j.joined ∙ sym (concat_more j.taken (chars line));
@@ -484,20 +486,34 @@ joining_goes a s t v seen line m n some u comment walks j k =
           (λ e. comment (j.joined ∙ ap concat e));
       first = λ e. absurd (chars_some line u some (second_nil seen (chars line) e));
       used = j.used ++ line;
-      joins = j.joins ∙ ap (λ l. j.used ++ l) k.joins ∙ sym (append_assoc j.used line k.left);
+      moves = moves_on a s t v j.used line j.left k.left j.moves k.moves;
       ends =
           elim p.ends [
             | inl f ↦ inl f
             | inr w ↦ inr (more_whole j.used line j.taken seen u w (whole_so_far a s t v seen line m some j k))
           ];
-      reads = fits_more a (ahead_of j.left a.fault) (ahead_of k.left a.fault) s t v j.reads k.reads;
     }
+
+-- and that line is counted with those before it
+pub joining_counts : (a : Ahead) (s t v : InputState) (seen line : List ℕ) (m n : LineMode)
+    (before now after : ℕ) → line ≢ [] → IsUtf8 line →
+    (seen ≡ [] → begins_with hash (skip_leading_whitespace (chars line)) ≡ false) →
+    walk m seen (chars line) ≡ going n → (j : Joining a s seen m t) →
+    TakesLine (record { bytes = j.left; fault = a.fault }) t line v → Counts before (length j.taken) now →
+    after ≡ min (now + 1) (2 ^ 64 - 1) →
+    (k : Joining a s (seen ++ chars line) n v) × Counts before (length k.taken) after
+unfolding joining_goes
+joining_counts a s t v seen line m n before now after some u comment walks j takes counts more = (
+  joining_goes a s t v seen line m n some u comment walks j takes,
+  counts_one before (length j.taken) now after _ counts more (length_more j.taken (chars line)),
+)
 
 -- where a line ends the logical line, that is taken as the next one, with the text that is kept
 pub joining_ends : (a : Ahead) (s t v : InputState) (seen line text : List ℕ) (m : LineMode) → line ≢ [] →
     IsUtf8 line → (seen ≡ [] → begins_with hash (skip_leading_whitespace (chars line)) ≡ false) →
     walk m seen (chars line) ≡ ended text → (j : Joining a s seen m t) →
-    TakesLine (record { bytes = j.left; fault = a.fault }) t line v → TakesNext a s (Text text) v
+    TakesLine (record { bytes = j.left; fault = a.fault }) t line v →
+    TakesNext a s (Text text) (suc (length j.taken)) v
 joining_ends a s t v seen line text m some u comment walks j k =
     let p = among a s t v seen line m some u j k in
     let ls = whole_lines (ahead_of k.left a.fault) in
@@ -509,8 +525,7 @@ joining_ends a s t v seen line text m some u comment walks j k =
     let shown =
     not_skipped (whole_lines a) j.taken (chars line) ls p.lines j.shown
     (λ e. comment (j.joined ∙ ap concat e)) in
-    record {
-      count = length all;
+    subst (λ n. TakesNext a s (Text text) n v) (length_more j.taken (chars line)) (record {
       some = λ h. some_after (map Some j.taken) (Some (chars line)) ls (sym p.lines ∙ h);
       is_next =
           subst (λ l. IsNext l (length all) (Text text)) (sym e) (next-text all ls text
@@ -519,7 +534,7 @@ joining_ends a s t v seen line text m some u comment walks j k =
       open_at_end = λ h. absurd h;
       used = j.used ++ line;
       left = k.left;
-      joins = j.joins ∙ ap (λ l. j.used ++ l) k.joins ∙ sym (append_assoc j.used line k.left);
+      moves = moves_on a s t v j.used line j.left k.left j.moves k.moves;
       stays = elim p.ends [
         | inl f ↦ inl f
         | inr w ↦ inr (
@@ -536,27 +551,24 @@ joining_ends a s t v seen line text m some u comment walks j k =
       ];
       rest = p.rest ∙ ap (λ i. drop i (physical_lines a.bytes)) (sym (length_more j.taken (chars line)));
       later = sym (ap (drop (length all)) e ∙ left_after all ls);
-      is_left = k.is_left;
-      reads = fits_more a (ahead_of j.left a.fault) (ahead_of k.left a.fault) s t v j.reads k.reads;
-    }
+    })
 
 -- where the first line is a comment, it is taken as the next logical line, and skipped
 pub joining_skips : (a : Ahead) (s t v : InputState) (seen line : List ℕ) (m : LineMode) → line ≢ [] → IsUtf8 line →
     seen ≡ [] → begins_with hash (skip_leading_whitespace (chars line)) ≡ true → (j : Joining a s seen m t) →
-    TakesLine (record { bytes = j.left; fault = a.fault }) t line v → TakesNext a s Skip v
+    TakesLine (record { bytes = j.left; fault = a.fault }) t line v → TakesNext a s Skip 1 v
 joining_skips a s t v seen line m some u empty comment j k =
     let p = among a s t v seen line m some u j k in
     let ls = whole_lines (ahead_of k.left a.fault) in
     let e : whole_lines a ≡ Some (chars line) ∷ ls =
     p.lines ∙ ap (λ ts. map Some ts ++ Some (chars line) ∷ ls) (j.first empty) in
     record {
-      count = 1;
       some = λ h. some_after [] (Some (chars line)) ls (sym e ∙ h);
       is_next = subst (λ l. IsNext l 1 Skip) (sym e) (next-skip (chars line) ls comment);
       open_at_end = λ h. absurd h;
       used = j.used ++ line;
       left = k.left;
-      joins = j.joins ∙ ap (λ l. j.used ++ l) k.joins ∙ sym (append_assoc j.used line k.left);
+      moves = moves_on a s t v j.used line j.left k.left j.moves k.moves;
       stays = elim p.ends [
         | inl f ↦ inl f
         | inr w ↦ inr (
@@ -569,21 +581,18 @@ joining_skips a s t v seen line m some u empty comment j k =
       ];
       rest = p.rest ∙ ap (λ ts. drop (suc (length ts)) (physical_lines a.bytes)) (j.first empty);
       later = sym (ap (drop 1) e);
-      is_left = k.is_left;
-      reads = fits_more a (ahead_of j.left a.fault) (ahead_of k.left a.fault) s t v j.reads k.reads;
     }
 
 -- where a line isn't UTF-8, the next logical line that is taken is broken
 pub joining_breaks : (a : Ahead) (s t v : InputState) (seen line : List ℕ) (m : LineMode) → line ≢ [] →
     ¬ (IsUtf8 line) → (j : Joining a s seen m t) → TakesLine (record { bytes = j.left; fault = a.fault }) t line v →
-    TakesNext a s Broken v
+    TakesNext a s Broken (suc (length j.taken)) v
 joining_breaks a s t v seen line m some broken j k =
-    let n = next_of a s t v seen line m some j k in
+    let n = stands_next a s t v seen line m some j k in
     let ls = whole_lines (ahead_of k.left a.fault) in
     let e : whole_lines a ≡ map Some j.taken ++ None ∷ ls =
     n.lines ∙ ap (λ l. map Some j.taken ++ l ∷ ls) (no_text line broken) in
     let shown = not_skipped_broken (whole_lines a) j.taken ls e j.shown in record {
-      count = suc (length j.taken);
       some = λ h. some_after (map Some j.taken) None ls (sym e ∙ h);
       is_next = subst (λ l. IsNext l (suc (length j.taken)) Broken) (sym e)
           (next-broken j.taken ls m (subst AreCut e (cut_line_texts (whole_before a.fault a.bytes)))
@@ -591,7 +600,7 @@ joining_breaks a s t v seen line m some broken j k =
       open_at_end = λ h. absurd h;
       used = j.used ++ line;
       left = k.left;
-      joins = j.joins ∙ ap (λ l. j.used ++ l) k.joins ∙ sym (append_assoc j.used line k.left);
+      moves = moves_on a s t v j.used line j.left k.left j.moves k.moves;
       stays = elim n.ends [
         | inl f ↦ inl f
         | inr w ↦ inr (
@@ -606,8 +615,6 @@ joining_breaks a s t v seen line m some broken j k =
       ];
       rest = n.rest;
       later = sym (ap (drop (suc (length j.taken))) e ∙ left_after_broken j.taken ls);
-      is_left = k.is_left;
-      reads = fits_more a (ahead_of j.left a.fault) (ahead_of k.left a.fault) s t v j.reads k.reads;
     }
 
 -- where no whole lines are left behind the texts that were taken, they are all of them
@@ -631,13 +638,12 @@ joining_nothing a s t v seen m empty j k =
 -- where the end of input follows what was begun, the logical line that it makes of the mode is taken
 joining_end : (a : Ahead) (s t v : InputState) (seen : List ℕ) (m : LineMode) → seen ≢ [] →
     (j : Joining a s seen m t) → TakesLine (record { bytes = j.left; fault = a.fault }) t [] v →
-    TakesNext a s (at_input_end m seen) v
+    TakesNext a s (at_input_end m seen) (length j.taken) v
 joining_end a s t v seen m begun j k =
     let n = none_parts (ahead_of j.left a.fault) t v k in
     let e = all_taken a s t seen m j (ap (λ l. line_texts (whole_before a.fault l)) n.0 ∙ no_texts a.fault) in
     let some : j.taken ≢ [] = λ h. begun (j.joined ∙ ap concat h) in
     let lines : map Some j.taken ≢ [] = λ h. some (no_lines j.taken h) in record {
-      count = length j.taken;
       some = λ h. lines (sym e ∙ h);
       is_next =
           subst (λ l. IsNext l (length j.taken) (at_input_end m seen)) (sym e)
@@ -645,17 +651,15 @@ joining_end a s t v seen m begun j k =
           (at_end j.taken m lines (subst AreCut e (cut_line_texts (whole_before a.fault a.bytes)))
           (λ h. j.shown some (subst IsSkipped (sym e) h)) (subst (λ l. IsGoing l m) j.joined j.is_going)));
       open_at_end = λ h. n.2;
-      used = j.used;
+      used = j.used ++ [];
       left = k.left;
-      joins = j.joins ∙ ap (λ l. j.used ++ l) (n.0 ∙ sym n.1);
+      moves = moves_on a s t v j.used [] j.left k.left j.moves k.moves;
       stays = inl (n.2, n.1, n.3);
       rest = ap physical_lines (n.1 ∙ sym n.0) ∙ j.rest;
       later =
           ap (λ l. line_texts (whole_before a.fault l)) n.1
           ∙ no_texts a.fault
           ∙ sym (ap (drop (length j.taken)) (e ∙ sym (append-nil (map Some j.taken))) ∙ left_after j.taken []);
-      is_left = k.is_left;
-      reads = fits_more a (ahead_of j.left a.fault) (ahead_of k.left a.fault) s t v j.reads k.reads;
     }
   where
     no_lines : (ts : List (List ℕ)) → map Some ts ≡ [] → ts ≡ []
@@ -665,17 +669,21 @@ joining_end a s t v seen m begun j k =
 -- at the end of input, what was begun is a whole logical line where the walk is outside, else an open end
 joining_begun : (a : Ahead) (s t v : InputState) (text : List ℕ) (m : LineMode) → chars text ≢ [] →
     length text ≡ byte_len (chars text) → (j : Joining a s (chars text) m t) →
-    TakesLine (record { bytes = j.left; fault = a.fault }) t [] v → TakesJoined a s (begun_at_end m) text v
+    TakesLine (record { bytes = j.left; fault = a.fault }) t [] v →
+    TakesJoined a s (begun_at_end m) text (length j.taken) v
 joining_begun a s t v text Outside begun len j k = joining_end a s t v (chars text) Outside begun j k
 joining_begun a s t v text Escaping begun len j k =
-    subst (λ n. TakesNext a s (Open (chars text) n) v) (sym len) (joining_end a s t v (chars text) Escaping begun j k)
+    subst (λ n. TakesNext a s (Open (chars text) n) (length j.taken) v) (sym len)
+    (joining_end a s t v (chars text) Escaping begun j k)
 joining_begun a s t v text (Inside q) begun len j k =
-    subst (λ n. TakesNext a s (Open (chars text) n) v) (sym len) (joining_end a s t v (chars text) (Inside q) begun j k)
+    subst (λ n. TakesNext a s (Open (chars text) n) (length j.taken) v) (sym len)
+    (joining_end a s t v (chars text) (Inside q) begun j k)
 joining_begun a s t v text (InsideEscaping q) begun len j k =
-    subst (λ n. TakesNext a s (Open (chars text) n) v) (sym len)
+    subst (λ n. TakesNext a s (Open (chars text) n) (length j.taken) v) (sym len)
     (joining_end a s t v (chars text) (InsideEscaping q) begun j k)
 joining_begun a s t v text AfterBlank begun len j k =
-    subst (λ n. TakesNext a s (Open (chars text) n) v) (sym len) (joining_end a s t v (chars text) AfterBlank begun j k)
+    subst (λ n. TakesNext a s (Open (chars text) n) (length j.taken) v) (sym len)
+    (joining_end a s t v (chars text) AfterBlank begun j k)
 
 -- what ends with a line feed stands in quotes
 not_outside : (seen : List ℕ) (m : LineMode) → IsGoing seen m → ends_line seen ≡ true → m ≢ Outside
@@ -701,7 +709,7 @@ undecided seen m used front taken joined is_going shown whole none count next so
     cut : AreCut (lines_so_far (used ++ front))
     cut = cut_line_texts (up_to_last_line_feed (used ++ front))
 
-    open_next : m ≢ Outside → IsOpen next
+    open_next : m ≢ Outside → IsOpenEnd next
     open_next differs =
         let some' : taken ≢ [] = λ h. some (e ∙ ap (map Some) h) in
         let o =
@@ -711,9 +719,9 @@ undecided seen m used front taken joined is_going shown whole none count next so
         one_next (lines_so_far (used ++ front)) (length taken) count
         (Open (concat taken) (byte_len (concat taken))) next some cut
         (subst (λ l. IsNext l (length taken) (Open (concat taken) (byte_len (concat taken)))) (sym e) o) is in
-        subst IsOpen same.1 tt
+        subst IsOpenEnd same.1 tt
 
-    at : (taken ≡ []) ⊎ (ends_line seen ≡ true) → IsOpen next
+    at : (taken ≡ []) ⊎ (ends_line seen ≡ true) → IsOpenEnd next
     at (inl h) = absurd (some (e ∙ ap (map Some) h))
     at (inr h) = open_next (not_outside seen m is_going h)
 
@@ -730,7 +738,8 @@ pub joining_fails : {A : Type 0} (a : Ahead) (s t v : InputState) (seen : List �
     IsFinal a s IsUndecided e v
 joining_fails a s t v seen m e j fails =
     let b = ahead_of j.left a.fault in
-    final_before a b s t v (λ bytes. no_line_feed bytes ≡ true) IsUndecided j.used e j.joins refl j.reads
+    final_before a s t v (λ bytes. no_line_feed bytes ≡ true) IsUndecided j.used j.left e
+    j.moves.joins j.moves.reads
     (λ kind front later cut why none.
     undecided seen m j.used front j.taken j.joined j.is_going
     (λ some h.
@@ -755,7 +764,7 @@ begun_chars text u some h = some (sym (encodes-chars text u) ∙ ap encode_utf8_
 -- at the end of input, what was joined is what that makes of the text and of the mode reached
 pub joining_finish : (a : Ahead) (s t v : InputState) (text : List ℕ) (m : LineMode) → IsUtf8 text →
     (j : Joining a s (chars text) m t) → TakesLine (record { bytes = j.left; fault = a.fault }) t [] v →
-    TakesJoined a s (joined_at_end text m) text v
+    TakesJoined a s (joined_at_end text m) text (length j.taken) v
 joining_finish a s t v [] m u j k = joining_nothing a s t v (chars []) m chars-nil j k
 joining_finish a s t v (b ∷ text) m u j k =
     joining_begun a s t v (b ∷ text) m (begun_chars (b ∷ text) u (λ h. cc))
@@ -768,7 +777,6 @@ pub joining_waits : (a : Ahead) (s t v : InputState) (seen : List ℕ) (m : Line
 joining_waits a s t v seen m j same left fits = record {
   taken = j.taken;
   left = j.left;
-  is_left = left;
   rest = j.rest;
   lines = j.lines;
   joined = j.joined;
@@ -776,19 +784,42 @@ joining_waits a s t v seen m j same left fits = record {
   shown = j.shown;
   first = j.first;
   used = j.used;
-  joins = j.joins;
+  moves = moves_still a s t v j.used j.left j.moves left fits;
   ends = elim j.ends [
     | inl last ↦ inl (last.0, last.1, ap (λ u. u.at_end) (same last.2) ∙ last.2)
     | inr whole ↦ inr whole
   ];
-  reads = fits_more a (ahead_of j.left a.fault) (ahead_of j.left a.fault) s t v j.reads fits;
 }
 
+-- behind a wait, a physical line was taken: the texts taken before it, and what it makes of the logical line
+pub record LineWasTaken (a : Ahead) (s v u : InputState) (seen : List ℕ) (m : LineMode) (before : ℕ) (taken : Taken)
+    (now : List ℕ) : Type 0 where
+  pub joining : Joining a s seen m v
+  pub count : length joining.taken ≡ before
+  pub makes : LineMakes m seen (ahead_of joining.left a.fault) v taken now u
+
+-- where more was found behind the texts taken, and a line was taken, it was so behind those texts
+pub line_was_taken : {X : Ahead → Type 0} (a : Ahead) (s t v u : InputState) (seen : List ℕ) (m : LineMode)
+    (taken : Taken)
+    (now : List ℕ) → IsTold s.left a → (j : Joining a s seen m t) → (t.at_end ≡ true → v ≡ t) →
+    ((b : Ahead) → IsTold t.left b → (v.left ≡ Some b) × ReadsFit b t b v × X b) →
+    ((b : Ahead) → IsTold v.left b → LineMakes m seen b v taken now u) →
+    LineWasTaken a s v u seen m (length j.taken) taken now
+unfolding joining_waits
+line_was_taken a s t v u seen m taken now told j same finds makes =
+    let found = finds (ahead_of j.left a.fault) (joining_told a s t seen m told j) in
+    let w = joining_waits a s t v seen m j same found.0 found.1 in record {
+      joining = w;
+      count = refl;
+      makes = makes (ahead_of w.left a.fault) (joining_told a s v seen m told w);
+    }
+
 -- a fault before any byte is one before a line feed
-pub none-feeds : {A : Type 0} (a : Ahead) (s v : InputState) (e : Error A) → IsFinal a s (λ bytes. bytes ≡ []) e v →
-    IsFinal a s (λ bytes. no_line_feed bytes ≡ true) e v
+pub none-feeds : {A : Type 0} (a : Ahead) (s v : InputState) (e : Error A) →
+    IsFinal a s (λ bytes. bytes ≡ []) e v → IsFinal a s (λ bytes. no_line_feed bytes ≡ true) e v
 none-feeds a s v e fails =
-    final_before a a s s v (λ bytes. bytes ≡ []) (λ bytes. no_line_feed bytes ≡ true) [] e refl refl (omega arith)
+    final_before a s s v (λ bytes. bytes ≡ []) (λ bytes. no_line_feed bytes ≡ true) [] a.bytes e
+    refl (omega arith)
     (λ kind front later cut why none. ap no_line_feed none) fails
 
 -- where nothing is left and the end was read, a line of no bytes is taken
@@ -796,10 +827,8 @@ pub line-of-none : (b : Ahead) (s t : InputState) → t.left ≡ Some b → Read
     t.at_end ≡ true → TakesLine b s [] t
 line-of-none b s t left fits empty none at_last = record {
   left = b.bytes;
-  joins = refl;
-  is_left = left;
+  moves = record { joins = refl; is_left = left; reads = fits };
   is_line = inr (refl, empty, none, at_last);
-  reads = fits;
 }
 
 -- an input that tells what it has left, which is no bytes and no fault, has nothing left
@@ -810,69 +839,103 @@ left_at_end t left fault is all =
     is ∙ ap (λ l. Some (ahead_of l fault)) e.0 ∙ ap (λ f. Some (ahead_of [] f)) e.1
 
 -- lines whose stage is ended once all is used up, and else open, go on, or have ended with nothing left
-goes_on : (t : InputState) (stage : Stage) (used_up : Bool) (left : List ℕ) (fault : Option ErrorKind) →
-    stage ≡ cond used_up Ended stage_open → t.left ≡ Some (ahead_of left fault) →
+lines_go_on : (t : InputState) (stage : Stage) (used_up : Bool) (left : List ℕ) (fault : Option ErrorKind)
+    (taken first : ℕ) → stage ≡ cond used_up Ended stage_open → t.left ≡ Some (ahead_of left fault) →
     ((b : Ahead) → t.left ≡ Some b → used_up ≡ true → (b.bytes ≡ []) × (b.fault ≡ None)) →
-    GoesOn (record { input = t; stage = stage })
-goes_on t stage true left fault e is all = inr (e, left_at_end t left fault is (λ b h. all b h refl))
-goes_on t stage false left fault e is all = inl e
+    GoesOn (record { input = t; stage = stage; lines_taken = taken; first_line = first })
+lines_go_on t stage true left fault taken first e is all = inr (e, left_at_end t left fault is (λ b h. all b h refl))
+lines_go_on t stage false left fault taken first e is all = inl e
 
 -- the outcome of what was joined, with the stage behind it, is an answer of `advance`
-pub advanced : {A : Type 0} (a : Ahead) (s t : InputState) (joined : Joined) (text : List ℕ)
-    (r : Option (Result (Unit {0}) (Error A))) (stage : Stage) (used_up : Bool) →
-    TakesJoined a s joined text t → IsOutcome joined text r → stage ≡ stage_after joined used_up (is_refused r) →
+pub advanced : {A : Type 0} (a : Ahead) (s : LinesState) (t : InputState) (joined : Joined) (text : List ℕ)
+    (r : Option (Result (Unit {0}) (Error A))) (stage : Stage) (used_up : Bool) (count taken first : ℕ) →
+    TakesJoined a s.input joined text count t → Counts s.lines_taken count taken → Counts s.lines_taken 1 first →
+    IsOutcome joined text r → stage ≡ stage_after joined used_up (is_refused r) →
     ((b : Ahead) → t.left ≡ Some b → used_up ≡ true → (b.bytes ≡ []) × (b.fault ≡ None)) →
-    AdvanceIs a s r text (record { input = t; stage = stage })
-advanced {A} a s t Nothing text r stage used_up takes outcome e all =
+    AdvanceIs a s r text (record { input = t; stage = stage; lines_taken = taken; first_line = first })
+advanced {A} a s t Nothing text r stage used_up count taken first takes counts begins outcome e all =
     subst (λ (q : Option (Result (Unit {0}) (Error A))).
     stage ≡ stage_after Nothing used_up (is_refused q) →
-    AdvanceIs a s q text (record { input = t; stage = stage }))
+    AdvanceIs a s q text (record { input = t; stage = stage; lines_taken = taken; first_line = first }))
     (sym outcome) (λ e. (takes.0, takes.1, e)) e
-advanced {A} a s t Skipped text r stage used_up takes outcome e all =
+advanced {A} a s t Skipped text r stage used_up count taken first takes counts begins outcome e all =
     subst (λ (q : Option (Result (Unit {0}) (Error A))).
     stage ≡ stage_after Skipped used_up (is_refused q) →
-    AdvanceIs a s q text (record { input = t; stage = stage }))
-    (sym outcome) (λ e. inl (inl takes, let k = takes.1 in goes_on t stage used_up k.left a.fault e k.is_left all)) e
-advanced {A} a s t Whole text r stage used_up k outcome e all =
+    AdvanceIs a s q text (record { input = t; stage = stage; lines_taken = taken; first_line = first }))
+    (sym outcome)
+    (λ e.
+    let k = takes.1 in
+    inl (
+      count,
+      inl takes,
+      (begins, counts),
+      lines_go_on t stage used_up k.left a.fault taken first e k.moves.is_left
+          all,
+    )) e
+advanced {A} a s t Whole text r stage used_up count taken first k counts begins outcome e all =
     subst (λ (q : Option (Result (Unit {0}) (Error A))).
     stage ≡ stage_after Whole used_up (is_refused q) →
-    AdvanceIs a s q text (record { input = t; stage = stage }))
-    (sym outcome) (λ e. inl (inr k, goes_on t stage used_up k.left a.fault e k.is_left all)) e
-advanced a s t OpenEnd text None stage used_up k outcome e all = absurd outcome
-advanced a s t OpenEnd text (Some (Ok _)) stage used_up k outcome e all = absurd outcome
-advanced a s t OpenEnd text (Some (Err (LineParse found place))) stage used_up k (inl refused) e all = absurd refused
-advanced a s t OpenEnd text (Some (Err (LineParse found place))) stage used_up k (inr is) e all = inl (
-  subst (λ cs. TakesNext a s (Open cs place) t) (sym is.0)
-      (subst (λ n. TakesNext a s (Open (chars text) n) t) (sym is.1) k),
-  goes_on t stage used_up k.left a.fault e k.is_left all,
-)
-advanced a s t OpenEnd text (Some (Err (Io x))) stage used_up k outcome e all =
+    AdvanceIs a s q text (record { input = t; stage = stage; lines_taken = taken; first_line = first }))
+    (sym outcome)
+    (λ e. inl (
+      count,
+      inr k,
+      (begins, counts),
+      lines_go_on t stage used_up k.left a.fault taken first e k.moves.is_left
+          all,
+    )) e
+advanced a s t OpenEnd text None stage used_up count taken first k counts begins outcome e all = absurd outcome
+advanced a s t OpenEnd text (Some (Ok _)) stage used_up count taken first k counts begins outcome e all =
+    absurd outcome
+advanced a s t OpenEnd text (Some (Err (LineParse found place))) stage used_up count taken first k counts begins
+    (inl refused) e all = absurd refused
+advanced a s t OpenEnd text (Some (Err (LineParse found place))) stage used_up count taken first k counts begins
+    (inr is) e all = inl (
+      count,
+      subst (λ cs. TakesNext a s.input (Open cs place) count t) (sym is.0)
+          (subst (λ n. TakesNext a s.input (Open (chars text) n) count t) (sym is.1) k),
+      (begins, counts),
+      lines_go_on t stage used_up k.left a.fault taken first e k.moves.is_left all,
+    )
+advanced a s t OpenEnd text (Some (Err (Io x))) stage used_up count taken first k counts begins outcome e all =
     elim outcome [ inl f ↦ absurd f | inr f ↦ absurd f ]
-advanced a s t OpenEnd text (Some (Err (EnvVar x))) stage used_up k outcome e all =
+advanced a s t OpenEnd text (Some (Err (EnvVar x))) stage used_up count taken first k counts begins outcome e all =
     elim outcome [ inl f ↦ absurd f | inr f ↦ absurd f ]
-advanced a s t OpenEnd text (Some (Err (Nul key))) stage used_up k outcome e all =
+advanced a s t OpenEnd text (Some (Err (Nul key))) stage used_up count taken first k counts begins outcome e all =
     elim outcome [ inl f ↦ absurd f | inr f ↦ absurd f ]
-advanced a s t OpenEnd text (Some (Err (Memory m))) stage used_up k outcome e all = inr (e, inl tt)
-advanced a s t BrokenLine text None stage used_up k outcome e all = absurd outcome
-advanced a s t BrokenLine text (Some (Ok _)) stage used_up k outcome e all = absurd outcome
-advanced a s t BrokenLine text (Some (Err (LineParse found place))) stage used_up k outcome e all = absurd outcome
-advanced a s t BrokenLine text (Some (Err (Io x))) stage used_up k outcome e all =
-    inl ((outcome, k), goes_on t stage used_up k.left a.fault e k.is_left all)
-advanced a s t BrokenLine text (Some (Err (EnvVar x))) stage used_up k outcome e all = absurd outcome
-advanced a s t BrokenLine text (Some (Err (Nul key))) stage used_up k outcome e all = absurd outcome
-advanced a s t BrokenLine text (Some (Err (Memory m))) stage used_up k outcome e all = absurd outcome
+advanced a s t OpenEnd text (Some (Err (Memory m))) stage used_up count taken first k counts begins outcome e all =
+    inr (e, inl tt)
+advanced a s t BrokenLine text None stage used_up count taken first k counts begins outcome e all = absurd outcome
+advanced a s t BrokenLine text (Some (Ok _)) stage used_up count taken first k counts begins outcome e all =
+    absurd outcome
+advanced a s t BrokenLine text (Some (Err (LineParse found place))) stage used_up count taken first k counts begins
+    outcome e all = absurd outcome
+advanced a s t BrokenLine text (Some (Err (Io x))) stage used_up count taken first k counts begins outcome e all =
+    inl (
+      count,
+      (outcome, k),
+      (begins, counts),
+      lines_go_on t stage used_up k.left a.fault taken first e k.moves.is_left all,
+    )
+advanced a s t BrokenLine text (Some (Err (EnvVar x))) stage used_up count taken first k counts begins outcome e
+    all = absurd outcome
+advanced a s t BrokenLine text (Some (Err (Nul key))) stage used_up count taken first k counts begins outcome e
+    all = absurd outcome
+advanced a s t BrokenLine text (Some (Err (Memory m))) stage used_up count taken first k counts begins outcome e
+    all = absurd outcome
 
 -- a copy of the text that was left is the line
-pub copied : {A : Type 0} (a : Ahead) (s : InputState) (u : Unit {0}) (line : List ℕ) (text : String A)
+pub copied : {A : Type 0} (a : Ahead) (s : LinesState) (u : Unit {0}) (line : List ℕ) (text : String A)
     (t : LinesState) →
-    AdvanceIs {A = A} a s (Some (Ok u)) line t → string_bytes text ≡ line → NextIs {A = A} a s (Some (Ok text)) t
-copied a s u line text t (inl (inl (empty, k), goes)) same = inl (inl (same ∙ empty, k), goes)
-copied a s u line text t (inl (inr k, goes)) same =
-    inl (inr (subst (λ l. TakesNext a s (Text (chars l)) t.input) (sym same) k), goes)
+    AdvanceIs {A = A} a s (Some (Ok u)) line t → string_bytes text ≡ line → NextTextIs {A = A} a s (Some (Ok text)) t
+copied a s u line text t (inl (count, inl (empty, k), counts, goes)) same =
+    inl (count, inl (same ∙ empty, k), counts, goes)
+copied a s u line text t (inl (count, inr k, counts, goes)) same =
+    inl (count, inr (subst (λ l. TakesNext a s.input (Text (chars l)) count t.input) (sym same) k), counts, goes)
 copied a s u line text t (inr fails) same = absurd fails
 
 -- a fault that `advance` answers is that of the next line
-pub fault-stays : {A : Type 0} (a : Ahead) (s : InputState) (e : Error A) (line : List ℕ) (t : LinesState) →
-    AdvanceIs a s (Some (Err e)) line t → NextIs a s (Some (Err e)) t
+pub fault-stays : {A : Type 0} (a : Ahead) (s : LinesState) (e : Error A) (line : List ℕ) (t : LinesState) →
+    AdvanceIs a s (Some (Err e)) line t → NextTextIs a s (Some (Err e)) t
 fault-stays a s e line t (inl takes) = inl takes
 fault-stays a s e line t (inr fails) = inr fails

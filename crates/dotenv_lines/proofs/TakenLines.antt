@@ -42,18 +42,27 @@ use Rattle.dotenv_format.specs.Characters.{begins_with, hash}
 use Rattle.dotenv_format.specs.PhysicalLines.{no_line_feed, is_whole_line}
 use Rattle.dotenv_format.specs.LineModes.{walk}
 use Rattle.dotenv_base.specs.Source.{Ahead}
-use Rattle.dotenv_lines.specs.Input.{InputState, IsTold, IsFinal, ReadsFit, TakesLine}
+use Rattle.dotenv_lines.specs.Input.{InputState, IsTold, IsFinal, ReadsFit, Moves, TakesLine}
 use Rattle.dotenv_lines.specs.TakenLine.{
   Walks,
   WalksOn,
   Stands,
   TakesPiece,
-  TakesText,
+  TakesTextLine,
   LineMakes,
   at_line_end,
   starting,
 }
-use Rattle.dotenv_lines.proofs.Inputs.{ahead_of, fits_moved, fits_more, final_before, none_after, whole_after}
+use Rattle.dotenv_lines.proofs.Inputs.{
+  ahead_of,
+  moves_none,
+  moves_piece,
+  moves_on,
+  moves_still,
+  final_before,
+  none_after,
+  whole_after,
+}
 use Rattle.dotenv_lines.proofs.LinePieces.{text-behind, none-chars, some_line}
 
 -- the front of a physical line was taken, which has no line feed
@@ -61,13 +70,11 @@ pub record InLine (m : LineMode) (seen : List ℕ) (a : Ahead) (s : InputState) 
     (t : InputState) : Type 0 where
   pub front : List ℕ
   pub left : List ℕ
-  pub joins : a.bytes ≡ front ++ left
-  pub is_left : t.left ≡ Some (record { bytes = left; fault = a.fault })
+  pub moves : Moves a s front left t
   pub none : no_line_feed front ≡ true
   pub is_text : IsUtf8 front
   pub walks : Walks m seen p (chars front) text
   pub waits : front ≡ [] → 0 < t.unread
-  pub reads : ReadsFit a s (record { bytes = left; fault = a.fault }) t
 
 -- a line of which nothing was taken was walked from its start on, and leaves the text as it was
 starts_blank : (m : LineMode) (seen : List ℕ) (first : Bool) → (first ≡ true → seen ≡ []) →
@@ -90,13 +97,11 @@ pub in_line-start : (m : LineMode) (seen : List ℕ) (a : Ahead) (s : InputState
 in_line-start m seen a s first told none some waits = record {
   front = [];
   left = a.bytes;
-  joins = refl;
-  is_left = told.0;
+  moves = moves_none a s told.0;
   none = refl;
   is_text = IsUtf8-nil;
   walks = starts_blank m seen first none some;
   waits = λ e. waits;
-  reads = omega arith;
 }
 
 -- one more piece was taken
@@ -104,11 +109,9 @@ record Pieced (m : LineMode) (seen : List ℕ) (a : Ahead) (s : InputState) (p :
     (after : After) (t : InputState) : Type 0 where
   line : List ℕ
   left : List ℕ
-  joins : a.bytes ≡ line ++ left
-  is_left : t.left ≡ Some (record { bytes = left; fault = a.fault })
+  moves : Moves a s line left t
   is_text : IsUtf8 line
   walks : Walks m seen p (chars line) text
-  reads : ReadsFit a s (record { bytes = left; fault = a.fault }) t
   front : List ℕ
   piece : List ℕ
   is_line : line ≡ front ++ piece
@@ -123,17 +126,18 @@ pieced : (m : LineMode) (seen : List ℕ) (a : Ahead) (s t u : InputState) (p q 
     piece) new q) →
     Pieced m seen a s q new after u
 pieced m seen a s t u p q text new after i taken =
-    let k = taken (ahead_of i.left a.fault) i.is_left in
+    let k = taken (ahead_of i.left a.fault) i.moves.is_left in
     let piece = k.0 in
     let part = k.1 in record {
       line = i.front ++ piece;
       left = part.left;
-      joins = i.joins ∙ ap (λ l. i.front ++ l) part.joins ∙ sym (append_assoc i.front piece part.left);
-      is_left = part.is_left;
+      moves =
+          moves_on a s t u i.front piece i.left part.left i.moves
+          (moves_piece (ahead_of i.left a.fault) t u piece part.left part.joins part.is_left part.unread part.reads
+          part.at_end);
       is_text = IsUtf8-append i.front piece i.is_text part.text;
       walks = subst (λ cs. Walks m seen q cs new) (sym (chars-append i.front piece i.is_text))
           (k.2 m seen (chars i.front) (none-chars i.front i.is_text i.none) i.walks);
-      reads = fits_moved a s t u piece part.left i.left part.joins part.unread part.reads part.at_end i.reads;
       front = i.front;
       piece = piece;
       is_line = refl;
@@ -143,7 +147,7 @@ pieced m seen a s t u p q text new after i taken =
 
 -- where the line was taken as text, it makes what was walked
 made : (m : LineMode) (seen : List ℕ) (a : Ahead) (s t : InputState) (p : Progress) (line text : List ℕ) →
-    TakesText a s line t → Walks m seen p (chars line) text → LineMakes m seen a s (at_line_end p) text t
+    TakesTextLine a s line t → Walks m seen p (chars line) text → LineMakes m seen a s (at_line_end p) text t
 made m seen a s t (Blank n) line text takes (empty, blank, walks, is) =
     (line, takes, λ e. ap (begins_with hash) blank, walks, is ∙ ap (λ l. l ++ chars line) (sym empty))
 made m seen a s t (Going n) line text takes (other, walks, is) = (line, takes, λ e. (other e).0, walks, is)
@@ -163,7 +167,7 @@ in_line-ends m seen a s t u p q text new i taken =
     made m seen a s u q k.line new (record {
       some = some_line k.line whole;
       text = k.is_text;
-      takes = record { left = k.left; joins = k.joins; is_left = k.is_left; is_line = inl whole; reads = k.reads };
+      takes = record { left = k.left; moves = k.moves; is_line = inl whole };
     }) k.walks
 
 -- where the input ended in a line, the line makes what was walked
@@ -176,18 +180,16 @@ pub in_line-input-ends : (m : LineMode) (seen : List ℕ) (a : Ahead) (s t u : I
 unfolding pieced
 in_line-input-ends m seen a s t u p q text new i taken =
     let k = pieced m seen a s t u p q text new InputEnd i taken in
-    let part = (taken (ahead_of i.left a.fault) i.is_left).1 in
+    let part = (taken (ahead_of i.left a.fault) i.moves.is_left).1 in
     let none = ap no_line_feed k.is_line ∙ none_after k.front k.piece k.none k.stands.0 in
     let at_end = k.stands.3 in
     made m seen a s u q k.line new (record {
-      some = λ e. some i.front (taken (ahead_of i.left a.fault) i.is_left).0 i.waits part.unread part.stands.4 e;
+      some = λ e. some i.front (taken (ahead_of i.left a.fault) i.moves.is_left).0 i.waits part.unread part.stands.4 e;
       text = k.is_text;
       takes = record {
         left = k.left;
-        joins = k.joins;
-        is_left = k.is_left;
+        moves = k.moves;
         is_line = inr (none, k.stands.1, k.stands.2, at_end);
-        reads = k.reads;
       };
     }) k.walks
   where
@@ -206,10 +208,10 @@ pub in_line-breaks : (m : LineMode) (seen : List ℕ) (a : Ahead) (s t u v : Inp
     ((b : Ahead) → IsTold u.left b → (line : List ℕ) × TakesLine b u line v) → LineMakes m seen a s taken_broken new v
 in_line-breaks m seen a s t u v p q text new told i taken skips =
     let k = pieced m seen a s t u p q text new Broken i taken in
-    let rest = skips (ahead_of k.left a.fault) (k.is_left, told.1) in
+    let rest = skips (ahead_of k.left a.fault) (k.moves.is_left, told.1) in
     let after = rest.1 in
     let none = ap no_line_feed k.is_line ∙ none_after k.front k.piece k.none k.stands.0 in
-    let broken : ¬ (IsUtf8 rest.0) = k.stands.1 rest.0 after.left after.joins (elim after.is_line [
+    let broken : ¬ (IsUtf8 rest.0) = k.stands.1 rest.0 after.left after.moves.joins (elim after.is_line [
       | inl whole ↦ inl whole
       | inr last ↦ inr (last.0, last.1)
     ]) in
@@ -219,13 +221,11 @@ in_line-breaks m seen a s t u v p q text new told i taken skips =
       all_broken,
       record {
         left = after.left;
-        joins = k.joins ∙ ap (λ l. k.line ++ l) after.joins ∙ sym (append_assoc k.line rest.0 after.left);
-        is_left = after.is_left;
+        moves = moves_on a s u v k.line rest.0 k.left after.left k.moves after.moves;
         is_line = elim after.is_line [
           | inl whole ↦ inl (whole_after k.line rest.0 none whole)
           | inr last ↦ inr (none_after k.line rest.0 none last.0, last.1, last.2, last.3)
         ];
-        reads = fits_more a (ahead_of k.left a.fault) (ahead_of after.left a.fault) s u v k.reads after.reads;
       },
     )
 
@@ -241,9 +241,9 @@ in_line-break-fails m seen a s t u v p q text new e told i taken fails =
     let k = pieced m seen a s t u p q text new Broken i taken in
     let b = ahead_of k.left a.fault in
     let none = ap no_line_feed k.is_line ∙ none_after k.front k.piece k.none k.stands.0 in
-    final_before a b s u v (λ bytes. no_line_feed bytes ≡ true) (λ bytes. no_line_feed bytes ≡ true) k.line e
-    k.joins refl k.reads
-    (λ kind front later cut why more. none_after k.line front none more) (fails b (k.is_left, told.1))
+    final_before a s u v (λ bytes. no_line_feed bytes ≡ true) (λ bytes. no_line_feed bytes ≡ true) k.line k.left e
+    k.moves.joins k.moves.reads
+    (λ kind front later cut why more. none_after k.line front none more) (fails b (k.moves.is_left, told.1))
 
 -- where a piece was taken and more of the line is read, that piece too is of the line's front
 pub in_line-more : (m : LineMode) (seen : List ℕ) (a : Ahead) (s t u v : InputState) (p q : Progress)
@@ -256,18 +256,16 @@ pub in_line-more : (m : LineMode) (seen : List ℕ) (a : Ahead) (s t u v : Input
 unfolding pieced
 in_line-more m seen a s t u v p q text new told i taken grows more =
     let k = pieced m seen a s t u p q text new Unread i taken in
-    let part = taken (ahead_of i.left a.fault) i.is_left in
+    let part = taken (ahead_of i.left a.fault) i.moves.is_left in
     let b = ahead_of k.left a.fault in
-    let read = more b (k.is_left, told.1) in record {
+    let read = more b (k.moves.is_left, told.1) in record {
       front = k.line;
       left = k.left;
-      joins = k.joins;
-      is_left = read.0;
+      moves = moves_still a s u v k.line k.left k.moves read.0 read.1;
       none = ap no_line_feed k.is_line ∙ none_after k.front k.piece k.none k.stands.0;
       is_text = k.is_text;
       walks = k.walks;
       waits = λ e. waits i.front part.0 i.waits part.1.unread e;
-      reads = fits_more a b b s u v k.reads read.1;
     }
   where
     waits : (front piece : List ℕ) → (front ≡ [] → 0 < t.unread) → u.unread + length piece ≡ t.unread →
@@ -288,10 +286,10 @@ in_line-fails m seen a s t u v p q text new e told i taken fails =
     let k = pieced m seen a s t u p q text new Unread i taken in
     let b = ahead_of k.left a.fault in
     let none = ap no_line_feed k.is_line ∙ none_after k.front k.piece k.none k.stands.0 in
-    final_before a b s u v (λ bytes. length bytes ≡ u.unread) (λ bytes. no_line_feed bytes ≡ true) k.line e k.joins
-    refl k.reads
+    final_before a s u v (λ bytes. length bytes ≡ u.unread) (λ bytes. no_line_feed bytes ≡ true) k.line k.left e
+    k.moves.joins k.moves.reads
     (λ kind front later cut why read. none_after k.line front none (rest k.left front later cut read k.stands.1))
-    (fails b (k.is_left, told.1))
+    (fails b (k.moves.is_left, told.1))
   where
     rest : (left front later : List ℕ) → left ≡ front ++ later → length front ≡ u.unread →
         no_line_feed (take u.unread left) ≡ true → no_line_feed front ≡ true

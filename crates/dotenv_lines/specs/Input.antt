@@ -47,6 +47,10 @@ input_code =
 abbrev pub IsTold : Option Ahead → Ahead → Type 0
 IsTold left a = (left ≡ Some a) × (a.fault ≢ Some Interrupted)
 
+-- where this is left, this holds of what the source tells of it, with no interrupted read
+abbrev pub WhereTold : Option Ahead → (Ahead → Type 0) → Type 0
+WhereTold left P = (a : Ahead) → IsTold left a → P a
+
 -- all that is left was read, and no fault follows
 abbrev pub IsAllRead : Ahead → ℕ → Type 0
 IsAllRead a unread = (length a.bytes ≡ unread) × (a.fault ≡ None)
@@ -136,13 +140,17 @@ pub record MovesLine (a : Ahead) (s : InputState) (whole : Bool) (t : InputState
   pub reads : t.reads ≡ s.reads
   pub at_end : t.at_end ≡ s.at_end
 
+-- of what s has left these bytes were used, t has the others left, and the reads made fit them
+pub record Moves (a : Ahead) (s : InputState) (used left : List ℕ) (t : InputState) : Type 0 where
+  pub joins : a.bytes ≡ used ++ left
+  pub is_left : t.left ≡ Some (record { bytes = left; fault = a.fault })
+  pub reads : ReadsFit a s (record { bytes = left; fault = a.fault }) t
+
 -- the line is the first physical line of what was left, and all of it where no line feed ends it
 pub record TakesLine (a : Ahead) (s : InputState) (line : List ℕ) (t : InputState) : Type 0 where
   pub left : List ℕ
-  pub joins : a.bytes ≡ line ++ left
-  pub is_left : t.left ≡ Some (record { bytes = left; fault = a.fault })
+  pub moves : Moves a s line left t
   pub is_line : (is_whole_line line ≡ true) ⊎ ((no_line_feed line ≡ true) × (left ≡ []) × (a.fault ≡ None) × (t.at_end ≡ true))
-  pub reads : ReadsFit a s (record { bytes = left; fault = a.fault }) t
 
 -- a physical line was passed by, or a fault that is told came before a line feed
 abbrev pub SkipsLine : {A : Type 0} → Ahead → InputState → Result (Unit {0}) (Error A) → InputState → Type 0

@@ -15,7 +15,7 @@ use Rattle.dotenv_base.specs.Source.{Ahead}
 use Rattle.dotenv_format.specs.LogicalLine.{Skip, Text, Open, Broken}
 use Rattle.dotenv_base.specs.Errors.{IsIoOf, IsMemory, IsLineParseOf}
 use Rattle.dotenv_lines.specs.Input.{InputState, IsFinal, supply}
-use Rattle.dotenv_lines.specs.Lines.{TakesNext, IsUndecided}
+use Rattle.dotenv_lines.specs.Lines.{TakesNext, Counts, IsUndecided}
 
 -- what a text that was begun is at the end of input
 abbrev pub begun_at_end : LineMode → Joined
@@ -30,17 +30,19 @@ abbrev pub joined_at_end : List ℕ → LineMode → Joined
 joined_at_end [] m = Nothing
 joined_at_end (b ∷ text) m = begun_at_end m
 
--- what was joined is the next logical line, with this text
-abbrev pub TakesJoined : Ahead → InputState → Joined → List ℕ → InputState → Type 0
-TakesJoined a s Nothing text t = (a.bytes ≡ []) × (a.fault ≡ None)
-TakesJoined a s Skipped text t = (text ≡ []) × TakesNext a s Skip t
-TakesJoined a s Whole text t = TakesNext a s (Text (chars text)) t
-TakesJoined a s OpenEnd text t = TakesNext a s (Open (chars text) (length text)) t
-TakesJoined a s BrokenLine text t = TakesNext a s Broken t
+-- what was joined is the next logical line, with this text, and so many physical lines
+abbrev pub TakesJoined : Ahead → InputState → Joined → List ℕ → ℕ → InputState → Type 0
+TakesJoined a s Nothing text count t = (a.bytes ≡ []) × (a.fault ≡ None)
+TakesJoined a s Skipped text count t = (text ≡ []) × TakesNext a s Skip count t
+TakesJoined a s Whole text count t = TakesNext a s (Text (chars text)) count t
+TakesJoined a s OpenEnd text count t = TakesNext a s (Open (chars text) (length text)) count t
+TakesJoined a s BrokenLine text count t = TakesNext a s Broken count t
 
-abbrev pub JoinsNext : {A : Type 0} → Ahead → InputState → Result Joined (Error A) → List ℕ → InputState → Type 0
-JoinsNext a s (Ok joined) text t = TakesJoined a s joined text t
-JoinsNext a s (Err e) text t = IsFinal a s IsUndecided e t
+-- and those are counted, from one number to the other
+abbrev pub JoinsNext : {A : Type 0} → Ahead → InputState → ℕ → Result Joined (Error A) → List ℕ → InputState → ℕ → Type 0
+JoinsNext a s before (Ok joined) text t after =
+    (count : ℕ) × TakesJoined a s joined text count t × Counts before count after
+JoinsNext a s before (Err e) text t after = IsFinal a s IsUndecided e t
 
 -- something was used up, but at the end
 abbrev pub UsesSome : InputState → Joined → InputState → Type 0

@@ -99,7 +99,7 @@ PieceFalls s Broken t = (supply t ≤ supply s) × (0 < t.unread)
 PieceFalls s Unread t = (supply t ≤ supply s) × (t.unread < 4) × (t.at_end ≡ false)
 
 -- the first physical line of what was left was taken, and is text
-pub record TakesText (a : Ahead) (s : InputState) (line : List ℕ) (t : InputState) : Type 0 where
+pub record TakesTextLine (a : Ahead) (s : InputState) (line : List ℕ) (t : InputState) : Type 0 where
   pub some : line ≢ []
   pub text : IsUtf8 line
   pub takes : TakesLine a s line t
@@ -111,11 +111,11 @@ IsShown seen line = seen ≡ [] → begins_with hash (skip_leading_whitespace (c
 -- what the physical line that stands next makes of a logical line with the text seen, and the text then
 abbrev pub LineMakes : LineMode → List ℕ → Ahead → InputState → Taken → List ℕ → InputState → Type 0
 LineMakes m seen a s (taken_going n) now t =
-    (line : List ℕ) × TakesText a s line t × IsShown seen line × (walk m seen (chars line) ≡ going n) × (now ≡ seen ++ chars line)
+    (line : List ℕ) × TakesTextLine a s line t × IsShown seen line × (walk m seen (chars line) ≡ going n) × (now ≡ seen ++ chars line)
 LineMakes m seen a s taken_ended now t =
-    (line : List ℕ) × TakesText a s line t × IsShown seen line × (walk m seen (chars line) ≡ ended now)
+    (line : List ℕ) × TakesTextLine a s line t × IsShown seen line × (walk m seen (chars line) ≡ ended now)
 LineMakes m seen a s taken_comment now t =
-    (line : List ℕ) × TakesText a s line t × (seen ≡ []) × (begins_with hash (skip_leading_whitespace (chars line)) ≡ true)
+    (line : List ℕ) × TakesTextLine a s line t × (seen ≡ []) × (begins_with hash (skip_leading_whitespace (chars line)) ≡ true)
 LineMakes m seen a s taken_broken now t = (line : List ℕ) × (line ≢ []) × ¬ (IsUtf8 line) × TakesLine a s line t
 
 abbrev pub TakesLineOn : {A : Type 0} → LineMode → List ℕ → Ahead → InputState → Result Taken (Error A) → List ℕ → InputState → Type 0

@@ -2,7 +2,7 @@
 ghost use Rattle.std.specs.Prelude.{[], ◌≡◌, ◌≤◌, ◌<◌, ◌+◌, ◌==◌, ◌⊎◌, true, false, Some, None, IfOk, IfErr, IsOk, IsTrue, ◌↔◌, OnOk, MatchOption, MatchBool, position, nat_eq, length, take, drop, vec_len};
 ghost use Rattle.std.specs.IoError.{error_kind};
 ghost use Rattle.dotenv_base.specs.Source.{Ahead};
-ghost use Rattle.dotenv_lines.specs.Input.{IsTold, ReadsOnce, IsAllRead, used_up, supply, IsLinePiece, ReadsMore, FindsMore, MovesLine, SkipsLine, begins_mark, DropsMark, AsksOnce, AsksReads};
+ghost use Rattle.dotenv_lines.specs.Input.{WhereTold, ReadsOnce, IsAllRead, used_up, supply, IsLinePiece, ReadsMore, FindsMore, MovesLine, SkipsLine, begins_mark, DropsMark, AsksOnce, AsksReads};
 ghost use Rattle.std.specs.List.{starts_with};
 ghost use Rattle.dotenv_format.specs.PhysicalLines.{is_whole_line, no_line_feed};
 ghost use Rattle.dotenv_format.specs.Marks.{byte_order_mark};
@@ -159,8 +159,8 @@ fn read_once<R: Source, A: Allocator>(reader: &mut R, buffer: &mut Buffer<A>) ->
     requires { length buffer.old < 8192 }
     ensures bound { length buffer.new ≤ 8192 }
     ensures grows { length buffer.old ≤ length buffer.new }
-    ensures told { (a : Ahead) → IsTold (R.ahead reader.old) a →
-        ReadsOnce a buffer.old result (R.ahead reader.new) buffer.new }
+    ensures told { WhereTold (R.ahead reader.old)
+        (λ a. ReadsOnce a buffer.old result (R.ahead reader.new) buffer.new) }
     ensures asks { AsksOnce (R.calls reader.old) result (R.calls reader.new) }
 {
     match buffer.read_from(reader) {
@@ -182,7 +182,7 @@ impl<R: Source, A: Allocator> Input<R, A> {
         requires unended { self.old.at_end ≡ false }
         ensures falls { OnOk result (supply self.new < supply self.old) }
         ensures grows { self.old.unread ≤ self.new.unread }
-        ensures told { (a : Ahead) → IsTold self.old.left a → ReadsMore a self.old result self.new }
+        ensures told { WhereTold self.old.left (λ a. ReadsMore a self.old result self.new) }
         ensures asks { AsksReads (IsOk result) self.old self.new }
     {
         if self.reads_left == 0 {
@@ -207,7 +207,7 @@ impl<R: Source, A: Allocator> Input<R, A> {
         ensures falls { OnOk result (supply self.new ≤ supply self.old) }
         ensures some { IfOk result (λ more. more ≡ true → 0 < self.new.unread) }
         ensures ended { self.old.at_end ≡ true → self.new ≡ self.old }
-        ensures told { (a : Ahead) → IsTold self.old.left a → FindsMore a self.old result self.new }
+        ensures told { WhereTold self.old.left (λ a. FindsMore a self.old result self.new) }
         ensures asks { AsksReads (IsOk result) self.old self.new }
     {
         'waiting: while self.is_waiting() {
@@ -234,7 +234,7 @@ impl<R: Source, A: Allocator> Input<R, A> {
     pub fn skip_line(&mut self) -> Result<(), A>
         ensures falls { OnOk result (supply self.new ≤ supply self.old) }
         ensures some { 0 < self.old.unread → OnOk result (supply self.new < supply self.old) }
-        ensures told { (a : Ahead) → IsTold self.old.left a → SkipsLine a self.old result self.new }
+        ensures told { WhereTold self.old.left (λ a. SkipsLine a self.old result self.new) }
         ensures asks { AsksReads (IsOk result) self.old self.new }
     {
         'skipping: loop {
@@ -274,7 +274,7 @@ impl<R: Source, A: Allocator> Input<R, A> {
     // Drops a byte order mark, if the next bytes are one. Bytes that are no whole mark stay.
     pub fn drop_mark(&mut self) -> Result<(), A>
         ensures falls { OnOk result (supply self.new ≤ supply self.old) }
-        ensures told { (a : Ahead) → IsTold self.old.left a → DropsMark a self.old result self.new }
+        ensures told { WhereTold self.old.left (λ a. DropsMark a self.old result self.new) }
         ensures asks { AsksReads (IsOk result) self.old self.new }
     {
         'deciding: while self.is_undecided() {

@@ -2,12 +2,11 @@
 ghost use Rattle.std.specs.Prelude.{◌≡◌, ◌≢◌, ◌≤◌, ◌<◌, ◌^◌, ◌⊎◌, None, Ok, IfOk, IfErr, IsOk, OnOk, OnErr, IfSome, IsSome, IsTrue, ◌↔◌, length, string_bytes};
 ghost use Rattle.std.specs.Str.{chars};
 ghost use Rattle.std.specs.IoError.{error_kind};
-ghost use Rattle.dotenv_base.specs.Source.{Ahead};
 ghost use Rattle.dotenv_base.specs.Errors.{IsIoOf, IsLineParseOf, IsMemory, IsMemoryErr};
-ghost use Rattle.dotenv_lines.specs.Input.{AsksReads, IsTold, DropsMark};
-ghost use Rattle.dotenv_lines.specs.Lines.{fuel_of, NextIs};
+ghost use Rattle.dotenv_lines.specs.Input.{AsksReads, DropsMark, WhereTold};
+ghost use Rattle.dotenv_lines.specs.Lines.{fuel_of, NextTextIs, WhereOpen};
 ghost use Rattle.dotenv_lines.specs.JoinedLines.{joined_at_end, JoinsNext, UsesSome, stage_after, is_refused, IsOutcome};
-ghost use Rattle.dotenv_lines.specs.Splitter.{fresh_lines, AdvanceIs};
+ghost use Rattle.dotenv_lines.specs.Splitter.{fresh_lines, last_lines, AdvanceIs};
 
 use crate::input::Input;
 use crate::physical_line::{Taken, take_line};
@@ -44,14 +43,17 @@ fn at_input_end(text: &str, mode: LineMode) -> Joined
     }
 }
 
-// Takes physical lines until they make a logical line, whose text is left in the line buffer.
+// Takes physical lines until they make a logical line, whose text is left in the line buffer, and counts them. More
+// than 2^64 - 1 are not counted; so many reads are never made.
 fn join_lines<R: Source, A: Allocator>(
     input: &mut Input<R, A>,
     text: &mut String<A>,
+    lines_taken: &mut u64,
 ) -> Result<Joined, A>
     ensures falls { IfOk result (λ joined. UsesSome input.old joined input.new) }
-    ensures told { (a : Ahead) → IsTold input.old.left a →
-        JoinsNext a input.old result (string_bytes text.new) input.new }
+    ensures told { WhereTold input.old.left
+        (λ a. JoinsNext a input.old lines_taken.old result (string_bytes text.new) input.new
+        lines_taken.new) }
     ensures asks { AsksReads (IsOk result) input.old input.new }
 {
     text.clear();
@@ -60,7 +62,9 @@ fn join_lines<R: Source, A: Allocator>(
         if !input.has_more()? {
             return Ok(at_input_end(text.as_str(), mode));
         }
-        match take_line(input, text, mode)? {
+        let taken = take_line(input, text, mode)?;
+        *lines_taken = lines_taken.saturating_add(1);
+        match taken {
             Taken::Going(next) => mode = next,
             Taken::Ended => return Ok(Joined::Whole),
             Taken::Comment => {
@@ -85,6 +89,8 @@ pub struct Splitter<R: Source, A: Allocator> {
     input: Input<R, A>,
     stage: Stage,
     line: String<A>,
+    lines_taken: u64,
+    first_line: u64,
 }
 
 impl<R: Source, A: Allocator> Model for Splitter<R, A> {
@@ -96,7 +102,15 @@ impl<R: Source, A: Allocator> Model for Splitter<R, A> {
     ghost coded = { splitter_code };
 
     ghost view = { λ s.
-        record { lines = record { input = s.input; stage = s.stage }; line = string_bytes s.line } };
+        record {
+          lines = record {
+            input = s.input;
+            stage = s.stage;
+            lines_taken = s.lines_taken;
+            first_line = s.first_line;
+          };
+          line = string_bytes s.line;
+        } };
 }
 
 impl<R: Source, A: Allocator + Clone> Splitter<R, A> {
@@ -123,6 +137,8 @@ impl<R: Source, A: Allocator + Clone> Splitter<R, A> {
             input: Input::new(alloc, reader, reads)?,
             stage: Stage::Open,
             line,
+            lines_taken: 0,
+            first_line: 0,
         })
     }
 
@@ -149,6 +165,17 @@ impl<R: Source, A: Allocator + Clone> Splitter<R, A> {
         ensures { result.now ≡ self.now.line }
     {
         self.line.as_str()
+    }
+
+    // The first and the last physical line of the last logical line, counted from 1. Zeros before the first, and after
+    // a final fault, which stands on no line.
+    pub fn last_lines(&self) -> (u64, u64)
+        ensures { result ≡ last_lines self.now.lines }
+    {
+        match self.stage {
+            Stage::Failed => (0, 0),
+            Stage::Open | Stage::Ended => (self.first_line, self.lines_taken),
+        }
     }
 }
 
@@ -211,16 +238,16 @@ impl<R: Source, A: Allocator + Clone> Splitter<R, A> {
         ensures falls { IsSome result → fuel_of self.new.lines < fuel_of self.old.lines }
         ensures none { result ≡ None → self.new.lines.stage ≢ Stage.Open }
         ensures memory { IfSome result (λ r. IsMemoryErr r → self.new.lines.stage ≡ Stage.Failed) }
-        ensures told { (a : Ahead) → self.old.lines.stage ≡ Stage.Open →
-            IsTold self.old.lines.input.left a →
-            AdvanceIs a self.old.lines.input result self.new.line self.new.lines }
+        ensures told { WhereOpen self.old.lines
+            (λ a. AdvanceIs a self.old.lines result self.new.line self.new.lines) }
         ensures asks { AsksReads (self.new.lines.stage ≡ Stage.Open) self.old.lines.input
             self.new.lines.input }
     {
         if !self.is_open() {
             return None;
         }
-        let joined = match join_lines(&mut self.input, &mut self.line) {
+        self.first_line = self.lines_taken.saturating_add(1);
+        let joined = match join_lines(&mut self.input, &mut self.line, &mut self.lines_taken) {
             Ok(joined) => joined,
             Err(e) => {
                 self.stage = Stage::Failed;
@@ -239,9 +266,10 @@ impl<R: Source, A: Allocator + Clone> Splitter<R, A> {
         ensures falls { fuel_of self.new.lines ≤ fuel_of self.old.lines }
         ensures ok { OnOk result (self.new.lines.stage ≡ self.old.lines.stage) }
         ensures err { OnErr result (self.new.lines.stage ≡ Stage.Failed) }
-        ensures told { (a : Ahead) → self.old.lines.stage ≡ Stage.Open →
-            IsTold self.old.lines.input.left a →
-            DropsMark a self.old.lines.input result self.new.lines.input }
+        ensures counts { (self.new.lines.lines_taken ≡ self.old.lines.lines_taken)
+            × (self.new.lines.first_line ≡ self.old.lines.first_line) }
+        ensures told { WhereOpen self.old.lines
+            (λ a. DropsMark a self.old.lines.input result self.new.lines.input) }
         ensures asks { AsksReads (self.new.lines.stage ≡ Stage.Open) self.old.lines.input
             self.new.lines.input }
     {
@@ -294,8 +322,7 @@ impl<R: Source, A: Allocator + Clone> QuotedLines<R, A> {
         ensures falls { IsSome result → fuel_of self.new < fuel_of self.old }
         ensures none { result ≡ None → self.new.stage ≢ Stage.Open }
         ensures memory { IfSome result (λ r. IsMemoryErr r → self.new.stage ≡ Stage.Failed) }
-        ensures told { (a : Ahead) → self.old.stage ≡ Stage.Open → IsTold self.old.input.left a →
-            NextIs a self.old.input result self.new }
+        ensures told { WhereOpen self.old (λ a. NextTextIs a self.old result self.new) }
         ensures asks { AsksReads (self.new.stage ≡ Stage.Open) self.old.input self.new.input }
     {
         match self.splitter.advance()? {
@@ -310,6 +337,3 @@ impl<R: Source, A: Allocator + Clone> QuotedLines<R, A> {
         }
     }
 }
-
-#[cfg(test)]
-mod tests;

@@ -5,9 +5,9 @@ ghost use Rattle.dotenv_base.specs.Source.{Ahead};
 ghost use Rattle.dotenv_format.specs.Characters.{begins_with, hash};
 ghost use Rattle.dotenv_format.specs.PhysicalLines.{no_line_feed};
 ghost use Rattle.dotenv_format.specs.LogicalLine.{without_carriage_return};
-ghost use Rattle.dotenv_format.specs.LineModes.{kept};
+ghost use Rattle.dotenv_format.specs.LineModes.{kept_before};
 ghost use Rattle.dotenv_base.specs.Errors.{IsMemory};
-ghost use Rattle.dotenv_lines.specs.Input.{AsksReads, IsTold, supply};
+ghost use Rattle.dotenv_lines.specs.Input.{AsksReads, WhereTold, supply};
 ghost use Rattle.dotenv_lines.specs.TakenLine.{IsTextFront, PieceFalls, TakesLineOn, TakesPiece, WalksFrom, WalksOn, after_text, at_line_end, starting, still_blank};
 
 use crate::input::Input;
@@ -95,7 +95,7 @@ fn drop_carriage_return<A: Allocator>(text: &mut String<A>)
 // Adds to a logical line what it keeps of its last physical line, where `end` ends it.
 fn keep_front<A: Allocator>(text: &mut String<A>, front: &str, end: char) -> Result<(), A>
     ensures kept { OnOk result (chars (string_bytes text.new)
-        ≡ kept end (chars (string_bytes text.old) ++ chars front.now)) }
+        ≡ kept_before end (chars (string_bytes text.old) ++ chars front.now)) }
     ensures memory { IfErr result IsMemory }
 {
     text.push_str(front)?;
@@ -219,9 +219,9 @@ pub fn take_line<R: Source, A: Allocator>(
 ) -> Result<Taken, A>
     requires { 0 < input.old.unread }
     ensures falls { OnOk result (supply input.new < supply input.old) }
-    ensures told { (a : Ahead) → IsTold input.old.left a →
-        TakesLineOn mode (chars (string_bytes text.old)) a input.old result
-        (chars (string_bytes text.new)) input.new }
+    ensures told { WhereTold input.old.left
+        (λ a. TakesLineOn mode (chars (string_bytes text.old)) a input.old result
+        (chars (string_bytes text.new)) input.new) }
     ensures asks { AsksReads (IsOk result) input.old input.new }
 {
     let mut progress = starting(mode, text.is_empty());

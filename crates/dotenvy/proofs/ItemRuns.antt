@@ -40,7 +40,7 @@ use Rattle.dotenv_lines.specs.declared.lines.Stage.TheVariants.{Open, Ended, Fai
 use Rattle.dotenv_format.specs.Entries.{Entry, Declares, Fails}
 use Rattle.dotenv_format.specs.Items.{LookUp, no_values, meaning, or_else, with_value, items_from, items, text_of}
 use Rattle.dotenv_base.specs.Environment.{Texts}
-use Rattle.dotenvy.specs.Names.{values_of, recalled_of}
+use Rattle.dotenvy.specs.Meaning.{values_of, recalled_of}
 use Rattle.std.specs.IoError.{error_kind}
 use Rattle.dotenv_format.specs.Decided.{HasDecided}
 use Rattle.dotenv_lines.specs.declared.lines.Stage.{Stage}
@@ -52,7 +52,7 @@ use Rattle.dotenv_lines.specs.Lines.{LinesState, FailsFor}
 use Rattle.dotenv_lines.specs.Reading.{HasLeft, told_fault}
 use Rattle.dotenvy.specs.Iter.{IterState, fresh}
 use Rattle.dotenvy.specs.NextItem.{IsItem, RemembersEntry, TakesEntry}
-use Rattle.dotenvy.specs.ItemRuns.{Given, GivesItems, NoneRefused, IsReadable, CanRead, SayItems, SayTheSame}
+use Rattle.dotenvy.specs.ItemRuns.{Item, GivesItems, NoneRefused, IsReadable, CanRead, SayItems, SayTheSame}
 use Rattle.dotenv_format.proofs.LoadRuns.{meaning-text, or_else-text, with_value-text}
 use Rattle.dotenv_lines.proofs.Inputs.{the_bytes, the_fault}
 use Rattle.dotenv_lines.proofs.LineEntries.{left_once, left-none, left-fault, left_exists}
@@ -71,7 +71,7 @@ items_from-texts env a b (Declares key pieces ∷ entries) same =
     (λ n. with_value-text w (a n) (b n) (bytes_eq key n) (same n)))
 
 -- an item that says an entry, before those of the later entries
-says_first : {A : Type 0} (env earlier now : LookUp) (entry : Entry) (item : Given A) (given : List (Given A))
+says_first : {A : Type 0} (env earlier now : LookUp) (entry : Entry) (item : Item A) (given : List (Item A))
     (later : List Entry) → IsItem (or_else env earlier) entry item →
     RemembersEntry (or_else env earlier) earlier now entry → SayItems given (items_from env now later) →
     SayItems (item ∷ given) (items_from env earlier (entry ∷ later))
@@ -114,7 +114,7 @@ told_last env earlier dialect a s t entries (Memory m) has few granted (inr is) 
 
 -- an item that is a fault is the last, where memory is not refused and the bound on reads not met
 fails_last : {A : Type 0} (env earlier : LookUp) (dialect : Dialect) (a : Ahead) (s : InputState)
-    (entries : List Entry) (item : Given A) (t : LinesState) → HasLeft dialect a.fault a.bytes entries →
+    (entries : List Entry) (item : Item A) (t : LinesState) → HasLeft dialect a.fault a.bytes entries →
     length a.bytes < s.reads + s.unread + end_reads s.at_end → (IsMemoryErr item → ⊥) →
     FailsFor a s item (λ bytes. HasDecided dialect bytes []) t →
     (t.stage ≡ Failed) × SayItems (item ∷ []) (items_from env earlier (entries ++ told_fault a.fault))
@@ -123,7 +123,7 @@ fails_last env earlier dialect a s entries (Err e) t has few granted fails =
     (fails.0, told_last env earlier dialect a s t.input entries e has few granted fails.1)
 
 -- an iterator that is not open gives nothing
-shut_gives : {A : Type 0} (names : Texts) (s : IterState) (given : List (Given A)) → (s.lines.stage ≡ Open → ⊥) →
+shut_gives : {A : Type 0} (names : Texts) (s : IterState) (given : List (Item A)) → (s.lines.stage ≡ Open → ⊥) →
     GivesItems names s given → given ≡ []
 shut_gives names s [] shut gives = refl
 shut_gives names s (item ∷ given) shut (t, next, later) = absurd (none-some item (sym (next.1 shut).0))
@@ -152,16 +152,16 @@ can_go_on : (names : Texts) (a : Ahead) (s t : IterState) (entries : List Entry)
     CanRead t (record { bytes = k.left; fault = a.fault })
 can_go_on names a s t entries entry can k is_open =
     let few = can.few in
-    let reads = k.reads in
+    let reads = k.moves.reads in
     record {
       is_open = is_open;
-      is_told = (k.is_left, let told = can.is_told in told.1);
+      is_told = (k.moves.is_left, let told = can.is_told in told.1);
       few = omega (arith, few, reads);
     }
 
 -- an iterator that has ended gives nothing, and nothing is left
 ended_says : {A : Type 0} (names : Texts) (s : IterState) (a : Ahead) (entries : List Entry)
-    (given : List (Given A)) → s.lines.stage ≡ Ended →
+    (given : List (Item A)) → s.lines.stage ≡ Ended →
     s.lines.input.left ≡ Some (record { bytes = []; fault = None }) → s.lines.input.left ≡ Some a →
     HasLeft s.dialect a.fault a.bytes entries → GivesItems names s given →
     SayItems given (items_from (values_of names) (recalled_of s.remembered) (entries ++ told_fault a.fault))
@@ -175,7 +175,7 @@ ended_says {A = A} names s a entries given ended empty_left is_left has gives =
 
 -- calls give the items of what is left, all and in order
 pub items_go_on : {A : Type 0} (s : IterState) (a : Ahead) (names : Texts) (entries : List Entry)
-    (given : List (Given A)) → CanRead s a → HasLeft s.dialect a.fault a.bytes entries →
+    (given : List (Item A)) → CanRead s a → HasLeft s.dialect a.fault a.bytes entries →
     GivesItems names s given → NoneRefused given →
     SayItems given (items_from (values_of names) (recalled_of s.remembered) (entries ++ told_fault a.fault))
 items_go_on {A = A} s a names entries [] can has gives granted =
@@ -191,7 +191,7 @@ items_go_on s a names entries (item ∷ given) can has (t, next, gives) granted 
     (λ is_open.
     items_go_on t left names k.later given (can_go_on names a s t entries entry can k is_open) has_left gives
     granted.1)
-    (λ ended. ended_says names t left k.later given ended.0 ended.1 k.is_left has_left gives)
+    (λ ended. ended_says names t left k.later given ended.0 ended.1 k.moves.is_left has_left gives)
     k.goes_on in
     subst
     (λ es.
@@ -202,7 +202,7 @@ items_go_on s a names entries (item ∷ given) can has (t, next, gives) granted 
     (λ fails.
     let last =
     fails_last (values_of names) (recalled_of s.remembered) s.dialect a s.lines.input entries item t.lines has
-    can.few granted.0 fails in
+    can.few granted.0 fails.0 in
     subst
     (λ others.
     SayItems (item ∷ others)
@@ -224,7 +224,7 @@ recalled-empty n =
 -- a fresh iterator gives the items of what its source tells
 pub items_in_order : {A : Type 0} (dialect : Dialect) (a : Ahead) (calls : Option (List Call)) (names : Texts)
     (entries : List Entry)
-    (given : List (Given A)) → IsReadable a → HasLeft dialect a.fault a.bytes entries →
+    (given : List (Item A)) → IsReadable a → HasLeft dialect a.fault a.bytes entries →
     GivesItems names (fresh (Some a) calls dialect) given → NoneRefused given →
     SayItems given (items (values_of names) (entries ++ told_fault a.fault))
 items_in_order dialect a calls names entries given can has gives granted =
@@ -236,7 +236,7 @@ items_in_order dialect a calls names entries given can has gives granted =
 -- two runs over what a source tells give the same items
 pub give_the_same : {A : Type 0} (dialect : Dialect) (a : Ahead) (calls other_calls : Option (List Call))
     (names : Texts)
-    (given others : List (Given A)) → IsReadable a → GivesItems names (fresh (Some a) calls dialect) given →
+    (given others : List (Item A)) → IsReadable a → GivesItems names (fresh (Some a) calls dialect) given →
     NoneRefused given →
     GivesItems names (fresh (Some a) other_calls dialect) others → NoneRefused others → SayTheSame given others
 give_the_same dialect a calls other_calls names given others can gives granted gives' granted' =

@@ -30,7 +30,7 @@ use Rattle.dotenv_base.specs.Environment.{Texts}
 use Rattle.dotenvy.specs.Remembered.{Remembered, recalled}
 use Rattle.dotenv_format.specs.Statement.{is_key}
 use Rattle.dotenv_format.specs.Items.{with_value}
-use Rattle.dotenvy.specs.Names.{by_characters, values_of}
+use Rattle.dotenvy.specs.Meaning.{by_characters, values_of}
 use Rattle.dotenvy.specs.LoadsLeft.{ChangesKeys}
 use Rattle.std.specs.declared.string.String.{String}
 use Rattle.std.proofs.lemmas.Str.{IsUtf8-string_bytes}

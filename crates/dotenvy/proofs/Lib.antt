@@ -1,4 +1,3 @@
-pub mod Writes
 pub mod WrittenBytes
 pub mod ListedLoads
 pub mod RememberedMaps

@@ -45,7 +45,7 @@ use Rattle.dotenv_format.specs.Entries.{outcome_entries}
 use Rattle.dotenv_format.specs.Items.{LookUp, meaning, with_value, text_of}
 use Rattle.dotenv_base.specs.Environment.{Texts}
 use Rattle.dotenvy.specs.Remembered.{Remembered, recalled}
-use Rattle.dotenvy.specs.Names.{names_of, recalled_of}
+use Rattle.dotenvy.specs.Meaning.{names_of, recalled_of}
 use Rattle.dotenvy.specs.ParsedLine.{IsLineAnswer, Remembers}
 use Rattle.dotenvy.specs.Iter.{IterState}
 use Rattle.dotenvy.specs.LineItem.{lines_after, AddsEntries, IsRefused, AddsLine}
@@ -132,7 +132,7 @@ lines_said (Err e) s = lines_after e s
 
 -- logical lines that have failed are what refused memory leaves of them
 pub refused_lines : {T A : Type 0} (said : Result T (Error A)) (s t : LinesState) → IsMemoryErr said →
-    t ≡ record { input = s.input; stage = Failed } → t ≡ lines_said said s
+    t ≡ record s { stage = Failed } → t ≡ lines_said said s
 refused_lines (Ok x) s t is h = absurd is
 refused_lines (Err (LineParse text index)) s t is h = absurd is
 refused_lines (Err (Io e)) s t is h = absurd is

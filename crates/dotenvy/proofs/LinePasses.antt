@@ -51,9 +51,9 @@ use Rattle.dotenv_format.specs.Value.{Piece, IsValue, unquoted}
 use Rattle.dotenv_format.specs.Places.{BeginsValue, IsPlace}
 use Rattle.dotenv_format.specs.Line.{Outcome, Pair, Fault as SaysFault, Says, is_nothing, value_index, Assigns}
 use Rattle.dotenv_format.specs.Items.{LookUp, meaning}
-use Rattle.dotenv_format.specs.ReadValue.{base, read}
+use Rattle.dotenv_format.specs.ReadValue.{base, read_value}
 use Rattle.dotenv_format.specs.NextPiece.{StopsAt}
-use Rattle.dotenvy.specs.Names.{saturated, MeansBytes, Appends}
+use Rattle.dotenvy.specs.Meaning.{saturated, MeansBytes, Appends}
 use Rattle.dotenv_format.specs.Statement.{IsStatement}
 use Rattle.dotenv_format.proofs.Basics.{not_is}
 use Rattle.dotenv_format.specs.ParseStatement.{assigns, fails, parse}
@@ -133,9 +133,9 @@ some_bytes (b ∷ text) h = omega arith
 pub means_pieces : (dialect : Dialect) (look_up : LookUp) (value : List ℕ) (len : ℕ) →
     MeansBytes dialect look_up value len →
     (pieces : List Piece) × IsValue dialect value pieces × (len ≡ saturated (byte_len (meaning look_up pieces)))
-means_pieces dialect look_up value len h = at (read dialect value (base unquoted)) refl h
+means_pieces dialect look_up value len h = at (read_value dialect value (base unquoted)) refl h
   where
-    at : (r : Option (List Piece)) → read dialect value (base unquoted) ≡ r →
+    at : (r : Option (List Piece)) → read_value dialect value (base unquoted) ≡ r →
         MatchOption r ⊥ (λ pieces. len ≡ saturated (byte_len (meaning look_up pieces))) →
         (pieces : List Piece) × IsValue dialect value pieces × (len ≡ saturated (byte_len (meaning look_up pieces)))
     at None e k = absurd k
@@ -242,7 +242,7 @@ pub assigned_bytes : (dialect : Dialect) (look_up : LookUp) (rest : List ℕ) (p
 assigned_bytes dialect look_up rest pieces value written e is =
     let some = subst (IsAssigned dialect look_up rest pieces) e is in
     subst (λ r. MatchOption r ⊥ (λ p. written.len ≡ saturated (byte_len (meaning look_up p))))
-    (sym (ap (λ t. read dialect t (base unquoted)) some.1 ∙ read-value dialect rest pieces some.2)) some.3
+    (sym (ap (λ t. read_value dialect t (base unquoted)) some.1 ∙ read-value dialect rest pieces some.2)) some.3
 
 -- what was appended of a declaration's value is the meaning of its pieces
 pub assigned_meaning : (dialect : Dialect) (look_up : LookUp) (rest : List ℕ) (pieces : List Piece)
@@ -252,7 +252,7 @@ pub assigned_meaning : (dialect : Dialect) (look_up : LookUp) (rest : List ℕ) 
 assigned_meaning dialect look_up rest pieces value written bytes e is h =
     let some = subst (IsAssigned dialect look_up rest pieces) e is in
     subst (λ r. MatchOption r ⊥ (λ p. bytes ≡ [] ++ encode_utf8_all (meaning look_up p)))
-    (ap (λ t. read dialect t (base unquoted)) some.1 ∙ read-value dialect rest pieces some.2) h
+    (ap (λ t. read_value dialect t (base unquoted)) some.1 ∙ read-value dialect rest pieces some.2) h
 
 -- the characters of a text that was spelled from characters
 pub chars-spelled : (text spelled : List ℕ) → IsUtf8 text → text ≡ encode_utf8_all spelled → chars text ≡ spelled

@@ -17,7 +17,7 @@ use Rattle.dotenv_base.specs.Errors.{IsMemory}
 use Rattle.dotenv_format.specs.Entries.{Failure, Memory, Entry, Fails}
 use Rattle.dotenv_format.specs.Items.{LookUp, no_values}
 use Rattle.dotenv_base.specs.Environment.{Texts}
-use Rattle.dotenvy.specs.Names.{values_of, recalled_of}
+use Rattle.dotenvy.specs.Meaning.{values_of, recalled_of}
 use Rattle.dotenv_base.specs.Calls.{Call}
 use Rattle.dotenv_base.specs.Source.{Ahead}
 use Rattle.dotenv_lines.specs.declared.lines.Stage.TheVariants.{Open}
@@ -26,7 +26,7 @@ use Rattle.dotenv_format.specs.Loads.{load_result}
 use Rattle.dotenvy.specs.LoadsLeft.{IsAnswer, Leaves, Rule, LoadsLeft, ChangesKeys}
 use Rattle.dotenv_format.specs.Written.{written_bytes}
 use Rattle.dotenv_base.proofs.Keys.{encodes-key}
-use Rattle.dotenvy.specs.Sent.{Writes}
+use Rattle.dotenv_base.specs.Output.{Writes}
 use Rattle.dotenv_base.specs.Environment.{AreTexts}
 use Rattle.dotenvy.specs.Listed.{HoldsLoaded, pairs_of, ListsLoaded, Lists, ListsSome}
 

@@ -33,7 +33,7 @@ use Rattle.std.specs.IoError.{error_kind}
 use Rattle.std.specs.declared.io.Error.{Error as IoError}
 use Rattle.std.proofs.lemmas.List.{append-nil}
 use Rattle.std.specs.declared.io.ErrorKind.{ErrorKind}
-use Rattle.std.specs.declared.io.ErrorKind.TheVariants.{InvalidData, Other}
+use Rattle.std.specs.declared.io.ErrorKind.TheVariants.{InvalidData, Interrupted, Other}
 use Rattle.std.proofs.lemmas.Option.{none-some}
 use Rattle.std.proofs.lemmas.Str.{chars-nil}
 use Rattle.dotenv_format.specs.declared.dialect.Dialect.{Dialect}
@@ -41,7 +41,7 @@ use Rattle.dotenv_base.specs.declared.errors.Error.{Error}
 use Rattle.dotenv_base.specs.declared.errors.Error.TheVariants as error
 use Rattle.dotenv_lines.specs.declared.lines.Stage.TheVariants.{Open, Ended}
 use Rattle.dotenv_base.specs.Errors.{IsMemory}
-use Rattle.dotenv_format.specs.LogicalLine.{Logical, Skip, Text, Open as OpenEnd, Broken, IsOpen}
+use Rattle.dotenv_format.specs.LogicalLine.{Logical, Skip, Text, Open as OpenEnd, Broken, IsOpenEnd}
 use Rattle.dotenv_format.specs.Line.{Outcome, Nothing, Says}
 use Rattle.dotenv_format.specs.Entries.{Failure, LineParse, Io, Memory, Entry, Fails, outcome_entries, Gives}
 use Rattle.dotenv_format.specs.Decided.{HasDecided}
@@ -51,12 +51,12 @@ use Rattle.dotenv_format.specs.Run.{Mode, Loaded, run}
 use Rattle.dotenv_format.specs.Loads.{SameLoad}
 use Rattle.dotenv_base.specs.Environment.{Texts}
 use Rattle.dotenvy.specs.Remembered.{Remembered}
-use Rattle.dotenvy.specs.Names.{values_of, recalled_of}
+use Rattle.dotenvy.specs.Meaning.{values_of, recalled_of}
 use Rattle.dotenv_base.specs.Source.{Ahead}
 use Rattle.dotenv_lines.specs.Input.{
   InputState,
   IsTold,
-  ReadsFit,
+  Moves,
   BoundIsMet,
   IsFinal,
   begins_mark,
@@ -69,7 +69,7 @@ use Rattle.dotenv_lines.specs.Reading.{HasLeft, told_fault, certain_bytes, Stops
 use Rattle.dotenvy.specs.LoadsLeft.{IsAnswer, Leaves, Rule, LoadsLeft}
 use Rattle.dotenvy.specs.LoadedLine.{LoadsLine}
 use Rattle.dotenvy.specs.Iter.{IterState}
-use Rattle.dotenv_lines.proofs.Inputs.{ahead_of, the_bytes, the_fault, fits_more}
+use Rattle.dotenv_lines.proofs.Inputs.{ahead_of, the_bytes, the_fault, moves_on}
 use Rattle.dotenv_lines.proofs.LineEntries.{
   left_once,
   left-none,
@@ -131,12 +131,11 @@ pub record Came (l : Load) (names : Texts) (t : IterState) : Type 0 where
   pub loaded : Done l names t.remembered
   pub used : List ℕ
   pub left : List ℕ
-  pub joins : l.ahead.bytes ≡ used ++ left
+  pub moves : Moves l.ahead l.start used left t.lines.input
   pub stays : IsAtEnd l.ahead.fault left t.lines.input ⊎ DecideDone l t loaded.done used left
-  pub is_told : IsTold t.lines.input.left (record { bytes = left; fault = l.ahead.fault })
+  pub told : l.ahead.fault ≢ Some Interrupted
   pub has_left : HasLeft t.dialect l.ahead.fault left loaded.later
   pub goes_on : GoesOn t.lines
-  pub reads : ReadsFit l.ahead l.start (record { bytes = left; fault = l.ahead.fault }) t.lines.input
 
 -- a load of what s has left came to t, whatever s is told
 abbrev pub CameTo : Mode → IterState → Texts → Texts → IterState → Type 0
@@ -233,23 +232,24 @@ came_open l names t line k shut = elim k.goes_on [
 ]
 
 -- where a line is taken, the bytes that were used before it decide the entries that are done
-decided_so_far : (l : Load) (names : Texts) (t : IterState) (next : Logical) (m : InputState) →
-    (k : Came l names t) → TakesNext (record { bytes = k.left; fault = l.ahead.fault }) t.lines.input next m →
+decided_so_far : {count : ℕ} (l : Load) (names : Texts) (t : IterState) (next : Logical) (m : InputState) →
+    (k : Came l names t) → TakesNext (record { bytes = k.left; fault = l.ahead.fault }) t.lines.input next count m →
     DecideDone l t k.loaded.done k.used k.left
 decided_so_far l names t next m k takes =
     elim k.stays [ inl ended ↦ absurd (takes.some (no_lines l.ahead.fault k.left ended.1)) | inr decide ↦ decide ]
 
 -- with one more logical line that is no open end, the bytes used decide its entries too
-decide_more : (l : Load) (t u : IterState) (done front : List Entry) (used left : List ℕ) (next : Logical)
+decide_more : {count : ℕ} (l : Load) (t u : IterState) (done front : List Entry) (used left : List ℕ) (next : Logical)
     (m : InputState) → DecideDone l t done used left →
-    (k : TakesNext (record { bytes = left; fault = l.ahead.fault }) t.lines.input next m) →
-    (IsOpen next → ⊥) → IsNextAlways k.used k.count next → Gives t.dialect next front → u.dialect ≡ t.dialect →
+    (k : TakesNext (record { bytes = left; fault = l.ahead.fault }) t.lines.input next count m) →
+    (IsOpenEnd next → ⊥) → IsNextAlways k.used count next → Gives t.dialect next front → u.dialect ≡ t.dialect →
     DecideDone l u (done ++ front) (used ++ k.used) k.left
-decide_more l t u done front used left next m decide k no_open always gives dialect more rest decided cut has =
-    let first = decided-next t.dialect k.used more k.count next front decided no_open always gives
+decide_more {count = count} l t u done front used left next m decide k no_open always gives dialect more rest
+    decided cut has =
+    let first = decided-next t.dialect k.used more count next front decided no_open always gives
     (subst (λ d. HasDecided d more decided) dialect has) in
     let all = decide (k.used ++ more) rest (front ++ decided)
-    (k.joins ∙ ap (λ bytes. k.used ++ bytes) cut ∙ sym (append_assoc k.used more rest)) first in
+    (k.moves.joins ∙ ap (λ bytes. k.used ++ bytes) cut ∙ sym (append_assoc k.used more rest)) first in
     subst (λ bytes. HasDecided l.dialect (without_mark bytes) ((done ++ front) ++ decided))
     (sym (append_assoc used k.used more))
     (subst (HasDecided l.dialect (without_mark (used ++ (k.used ++ more)))) (sym (append_assoc done front decided)) all)
@@ -269,9 +269,10 @@ more_done l names new recall now front later k first same = record {
 }
 
 -- a line that a load came through leads on
-came_on : (l : Load) (names new : Texts) (t u : IterState) (next : Logical) (front : List Entry) →
+came_on : {count : ℕ} (l : Load) (names new : Texts) (t u : IterState) (next : Logical) (front : List Entry) →
     (k : Came l names t) →
-    TakesNext (record { bytes = k.left; fault = l.ahead.fault }) t.lines.input next u.lines.input → GoesOn u.lines →
+    TakesNext (record { bytes = k.left; fault = l.ahead.fault }) t.lines.input next count u.lines.input →
+    GoesOn u.lines →
     u.dialect ≡ t.dialect → Gives t.dialect next front →
     ((more : List Entry) → SameLoad (run_on l names t.remembered (front ++ more)) (run_on l new u.remembered more)) →
     Came l new u
@@ -283,24 +284,24 @@ came_on l names new t u next front k takes goes_on dialect gives same =
       loaded = more_done l names new t.remembered u.remembered front own.0 k.loaded own.2 same;
       used = k.used ++ takes.used;
       left = takes.left;
-      joins = k.joins ∙ ap (λ bytes. k.used ++ bytes) takes.joins ∙ sym (append_assoc k.used takes.used takes.left);
+      moves =
+          moves_on l.ahead l.start t.lines.input u.lines.input k.used takes.used k.left takes.left k.moves
+          takes.moves;
       stays = elim takes.stays [
         | inl ended ↦ inl ended
         | inr always ↦ inr (decide_more l t u k.loaded.done front k.used k.left next u.lines.input
             (decided_so_far l names t next u.lines.input k takes) takes always.0 always.1 gives dialect)
       ];
-      is_told = (takes.is_left, k.is_told.1);
+      told = k.told;
       has_left = subst (λ d. HasLeft d l.ahead.fault takes.left own.0) (sym dialect) own.1;
       goes_on = goes_on;
-      reads =
-          fits_more l.ahead (ahead_of k.left l.ahead.fault) (ahead_of takes.left l.ahead.fault) l.start
-          t.lines.input u.lines.input k.reads takes.reads;
     }
 
 -- where a line stops a load, the load ends with what the line leaves
-ends_line : {A : Type 0} (l : Load) (names new : Texts) (t : IterState) (m : InputState) (next : Logical)
+ends_line : {A : Type 0} {count : ℕ} (l : Load) (names new : Texts) (t : IterState) (m : InputState) (next : Logical)
     (front : List Entry) (failure : Failure) (answer : Result (Unit {0}) (Error A)) → (k : Came l names t) →
-    TakesNext (record { bytes = k.left; fault = l.ahead.fault }) t.lines.input next m → Gives t.dialect next front →
+    TakesNext (record { bytes = k.left; fault = l.ahead.fault }) t.lines.input next count m →
+    Gives t.dialect next front →
     (run_on l names t.remembered front).answer ≡ Err failure →
     Leaves (run_on l names t.remembered front) new answer → Ends l new answer
 ends_line l names new t m next front failure answer k takes gives stops leaves =
@@ -316,7 +317,7 @@ ends_line l names new t m next front failure answer k takes gives stops leaves =
 -- no line ends a load
 ends_none : {A : Type 0} (l : Load) (names : Texts) (t : IterState) (m : LinesState) (text : List ℕ) →
     Came l names t →
-    ((a : Ahead) → t.lines.stage ≡ Open → IsTold t.lines.input.left a → AdvanceIs {A = A} a t.lines.input None text m) →
+    ((a : Ahead) → t.lines.stage ≡ Open → IsTold t.lines.input.left a → AdvanceIs {A = A} a t.lines None text m) →
     Ends {A = A} l names (Ok tt)
 ends_none {A = A} l names t m text k next =
     let rest = at k.goes_on in
@@ -338,9 +339,9 @@ ends_none {A = A} l names t m text k next =
 
     at : GoesOn t.lines → (k.loaded.later ≡ []) × (l.ahead.fault ≡ None)
     at (inl opened) =
-        let is = next (ahead_of k.left l.ahead.fault) opened k.is_told in
+        let is = next (ahead_of k.left l.ahead.fault) opened (k.moves.is_left, k.told) in
         nothing k.left l.ahead.fault refl is.0 is.1
-    at (inr ended) = nothing [] None (sym k.is_told.0 ∙ ended.1) refl refl
+    at (inr ended) = nothing [] None (sym k.moves.is_left ∙ ended.1) refl refl
 
 -- where the bound on reads is met after what came, the reading stops there
 bound_stops : (l : Load) (names : Texts) (t : IterState) (v : InputState) (k : Came l names t) →
@@ -349,11 +350,11 @@ bound_stops : (l : Load) (names : Texts) (t : IterState) (v : InputState) (k : C
 bound_stops l names t v k met = record {
   bytes = k.used ++ met.front;
   later = met.later;
-  cut = k.joins ∙ ap (λ bytes. k.used ++ bytes) met.cut ∙ sym (append_assoc k.used met.front met.later);
+  cut = k.moves.joins ∙ ap (λ bytes. k.used ++ bytes) met.cut ∙ sym (append_assoc k.used met.front met.later);
   each_gave =
       let each = met.each_gave in
-      let reads = k.reads in
-      let all = ap length k.joins in
+      let reads = k.moves.reads in
+      let all = ap length k.moves.joins in
       omega (arith, each, reads, all, length-append k.used k.left, length-append k.used met.front);
   decided = k.loaded.done;
   has_decided = elim k.stays [
@@ -371,40 +372,42 @@ bound_stops l names t v k met = record {
 -- a fault in the place of a line ends a load
 ends_fault : {A : Type 0} (l : Load) (names : Texts) (t : IterState) (m : LinesState) (text : List ℕ) (e : Error A) →
     (k : Came l names t) →
-    AdvanceIs {A = A} (record { bytes = k.left; fault = l.ahead.fault }) t.lines.input (Some (Err e)) text m →
+    AdvanceIs {A = A} (record { bytes = k.left; fault = l.ahead.fault }) t.lines (Some (Err e)) text m →
     Ends l names (Err e)
 ends_fault l names t m text e k (inr (failed, final)) =
     ends_final l (ahead_of k.left l.ahead.fault) t.lines.input m.input IsUndecided names t.remembered e k.loaded refl
     (λ kind told none. left-fault t.dialect l.ahead.fault kind k.left k.loaded.later told k.has_left
     (decided-none t.dialect k.left none)) (bound_stops l names t m.input k) final
-ends_fault l names t m line (error.LineParse text index) k (inl (takes, goes_on)) =
+ends_fault l names t m line (error.LineParse text index) k (inl (count, takes, counts, goes_on)) =
     let failure = LineParse (chars (string_bytes text)) index in
     ends_line l names names t m.input (OpenEnd (chars (string_bytes text)) index) (Fails failure ∷ []) failure
     (Err (error.LineParse text index)) k takes refl refl (record { values = λ n. refl; is_answer = (refl, refl) })
-ends_fault l names t m line (error.Io x) k (inl (takes, goes_on)) =
+ends_fault l names t m line (error.Io x) k (inl (count, takes, counts, goes_on)) =
     ends_line l names names t m.input Broken (Fails (Io InvalidData) ∷ []) (Io InvalidData)
     (Err (error.Io x)) k takes.1 refl refl (record { values = λ n. refl; is_answer = takes.0 })
-ends_fault l names t m line (error.EnvVar x) k (inl (takes, goes_on)) = absurd takes
-ends_fault l names t m line (error.Nul x) k (inl (takes, goes_on)) = absurd takes
-ends_fault l names t m line (error.Memory x) k (inl (takes, goes_on)) = absurd takes
+ends_fault l names t m line (error.EnvVar x) k (inl (count, takes, counts, goes_on)) = absurd takes
+ends_fault l names t m line (error.Nul x) k (inl (count, takes, counts, goes_on)) = absurd takes
+ends_fault l names t m line (error.Memory x) k (inl (count, takes, counts, goes_on)) = absurd takes
 
 -- the logical line that a text is, and that it gives what the text says
-record TakesText (dialect : Dialect) (a : Ahead) (s : InputState) (text : List ℕ) (outcome : Outcome)
+record TakesSaying (dialect : Dialect) (a : Ahead) (s : InputState) (text : List ℕ) (outcome : Outcome)
     (m : LinesState) : Type 0 where
   next : Logical
-  takes : TakesNext a s next m.input
+  count : ℕ
+  takes : TakesNext a s next count m.input
   gives : Gives dialect next (outcome_entries outcome)
   goes_on : GoesOn m
 
 -- a text that the splitter answers is that of a logical line taken, which gives what the text says
-takes_line : (A : Type 0) (dialect : Dialect) (a : Ahead) (s : InputState) (text : List ℕ) (outcome : Outcome)
+takes_line : (A : Type 0) (dialect : Dialect) (a : Ahead) (s : LinesState) (text : List ℕ) (outcome : Outcome)
     (m : LinesState) → AdvanceIs {A = A} a s (Some (Ok tt)) text m → Says dialect (chars text) outcome →
-    TakesText dialect a s text outcome m
+    TakesSaying dialect a s.input text outcome m
 takes_line A dialect a s text outcome m (inr fails) says = absurd fails
-takes_line A dialect a s text outcome m (inl (inr takes, goes_on)) says =
-    record { next = Text (chars text); takes = takes; gives = (outcome, says, refl); goes_on = goes_on }
-takes_line A dialect a s text outcome m (inl (inl (empty, takes), goes_on)) says = record {
+takes_line A dialect a s text outcome m (inl (count, inr takes, counts, goes_on)) says =
+    record { next = Text (chars text); count = count; takes = takes; gives = (outcome, says, refl); goes_on = goes_on }
+takes_line A dialect a s text outcome m (inl (count, inl (empty, takes), counts, goes_on)) says = record {
   next = Skip;
+  count = count;
   takes = takes;
   gives = ap outcome_entries
       (one_outcome dialect [] outcome Nothing
@@ -419,12 +422,12 @@ went_well A (Err failure) is = absurd is
 
 -- a line that was loaded leads on
 line_leads : {A : Type 0} (l : Load) (names new : Texts) (t u : IterState) (text : List ℕ) → (k : Came l names t) →
-    AdvanceIs {A = A} (record { bytes = k.left; fault = l.ahead.fault }) t.lines.input (Some (Ok tt)) text u.lines →
+    AdvanceIs {A = A} (record { bytes = k.left; fault = l.ahead.fault }) t.lines (Some (Ok tt)) text u.lines →
     LoadsLine {A = A} l.mode t.dialect t.remembered (chars text) names (Ok tt) new →
     u.remembered ≡ t.remembered → u.dialect ≡ t.dialect → Came l new u
 line_leads l names new t u text k next (inl refused) recall dialect = absurd refused.0
 line_leads {A = A} l names new t u text k next (inr (outcome, says, leaves)) recall dialect =
-    let line = takes_line A t.dialect (ahead_of k.left l.ahead.fault) t.lines.input text outcome u.lines next says in
+    let line = takes_line A t.dialect (ahead_of k.left l.ahead.fault) t.lines text outcome u.lines next says in
     let through = went_well A (run_on l names t.remembered (outcome_entries outcome)).answer leaves.is_answer in
     came_on l names new t u line.next (outcome_entries outcome) k line.takes line.goes_on dialect line.gives
     (λ more. subst (λ r. SameLoad (run_on l names t.remembered (outcome_entries outcome ++ more))
@@ -435,17 +438,17 @@ line_leads {A = A} l names new t u text k next (inr (outcome, says, leaves)) rec
 -- a line that is a fault, or of which a value is one, ends a load
 line_ends : {A : Type 0} (l : Load) (names new : Texts) (t : IterState) (m : LinesState) (text : List ℕ)
     (e : Error A) → (k : Came l names t) →
-    AdvanceIs {A = A} (record { bytes = k.left; fault = l.ahead.fault }) t.lines.input (Some (Ok tt)) text m →
+    AdvanceIs {A = A} (record { bytes = k.left; fault = l.ahead.fault }) t.lines (Some (Ok tt)) text m →
     LoadsLine l.mode t.dialect t.remembered (chars text) names (Err e) new → Ends l new (Err e)
 line_ends l names new t m text e k next (inl (refused, same)) =
     subst (λ n. Ends l n (Err e)) (sym same) (ends_memory l names t.remembered e k.loaded refused)
 line_ends {A = A} l names new t m text e k next (inr (outcome, says, leaves)) =
-    let line = takes_line A t.dialect (ahead_of k.left l.ahead.fault) t.lines.input text outcome m next says in
+    let line = takes_line A t.dialect (ahead_of k.left l.ahead.fault) t.lines text outcome m next says in
     let loaded = run_on l names t.remembered (outcome_entries outcome) in
     at loaded.answer refl leaves.is_answer line
   where
     at : (said : Result (Unit {0}) Failure) → (run_on l names t.remembered (outcome_entries outcome)).answer ≡ said →
-        IsAnswer said (Err e) → TakesText t.dialect (ahead_of k.left l.ahead.fault) t.lines.input text outcome m →
+        IsAnswer said (Err e) → TakesSaying t.dialect (ahead_of k.left l.ahead.fault) t.lines.input text outcome m →
         Ends l new (Err e)
     at (Ok done) stops is line = absurd is
     at (Err failure) stops is line =
@@ -472,14 +475,13 @@ came_start A mode s t old stage recall dialect drops opened a told entries has =
       };
       used = m.used;
       left = without_mark a.bytes;
-      joins = m.joins;
+      moves = record { joins = m.joins; is_left = d.0; reads = d.1 };
       stays = inr (λ more rest decided cut has'.
           subst (λ bytes. HasDecided s.dialect bytes decided) (sym (m.stays more rest cut))
           (subst (λ e. HasDecided e more decided) dialect has'));
-      is_told = (d.0, told.1);
+      told = told.1;
       has_left = subst (λ e. HasLeft e a.fault (without_mark a.bytes) entries) (sym dialect) has;
       goes_on = inl (stage ∙ opened);
-      reads = d.1;
     }
 
 -- a fault before the mark is decided ends a load
@@ -506,16 +508,16 @@ ends_mark mode s v old a entries e has drops =
 pub came_line : {A : Type 0} (mode : Mode) (s t u : IterState) (old names new : Texts)
     (line : Result (Unit {0}) (Error A)) (text : List ℕ) → CameTo mode s old names t → line ≡ Ok tt →
     (t.lines.stage ≢ Open → ◌≡◌ {A = Option (Result (Unit {0}) (Error A))} (Some line) None) →
-    ((a : Ahead) → t.lines.stage ≡ Open → IsTold t.lines.input.left a → AdvanceIs a t.lines.input (Some
+    ((a : Ahead) → t.lines.stage ≡ Open → IsTold t.lines.input.left a → AdvanceIs a t.lines (Some
     line) text u.lines) →
     LoadsLine {A = A} mode t.dialect t.remembered (chars text) names (Ok tt) new →
     u.remembered ≡ t.remembered → u.dialect ≡ t.dialect → CameTo mode s old new u
 came_line {A = A} mode s t u old names new line text came is shut next loads recall dialect opened a told entries has =
     let l = load_of mode s old a entries in
     let k = came opened a told entries has in
-    let given = next (ahead_of k.left a.fault) (came_open l names t line k shut) k.is_told in
+    let given = next (ahead_of k.left a.fault) (came_open l names t line k shut) (k.moves.is_left, k.told) in
     line_leads l names new t u text k
-    (subst (λ r. AdvanceIs {A = A} (ahead_of k.left a.fault) t.lines.input (Some r) text u.lines) is given) loads
+    (subst (λ r. AdvanceIs {A = A} (ahead_of k.left a.fault) t.lines (Some r) text u.lines) is given) loads
     recall dialect
 
 -- where a load came to t and the next line is a fault, or its value is one, the load answers that fault
@@ -523,15 +525,15 @@ pub loads_line : {A : Type 0} (mode : Mode) (s t : IterState) (m : LinesState) (
     (line : Result (Unit {0}) (Error A)) (text : List ℕ) (e : Error A) → s.lines.stage ≡ Open →
     CameTo mode s old names t → line ≡ Ok tt →
     (t.lines.stage ≢ Open → ◌≡◌ {A = Option (Result (Unit {0}) (Error A))} (Some line) None) →
-    ((a : Ahead) → t.lines.stage ≡ Open → IsTold t.lines.input.left a → AdvanceIs a t.lines.input (Some line) text m) →
+    ((a : Ahead) → t.lines.stage ≡ Open → IsTold t.lines.input.left a → AdvanceIs a t.lines (Some line) text m) →
     LoadsLine mode t.dialect t.remembered (chars text) names (Err e) new →
     LoadsLeft (run mode) s old (Err e) new
 loads_line {A = A} mode s t m old names new line text e opened came is shut next loads = λ a told entries has.
     let l = load_of mode s old a entries in
     let k = came opened a told entries has in
-    let given = next (ahead_of k.left a.fault) (came_open l names t line k shut) k.is_told in
+    let given = next (ahead_of k.left a.fault) (came_open l names t line k shut) (k.moves.is_left, k.told) in
     line_ends l names new t m text e k
-    (subst (λ r. AdvanceIs {A = A} (ahead_of k.left a.fault) t.lines.input (Some r) text m) is given) loads
+    (subst (λ r. AdvanceIs {A = A} (ahead_of k.left a.fault) t.lines (Some r) text m) is given) loads
 
 -- where a load came to t and a fault stands in the place of a line, the load answers that fault
 pub loads_fault : {A : Type 0} (mode : Mode) (s t : IterState) (m : LinesState) (old names : Texts)
@@ -539,19 +541,19 @@ pub loads_fault : {A : Type 0} (mode : Mode) (s t : IterState) (m : LinesState) 
     CameTo mode s old names t →
     line ≡ Err e →
     (t.lines.stage ≢ Open → ◌≡◌ {A = Option (Result (Unit {0}) (Error A))} (Some line) None) →
-    ((a : Ahead) → t.lines.stage ≡ Open → IsTold t.lines.input.left a → AdvanceIs a t.lines.input (Some line) text m) →
+    ((a : Ahead) → t.lines.stage ≡ Open → IsTold t.lines.input.left a → AdvanceIs a t.lines (Some line) text m) →
     LoadsLeft (run mode) s old (Err e) names
 loads_fault {A = A} mode s t m old names line text e opened came is shut next = λ a told entries has.
     let l = load_of mode s old a entries in
     let k = came opened a told entries has in
-    let given = next (ahead_of k.left a.fault) (came_open l names t line k shut) k.is_told in
+    let given = next (ahead_of k.left a.fault) (came_open l names t line k shut) (k.moves.is_left, k.told) in
     ends_fault l names t m text e k
-    (subst (λ r. AdvanceIs {A = A} (ahead_of k.left a.fault) t.lines.input (Some r) text m) is given)
+    (subst (λ r. AdvanceIs {A = A} (ahead_of k.left a.fault) t.lines (Some r) text m) is given)
 
 -- where a load came to t and there is no more line, the load answers that all went well
 pub loads_none : {A : Type 0} (mode : Mode) (s t : IterState) (m : LinesState) (old names : Texts) (text : List ℕ) →
     s.lines.stage ≡ Open → CameTo mode s old names t →
-    ((a : Ahead) → t.lines.stage ≡ Open → IsTold t.lines.input.left a → AdvanceIs {A = A} a t.lines.input None text m) →
+    ((a : Ahead) → t.lines.stage ≡ Open → IsTold t.lines.input.left a → AdvanceIs {A = A} a t.lines None text m) →
     LoadsLeft {A = A} (run mode) s old (Ok tt) names
 loads_none {A = A} mode s t m old names text opened came next =
     λ a told entries has.

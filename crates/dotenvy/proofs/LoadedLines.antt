@@ -37,7 +37,7 @@ use Rattle.dotenv_format.specs.Items.{meaning, with_value}
 use Rattle.dotenv_format.specs.Run.{Mode, Keep, Loaded, sets, run, has_nul}
 use Rattle.dotenv_base.specs.Environment.{Texts, Env, value_ok, KeepsNames}
 use Rattle.dotenvy.specs.Remembered.{Remembered}
-use Rattle.dotenvy.specs.Names.{values_of, recalled_of, names_of}
+use Rattle.dotenvy.specs.Meaning.{values_of, recalled_of, names_of}
 use Rattle.dotenvy.specs.LoadsLeft.{Leaves, ChangesKeys}
 use Rattle.dotenvy.specs.LoadedLine.{LoadsLine}
 use Rattle.dotenvy.specs.ScanLine.{IsDeclared, IsPairOf}

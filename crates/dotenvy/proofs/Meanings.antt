@@ -35,9 +35,9 @@ use Rattle.dotenv_format.specs.Value.{unquoted, Piece, Text, Name}
 use Rattle.dotenv_format.specs.Items.{LookUp, meaning}
 use Rattle.dotenv_base.specs.Environment.{Texts}
 use Rattle.dotenvy.specs.Remembered.{Remembered, recalled}
-use Rattle.dotenv_format.specs.ReadValue.{Mode, base, given, read}
+use Rattle.dotenv_format.specs.ReadValue.{ValueMode, base, given, read_value}
 use Rattle.dotenv_format.specs.NextPiece.{IsReadTo}
-use Rattle.dotenvy.specs.Names.{names_of, saturated, Measures, HasRoom}
+use Rattle.dotenvy.specs.Meaning.{names_of, saturated, Measures, HasRoom}
 use Rattle.dotenv_format.proofs.Values.{given-given}
 
 -- two rows of pieces mean what the first means, and then what the second means
@@ -84,8 +84,9 @@ pub found_second : (a b : Option (List ℕ)) (found : Option (Bor (List ℕ))) �
 found_second a b found h k = k ∙ ap (λ o. option_or o b) h
 
 -- where the value ends, all of it was read
-pub all_read : (dialect : Dialect) (m n : Mode) (text rest : List ℕ) (pieces : List Piece) →
-    IsReadTo dialect m text pieces n rest → read dialect rest n ≡ Some [] → read dialect text m ≡ Some pieces
+pub all_read : (dialect : Dialect) (m n : ValueMode) (text rest : List ℕ) (pieces : List Piece) →
+    IsReadTo dialect m text pieces n rest → read_value dialect rest n ≡ Some [] →
+    read_value dialect text m ≡ Some pieces
 all_read dialect m n text rest pieces is h = is.reads ∙ ap (given pieces) h ∙ ap Some (append-nil pieces)
 
 -- one piece more adds its bytes to the meaning
@@ -113,19 +114,19 @@ counted look_up p q len more bytes h k e =
 
 -- a value that is read as these pieces measures the byte length of their meaning, saturated
 pub measured : (dialect : Dialect) (look_up : LookUp) (value : List ℕ) (pieces : List Piece) (len : ℕ) →
-    read dialect value (base unquoted) ≡ Some pieces → len ≡ saturated (byte_len (meaning look_up pieces)) →
+    read_value dialect value (base unquoted) ≡ Some pieces → len ≡ saturated (byte_len (meaning look_up pieces)) →
     Measures dialect look_up value (Ok len)
 measured dialect look_up value pieces len h k =
     subst (λ r. MatchOption r ⊥ (λ p. len ≡ saturated (byte_len (meaning look_up p)))) (sym h) k
 
 -- what a value means has the pieces so far and the next one in it
-room_for : (dialect : Dialect) (look_up : LookUp) (n : Mode) (value left : List ℕ) (p q : List Piece)
-    (len capacity : ℕ) → read dialect value (base unquoted) ≡ given (p ++ q) (read dialect left n) →
+room_for : (dialect : Dialect) (look_up : LookUp) (n : ValueMode) (value left : List ℕ) (p q : List Piece)
+    (len capacity : ℕ) → read_value dialect value (base unquoted) ≡ given (p ++ q) (read_value dialect left n) →
     HasRoom dialect look_up value len capacity →
     len + length (encode_utf8_all (meaning look_up p)) + length (encode_utf8_all (meaning look_up q)) ≤ capacity
-room_for dialect look_up n value left p q len capacity h room = at (read dialect left n) h
+room_for dialect look_up n value left p q len capacity h room = at (read_value dialect left n) h
   where
-    at : (r : Option (List Piece)) → read dialect value (base unquoted) ≡ given (p ++ q) r →
+    at : (r : Option (List Piece)) → read_value dialect value (base unquoted) ≡ given (p ++ q) r →
         len + length (encode_utf8_all (meaning look_up p)) + length (encode_utf8_all (meaning look_up q)) ≤ capacity
     at None e =
         absurd (subst (λ r. MatchOption r ⊥ (λ pieces. len + byte_len (meaning look_up pieces) ≤ capacity)) e room)
@@ -144,7 +145,7 @@ room_for dialect look_up n value left p q len capacity h room = at (read dialect
         )
 
 -- where all that a value means fits, its next piece fits behind what the pieces before it mean
-pub room_left : (dialect : Dialect) (look_up : LookUp) (m : Mode) (value rest left : List ℕ) (n : Mode)
+pub room_left : (dialect : Dialect) (look_up : LookUp) (m : ValueMode) (value rest left : List ℕ) (n : ValueMode)
     (p q : List Piece) (piece old new : List ℕ) (old_len len capacity now : ℕ) →
     HasRoom dialect look_up value old_len capacity → IsReadTo dialect (base unquoted) value p m rest →
     IsReadTo dialect m rest q n left → piece ≡ encode_utf8_all (meaning look_up q) →
@@ -152,7 +153,7 @@ pub room_left : (dialect : Dialect) (look_up : LookUp) (m : Mode) (value rest le
     len + length piece ≤ now
 room_left dialect look_up m value rest left n p q piece old new old_len len capacity now room is next means appended
     old_is len_is grown =
-    let read_both = is.reads ∙ ap (given p) next.reads ∙ given-given p q (read dialect left n) in
+    let read_both = is.reads ∙ ap (given p) next.reads ∙ given-given p q (read_value dialect left n) in
     let fits = room_for dialect look_up n value left p q old_len capacity read_both room in
     let total = ap length appended in
     let bytes = ap length means in

@@ -47,7 +47,7 @@ use Rattle.dotenv_format.specs.Loads.{
 }
 use Rattle.dotenv_base.specs.Environment.{Texts}
 use Rattle.dotenv_base.specs.Errors.{IsMemoryErr}
-use Rattle.dotenvy.specs.Names.{values_of, recalled_of}
+use Rattle.dotenvy.specs.Meaning.{values_of, recalled_of}
 use Rattle.dotenv_format.specs.Marks.{without_mark}
 use Rattle.dotenv_base.specs.Source.{Ahead}
 use Rattle.dotenv_lines.specs.Reading.{HasLeft, told_fault}

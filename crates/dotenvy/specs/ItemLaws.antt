@@ -9,32 +9,32 @@ use Rattle.dotenv_format.specs.Entries.{Entry}
 use Rattle.dotenv_format.specs.Items.{LookUp, items_from, items}
 use Rattle.dotenv_format.specs.Loads.{load_result, override_result}
 use Rattle.dotenv_base.specs.Environment.{Texts}
-use Rattle.dotenvy.specs.Names.{values_of, recalled_of}
+use Rattle.dotenvy.specs.Meaning.{values_of, recalled_of}
 use Rattle.dotenv_format.specs.Marks.{without_mark}
 use Rattle.dotenv_base.specs.Calls.{Call}
 use Rattle.dotenv_base.specs.Source.{Ahead}
 use Rattle.dotenv_lines.specs.Reading.{HasLeft, told_fault}
 use Rattle.dotenvy.specs.Iter.{IterState, fresh}
 use Rattle.dotenvy.specs.LoadsLeft.{Rule, Leaves, LoadsLeft}
-use Rattle.dotenvy.specs.ItemRuns.{Given, GivesItems, NoneRefused, IsReadable, CanRead, SayItems, SayTheSame, AnswerTheSame}
+use Rattle.dotenvy.specs.ItemRuns.{Item, GivesItems, NoneRefused, IsReadable, CanRead, SayItems, SayTheSame, AnswerTheSame}
 
 -- a fresh iterator gives the items of what its source tells, and the fault that is told, if one is, as the last
 abbrev pub ItemsInOrder : Type 0 → Type 0
 ItemsInOrder A =
-    (dialect : Dialect) (a : Ahead) (calls : Option (List Call)) (names : Texts) (entries : List Entry) (given : List (Given A)) →
+    (dialect : Dialect) (a : Ahead) (calls : Option (List Call)) (names : Texts) (entries : List Entry) (given : List (Item A)) →
     IsReadable a → HasLeft dialect a.fault a.bytes entries →
     GivesItems names (fresh (Some a) calls dialect) given → NoneRefused given → SayItems given (items (values_of names) (entries ++ told_fault a.fault))
 
 -- an iterator that was used gives the items of what is left, where a name may also mean what is remembered
 abbrev pub ItemsGoOn : Type 0 → Type 0
 ItemsGoOn A =
-    (s : IterState) (a : Ahead) (names : Texts) (entries : List Entry) (given : List (Given A)) → CanRead s a → HasLeft s.dialect a.fault a.bytes entries →
+    (s : IterState) (a : Ahead) (names : Texts) (entries : List Entry) (given : List (Item A)) → CanRead s a → HasLeft s.dialect a.fault a.bytes entries →
     GivesItems names s given → NoneRefused given → SayItems given (items_from (values_of names) (recalled_of s.remembered) (entries ++ told_fault a.fault))
 
 -- two fresh iterators over what a source tells give the same items
 abbrev pub GiveTheSame : Type 0 → Type 0
 GiveTheSame A =
-    (dialect : Dialect) (a : Ahead) (calls other_calls : Option (List Call)) (names : Texts) (given others : List (Given A)) →
+    (dialect : Dialect) (a : Ahead) (calls other_calls : Option (List Call)) (names : Texts) (given others : List (Item A)) →
     IsReadable a → GivesItems names (fresh (Some a) calls dialect) given → NoneRefused given →
     GivesItems names (fresh (Some a) other_calls dialect) others → NoneRefused others → SayTheSame given others
 

@@ -1,8 +1,7 @@
-pub mod Sent
 pub mod Remembered
 pub mod ParsedLine
 pub mod Iter
-pub mod Names
+pub mod Meaning
 pub mod NextItem
 pub mod LineItem
 pub mod LoadsLeft

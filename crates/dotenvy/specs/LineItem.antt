@@ -9,10 +9,11 @@ use Rattle.dotenv_lines.specs.declared.lines.Stage.TheVariants.{Failed}
 use Rattle.dotenv_base.specs.Errors.{IsMemoryErr}
 use Rattle.dotenv_format.specs.Line.{Outcome, Says}
 use Rattle.dotenv_lines.specs.Lines.{LinesState}
+use Rattle.dotenv_lines.specs.Splitter.{no_line, last_lines}
 use Rattle.dotenv_format.specs.Entries.{Entry, outcome_entries}
 use Rattle.dotenv_base.specs.Environment.{Texts}
 use Rattle.dotenvy.specs.Remembered.{Remembered}
-use Rattle.dotenvy.specs.Names.{names_of, recalled_of}
+use Rattle.dotenvy.specs.Meaning.{names_of, recalled_of}
 use Rattle.dotenvy.specs.Iter.{IterState}
 use Rattle.dotenvy.specs.NextItem.{IsItem, RemembersEntry}
 
@@ -22,7 +23,7 @@ lines_after (LineParse text index) s = s
 lines_after (Io e) s = s
 lines_after (EnvVar e) s = s
 lines_after (Nul key) s = s
-lines_after (Memory e) s = record { input = s.input; stage = Failed }
+lines_after (Memory e) s = record s { stage = Failed }
 
 -- no entry adds no item, and one entry its own; what is remembered then
 abbrev pub AddsEntries : {A : Type 0} → Texts → Remembered → List Entry → Option (Result (String A × String A) (Error A)) → Remembered → Type 0
@@ -37,8 +38,22 @@ IsRefused None t = ⊥
 IsRefused (Some item) t = IsMemoryErr item × (t.stage ≡ Failed)
 
 -- an iterator's state, from its parts
-abbrev pub state_of : LinesState → Remembered → Dialect → IterState
-state_of lines remembered dialect = record { lines = lines; remembered = remembered; dialect = dialect }
+abbrev pub state_of : LinesState → Remembered → Dialect → ℕ × ℕ → IterState
+state_of lines remembered dialect item_lines = record {
+  lines = lines;
+  remembered = remembered;
+  dialect = dialect;
+  item_lines = item_lines;
+}
+
+-- the same, where it is no matter on which lines an item stands
+abbrev pub reading_of : LinesState → Remembered → Dialect → IterState
+reading_of lines remembered dialect = state_of lines remembered dialect no_line
+
+-- the lines of the last item: those of one that is given, else those that were the last before
+abbrev pub item_lines_then : {T : Type 0} → Option T → LinesState → ℕ × ℕ → ℕ × ℕ
+item_lines_then None lines before = before
+item_lines_then (Some item) lines before = last_lines lines
 
 -- a text adds what it says, unless memory is refused; a fault adds itself
 abbrev pub AddsLine : {A : Type 0} → Texts → IterState → Result (Unit {0}) (Error A) → List ℕ → Option (Result (String A × String A) (Error A)) → IterState → Type 0

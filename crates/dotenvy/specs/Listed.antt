@@ -7,7 +7,7 @@ use Rattle.dotenv_format.specs.declared.dialect.Dialect.{Dialect}
 use Rattle.dotenv_base.specs.declared.errors.Error.{Error}
 use Rattle.dotenv_format.specs.Written.{written_bytes}
 use Rattle.dotenv_base.specs.Calls.{Call}
-use Rattle.dotenvy.specs.Sent.{Sends, most_writes, Writes}
+use Rattle.dotenv_base.specs.Output.{Sends, most_writes, Writes}
 use Rattle.dotenv_format.specs.Entries.{Failure, Entry}
 use Rattle.dotenv_format.specs.Items.{LookUp, no_values}
 use Rattle.dotenv_base.specs.Environment.{Texts}

@@ -10,7 +10,7 @@ use Rattle.dotenv_format.specs.Entries.{outcome_entries}
 use Rattle.dotenv_format.specs.Run.{Mode, Keep, Replace, run}
 use Rattle.dotenv_base.specs.Environment.{Texts}
 use Rattle.dotenvy.specs.Remembered.{Remembered}
-use Rattle.dotenvy.specs.Names.{values_of, recalled_of}
+use Rattle.dotenvy.specs.Meaning.{values_of, recalled_of}
 use Rattle.dotenvy.specs.LoadsLeft.{Leaves}
 
 -- the mode that the code names

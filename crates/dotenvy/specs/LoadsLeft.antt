@@ -7,13 +7,12 @@ use Rattle.dotenv_format.specs.Entries.{Failure, Entry}
 use Rattle.dotenv_format.specs.Items.{LookUp}
 use Rattle.dotenv_format.specs.Run.{Loaded}
 use Rattle.dotenv_base.specs.Environment.{Texts}
-use Rattle.dotenvy.specs.Names.{values_of, recalled_of}
+use Rattle.dotenvy.specs.Meaning.{values_of, recalled_of}
 use Rattle.dotenv_format.specs.Marks.{without_mark}
 use Rattle.dotenv_base.specs.Source.{Ahead}
-use Rattle.dotenv_lines.specs.Input.{IsTold}
 use Rattle.dotenv_lines.specs.Reading.{HasLeft, IsReading}
 use Rattle.dotenvy.specs.NextItem.{IsFailure}
-use Rattle.dotenvy.specs.Iter.{IterState}
+use Rattle.dotenvy.specs.Iter.{IterState, TellsLeft}
 
 -- the answer says the same
 abbrev pub IsAnswer : {A : Type 0} → Result (Unit {0}) Failure → Result (Unit {0}) (Error A) → Type 0
@@ -34,8 +33,10 @@ Rule = LookUp → LookUp → List Entry → Loaded
 -- a load by this rule of what s has left, without a byte order mark at its front
 abbrev pub LoadsLeft : {A : Type 0} → Rule → IterState → Texts → Result (Unit {0}) (Error A) → Texts → Type 0
 LoadsLeft rule s old answer new =
-    (a : Ahead) → IsTold s.lines.input.left a → (entries : List Entry) → HasLeft s.dialect a.fault (without_mark a.bytes) entries →
-    (read : List Entry) × IsReading s.dialect a s.lines.input entries read × Leaves (rule (values_of old) (recalled_of s.remembered) read) new answer
+    (a : Ahead) → TellsLeft s a → (entries : List Entry) →
+    HasLeft s.dialect a.fault (without_mark a.bytes) entries →
+    (read : List Entry) × IsReading s.dialect a s.lines.input entries read
+    × Leaves (rule (values_of old) (recalled_of s.remembered) read) new answer
 
 -- a name that is no key has the value that it had
 abbrev pub ChangesKeys : Texts → Texts → Type 0

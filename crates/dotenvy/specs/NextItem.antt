@@ -1,10 +1,10 @@
 -- What the next item is, and what it leaves.
-use Rattle.std.specs.Prelude.{ℕ, ◌≡◌, ◌⊎◌, List, [], ◌∷◌, ◌++◌, Option, Some, None, Result, Ok, Err, IfSome, IfOk, IsTrue, drop, unwrap_or, string_bytes}
+use Rattle.std.specs.Prelude.{ℕ, ◌≡◌, ◌⊎◌, ◌+◌, List, [], ◌∷◌, ◌++◌, Option, Some, None, Result, Ok, Err, IfSome, IfOk, IsTrue, drop, unwrap_or, string_bytes}
 use Rattle.std.specs.Str.{chars}
 use Rattle.std.specs.IoError.{error_kind}
 use Rattle.std.specs.declared.string.String.{String}
 use Rattle.dotenv_base.specs.declared.errors.Error.{Error}
-use Rattle.dotenv_lines.specs.declared.lines.Stage.TheVariants.{Open, Ended}
+use Rattle.dotenv_lines.specs.declared.lines.Stage.TheVariants.{Ended}
 use Rattle.dotenv_base.specs.Errors.{IsMemory, IsNulOf, IsIoOf, IsLineParseOf}
 use Rattle.dotenv_format.specs.PhysicalLines.{physical_lines}
 use Rattle.dotenv_format.specs.LogicalLine.{Logical}
@@ -13,12 +13,13 @@ use Rattle.dotenv_format.specs.declared.dialect.Dialect.{Dialect}
 use Rattle.dotenv_format.specs.Decided.{HasDecided}
 use Rattle.dotenv_format.specs.Items.{LookUp, text_of, meaning, with_value}
 use Rattle.dotenv_base.specs.Environment.{Texts, name_ok}
-use Rattle.dotenvy.specs.Names.{recalled_of, names_of}
+use Rattle.dotenvy.specs.Meaning.{recalled_of, names_of}
 use Rattle.dotenv_base.specs.Source.{Ahead}
-use Rattle.dotenv_lines.specs.Input.{IsTold, ReadsFit}
-use Rattle.dotenv_lines.specs.Lines.{whole_lines, IsAtEnd, GoesOn, FailsFor}
+use Rattle.dotenv_lines.specs.Input.{Moves}
+use Rattle.dotenv_lines.specs.Lines.{whole_lines, IsAtEnd, GoesOn, FailsFor, Counts}
+use Rattle.dotenv_lines.specs.Splitter.{no_line}
 use Rattle.dotenv_lines.specs.Reading.{HasLeft}
-use Rattle.dotenvy.specs.Iter.{IterState}
+use Rattle.dotenvy.specs.Iter.{IterState, IsOpen, TellsLeft}
 
 -- the error says this failure
 abbrev pub IsFailure : {A : Type 0} → Failure → Error A → Type 0
@@ -52,10 +53,20 @@ pub record UsesLines (a : Ahead) (lines : List Logical) (left : List ℕ) : Type
 -- lines that give no entry were used, then the one that gives this entry, and nothing behind it
 pub record UsesUpTo (dialect : Dialect) (a : Ahead) (entry : Entry) (left : List ℕ) : Type 0 where
   pub silent : List Logical
+  pub before : ℕ
+  pub are_before : AreFirstLines (whole_lines a) before silent
   pub last : Logical
   pub give_none : GiveAll dialect silent []
   pub gives : Gives dialect last (entry ∷ [])
   pub uses : UsesLines a (silent ++ last ∷ []) left
+
+-- behind so many physical lines that give no entry an item took those up to the last one used, as
+-- they are counted from s to t
+abbrev pub StandsOn : IterState → ℕ → ℕ → IterState → Type 0
+StandsOn s before used t =
+    Counts s.lines.lines_taken (before + 1) t.item_lines.0
+    × Counts s.lines.lines_taken used t.item_lines.1
+    × Counts s.lines.lines_taken used t.lines.lines_taken
 
 -- of these entries, which are those of what s has left, the first was taken, and t has the later ones left; unless the end was read, the bytes that were used decide it whatever follows
 pub record TakesEntry (names : Texts) (a : Ahead) (s : IterState) (entries : List Entry) (entry : Entry) (t : IterState) : Type 0 where
@@ -63,28 +74,30 @@ pub record TakesEntry (names : Texts) (a : Ahead) (s : IterState) (entries : Lis
   pub first : entries ≡ entry ∷ later
   pub used : List ℕ
   pub left : List ℕ
-  pub joins : a.bytes ≡ used ++ left
+  pub moves : Moves a s.lines.input used left t.lines.input
   pub reaches : UsesUpTo s.dialect a entry left
+  pub stands : StandsOn s reaches.before reaches.uses.count t
   pub stays : IsAtEnd a.fault left t.lines.input ⊎ DecideFirst s.dialect used (entry ∷ [])
-  pub is_left : t.lines.input.left ≡ Some (record { bytes = left; fault = a.fault })
   pub has_left : HasLeft s.dialect a.fault left later
   pub goes_on : GoesOn t.lines
-  pub reads : ReadsFit a s.lines.input (record { bytes = left; fault = a.fault }) t.lines.input
   pub remembers : RemembersEntry (names_of names s.remembered) (recalled_of s.remembered) (recalled_of t.remembered) entry
   pub dialect : t.dialect ≡ s.dialect
 
--- the item under this environment: the first of the entries left; none where there is none and no fault; or a fault of reading, where the bytes before it decide no entry
+-- the item under this environment: the first of the entries left; none where there is none and no fault; or a fault of reading, which stands on no line, where the bytes before it decide no entry
 abbrev pub ItemIs : {A : Type 0} → Texts → Ahead → IterState → List Entry → Option (Result (String A × String A) (Error A)) → IterState → Type 0
-ItemIs names a s entries None t = (entries ≡ []) × (a.fault ≡ None) × (t.lines.stage ≡ Ended)
+ItemIs names a s entries None t =
+    (entries ≡ []) × (a.fault ≡ None) × (t.lines.stage ≡ Ended) × (t.item_lines ≡ s.item_lines)
 ItemIs names a s entries (Some item) t =
     ((entry : Entry) × IsItem (names_of names s.remembered) entry item × TakesEntry names a s entries entry t)
-    ⊎ FailsFor a s.lines.input item (λ bytes. HasDecided s.dialect bytes []) t.lines
+    ⊎ (FailsFor a s.lines.input item (λ bytes. HasDecided s.dialect bytes []) t.lines
+    × (t.item_lines ≡ no_line))
 
 -- the same of every iterator: one that has ended or failed gives none, and stays as it is
 abbrev pub NextItem : {A : Type 0} → Texts → IterState → Option (Result (String A × String A) (Error A)) → IterState → Type 0
 NextItem names s item t =
-    (s.lines.stage ≡ Open → (a : Ahead) → IsTold s.lines.input.left a → (entries : List Entry) → HasLeft s.dialect a.fault a.bytes entries → ItemIs names a s entries item t)
-    × ((s.lines.stage ≡ Open → ⊥) → (item ≡ None) × (t ≡ s))
+    (IsOpen s → (a : Ahead) → TellsLeft s a → (entries : List Entry) →
+    HasLeft s.dialect a.fault a.bytes entries → ItemIs names a s entries item t)
+    × (¬ (IsOpen s) → (item ≡ None) × (t ≡ s))
 
 -- a pair that is given has a name that an environment can hold
 abbrev pub GivesName : {A : Type 0} → Option (Result (String A × String A) (Error A)) → Type 0

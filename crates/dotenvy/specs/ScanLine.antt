@@ -13,7 +13,7 @@ use Rattle.dotenv_format.specs.Value.{Piece, IsValue}
 use Rattle.dotenv_format.specs.Places.{BeginsValue, IsPlace}
 use Rattle.dotenv_format.specs.Line.{Nothing, Fault as SaysFault, Says, trimmed, is_nothing, value_index}
 use Rattle.dotenv_format.specs.Items.{LookUp, meaning}
-use Rattle.dotenvy.specs.Names.{saturated}
+use Rattle.dotenvy.specs.Meaning.{saturated}
 
 -- what is assigned is nothing or a comment; or it is a value, whose meaning takes so many bytes
 abbrev pub IsAssigned : (dialect : Dialect) → LookUp → List ℕ → List Piece → Option Value → Type 0

@@ -1,21 +1,21 @@
 //! The pairs of an environment file, one at a time, and the two loads.
 
-ghost use Rattle.std.specs.Prelude.{◌≡◌, ◌≢◌, ◌<◌, ◌≤◌, ◌↔◌, ◌⊎◌, Err, IfErr, IfOk, IfSome, IsSome, IsTrue, None, Ok, OnOk, chars, string_bytes};
+ghost use Rattle.std.specs.Prelude.{ℕ, ◌≡◌, ◌<◌, ◌≤◌, ◌↔◌, ◌⊎◌, Err, IfErr, IfOk, IfSome, IsSome, IsTrue, None, Ok, OnOk, OnErr, chars, string_bytes};
 ghost use Rattle.std.specs.Iterator.{at_most};
 ghost use Rattle.dotenv_lines.specs.declared.lines.Stage.TheVariants.{Failed, Open};
 ghost use Rattle.dotenv_base.specs.Errors.{IsMemory, IsMemoryErr};
 ghost use Rattle.dotenv_lines.specs.Input.{AsksReads};
-ghost use Rattle.dotenvy.specs.Iter.{fresh, item_fuel};
+ghost use Rattle.dotenvy.specs.Iter.{fresh, item_fuel, AsksBetween, DropsNextMark, HasFailed, IsOpen, KeepsItems};
 ghost use Rattle.dotenv_base.specs.Environment.{KeepsNames};
 ghost use Rattle.dotenv_format.specs.Statement.{is_key};
 ghost use Rattle.dotenv_format.specs.Run.{Keep, Replace, run};
 ghost use Rattle.dotenv_format.specs.Loads.{load_result, override_result};
 ghost use Rattle.dotenv_format.specs.Line.{Outcome, Says};
-ghost use Rattle.dotenvy.specs.Names.{names_of};
+ghost use Rattle.dotenvy.specs.Meaning.{names_of};
 ghost use Rattle.dotenvy.specs.ParsedLine.{IsLineAnswer, Remembers, HasKey};
 ghost use Rattle.dotenv_lines.specs.Lines.{fuel_of};
 ghost use Rattle.dotenvy.specs.Remembered.{remembered_of};
-ghost use Rattle.dotenvy.specs.LineItem.{AddsLine, state_of};
+ghost use Rattle.dotenvy.specs.LineItem.{AddsLine, item_lines_then, reading_of, state_of};
 ghost use Rattle.dotenvy.specs.NextItem.{GivesName, NextItem};
 ghost use Rattle.dotenvy.specs.LoadsLeft.{ChangesKeys, LoadsLeft};
 ghost use Rattle.dotenvy.specs.LoadedLine.{mode_of};
@@ -49,6 +49,8 @@ pub struct Iter<R: Source, A: Allocator = Global> {
     lines: Splitter<R, A>,
     remembered: Remembered<A>,
     dialect: Dialect,
+    // The first and the last physical line of the last item.
+    item_lines: (u64, u64),
 }
 
 impl<R: Source, A: Allocator> Model for Iter<R, A> {
@@ -60,7 +62,8 @@ impl<R: Source, A: Allocator> Model for Iter<R, A> {
 
     ghost coded = { iter_code };
 
-    ghost view = { λ s. state_of s.lines.lines (remembered_of s.remembered.entries) s.dialect };
+    ghost view = { λ s. state_of s.lines.lines (remembered_of s.remembered.entries) s.dialect
+        s.item_lines };
 }
 
 // Whether memory was refused.
@@ -93,6 +96,7 @@ impl<R: Source, A: Allocator + Clone> Iter<R, A> {
             lines: Splitter::new(alloc, reader)?,
             remembered,
             dialect,
+            item_lines: (0, 0),
         })
     }
 
@@ -101,16 +105,61 @@ impl<R: Source, A: Allocator + Clone> Iter<R, A> {
     pub fn next_item(&mut self, env: &Environment<A>) -> Option<Result<(String<A>, String<A>), A>>
         ensures next { NextItem env.now.names self.old result self.new }
         ensures falls { IsSome result → item_fuel self.new < item_fuel self.old }
-        ensures memory { IfSome result (λ item. IsMemoryErr item → self.new.lines.stage ≡ Failed) }
+        ensures memory { IfSome result (λ item. IsMemoryErr item → HasFailed self.new) }
         ensures key { IfSome result
             (λ item. IfOk item (λ pair. IsTrue (is_key (chars (string_bytes pair.0))))) }
         ensures name { GivesName result }
 
         // Which reads it asks for, over every reader that tells its calls.
-        ensures asks { AsksReads (self.new.lines.stage ≡ Open) self.old.lines.input
-            self.new.lines.input }
+        ensures asks { AsksBetween self.old self.new }
     {
-        next_of(&mut self.lines, &mut self.remembered, env, self.dialect)
+        let item = next_of(&mut self.lines, &mut self.remembered, env, self.dialect);
+        self.item_lines = lines_then(&item, &self.lines, self.item_lines);
+        item
+    }
+
+    /// The physical line on which the last item begins, counted from 1.
+    ///
+    /// It is 0 before the first item, and for an item that stands on no line: a reader's own fault, the bound on reads,
+    /// refused memory. `None` leaves it as it is. (A count that 64 bits don't hold would need more reads than are
+    /// made.)
+    ///
+    /// ```text
+    /// let mut file = Iter::new(alloc, Bytes::new(b"# a comment\nA=1\nB=\"2\n3\"\n"))?;
+    /// file.next_item(&env)    // A, with first_line 2 and last_line 2
+    /// file.next_item(&env)    // B, with first_line 3 and last_line 4
+    /// ```
+    pub fn first_line(&self) -> u64
+        ensures { result ≡ self.now.item_lines.0 }
+    {
+        self.item_lines.0
+    }
+
+    /// The physical line on which the last item ends, counted from 1, and 0 where `first_line` is 0.
+    pub fn last_line(&self) -> u64
+        ensures { result ≡ self.now.item_lines.1 }
+    {
+        self.item_lines.1
+    }
+
+    /// Drops a byte order mark that stands next, as both loads do before their first line; `next_item` keeps it.
+    ///
+    /// Does nothing after the end or a final fault. The errors are those of reading, and `Memory`; each is final.
+    ///
+    /// ```text
+    /// let mut file = Iter::new(alloc, reader)?;
+    /// file.drop_mark()?;    // and now the items are what a load sets
+    /// ```
+    pub fn drop_mark(&mut self) -> Result<(), A>
+        ensures shut { ¬ (IsOpen self.old) → (result ≡ Ok tt) × (self.new ≡ self.old) }
+        ensures told { DropsNextMark self.old result self.new }
+        ensures ok { OnOk result (IsOpen self.old → IsOpen self.new) }
+        ensures err { OnErr result (HasFailed self.new) }
+        ensures same { KeepsItems self.old self.new }
+        ensures falls { item_fuel self.new ≤ item_fuel self.old }
+        ensures asks { AsksBetween self.old self.new }
+    {
+        self.lines.drop_mark()
     }
 
     /// What `next_item` gives under this one environment, as an iterator.
@@ -129,6 +178,20 @@ impl<R: Source, A: Allocator + Clone> Iter<R, A> {
     }
 }
 
+// The lines on which the last item stands, once this one was given, if it was.
+fn lines_then<R: Source, A: Allocator + Clone>(
+    item: &Option<Result<Pair<A>, A>>,
+    lines: &Splitter<R, A>,
+    before: (u64, u64),
+) -> (u64, u64)
+    ensures { result ≡ item_lines_then item.now lines.now.lines before }
+{
+    match item {
+        Some(_) => lines.last_lines(),
+        None => before,
+    }
+}
+
 // The next item of these logical lines.
 fn next_of<R: Source, A: Allocator + Clone>(
     lines: &mut Splitter<R, A>,
@@ -136,9 +199,10 @@ fn next_of<R: Source, A: Allocator + Clone>(
     env: &Environment<A>,
     dialect: Dialect,
 ) -> Option<Result<Pair<A>, A>>
-    ensures next { NextItem env.now.names
-        (state_of lines.old.lines (remembered_of remembered.old.entries) dialect) result
-        (state_of lines.new.lines (remembered_of remembered.new.entries) dialect) }
+    ensures next { (before : ℕ × ℕ) → NextItem env.now.names
+        (state_of lines.old.lines (remembered_of remembered.old.entries) dialect before) result
+        (state_of lines.new.lines (remembered_of remembered.new.entries) dialect
+        (item_lines_then result lines.new.lines before)) }
     ensures falls { IsSome result → fuel_of lines.new.lines < fuel_of lines.old.lines }
     ensures memory { IfSome result (λ item. IsMemoryErr item → lines.new.lines.stage ≡ Failed) }
     ensures key { IfSome result
@@ -164,9 +228,9 @@ fn item_of<R: Source, A: Allocator + Clone>(
     dialect: Dialect,
 ) -> Option<Result<Pair<A>, A>>
     ensures adds { AddsLine env.now.names
-        (state_of lines.old.lines (remembered_of remembered.old.entries) dialect) outcome
+        (reading_of lines.old.lines (remembered_of remembered.old.entries) dialect) outcome
         lines.old.line result
-        (state_of lines.new.lines (remembered_of remembered.new.entries) dialect) }
+        (reading_of lines.new.lines (remembered_of remembered.new.entries) dialect) }
     ensures falls { fuel_of lines.new.lines ≤ fuel_of lines.old.lines }
     ensures input { lines.new.lines.input ≡ lines.old.lines.input }
     ensures stage { lines.new.lines.stage ≡ Open → lines.old.lines.stage ≡ Open }
@@ -215,8 +279,8 @@ impl<R: Source + Drop, A: Allocator + Clone> Iter<R, A> {
     /// Iter::new(alloc, Bytes::new(b"A=1\nA=2\n"))?.load(&mut env)?;    // A is 1, or what it was before
     /// ```
     pub fn load(self, env: &mut Environment<A>) -> Result<(), A>
-        ensures shut { self.lines.stage ≢ Open → (result ≡ Ok tt) × (env.new ≡ env.old) }
-        ensures told { self.lines.stage ≡ Open →
+        ensures shut { ¬ (IsOpen self) → (result ≡ Ok tt) × (env.new ≡ env.old) }
+        ensures told { IsOpen self →
             LoadsLeft load_result self env.old.names result env.new.names }
         ensures keeps { KeepsNames env.old.names env.new.names }
         ensures keys { ChangesKeys env.old.names env.new.names }
@@ -231,8 +295,8 @@ impl<R: Source + Drop, A: Allocator + Clone> Iter<R, A> {
     /// Iter::new(alloc, Bytes::new(b"A=1\nA=2\n"))?.load_override(&mut env)?;    // A is 2
     /// ```
     pub fn load_override(self, env: &mut Environment<A>) -> Result<(), A>
-        ensures shut { self.lines.stage ≢ Open → (result ≡ Ok tt) × (env.new ≡ env.old) }
-        ensures told { self.lines.stage ≡ Open →
+        ensures shut { ¬ (IsOpen self) → (result ≡ Ok tt) × (env.new ≡ env.old) }
+        ensures told { IsOpen self →
             LoadsLeft override_result self env.old.names result env.new.names }
         ensures keys { ChangesKeys env.old.names env.new.names }
         ensures mark { env.new.loaded ≡ env.old.loaded }
@@ -243,8 +307,8 @@ impl<R: Source + Drop, A: Allocator + Clone> Iter<R, A> {
     // Drops a byte order mark at the present place, then loads line after line. The values that were remembered before
     // stay as they are.
     fn load_lines(mut self, mode: Mode, env: &mut Environment<A>) -> Result<(), A>
-        ensures shut { self.lines.stage ≢ Open → (result ≡ Ok tt) × (env.new ≡ env.old) }
-        ensures told { self.lines.stage ≡ Open →
+        ensures shut { ¬ (IsOpen self) → (result ≡ Ok tt) × (env.new ≡ env.old) }
+        ensures told { IsOpen self →
             LoadsLeft (run (mode_of mode)) self env.old.names result env.new.names }
         ensures keeps { mode_of mode ≡ Keep → KeepsNames env.old.names env.new.names }
         ensures keys { ChangesKeys env.old.names env.new.names }
@@ -277,7 +341,7 @@ impl<'a, R: Source, A: Allocator + Clone> Iterator for Items<'a, R, A> {
     type Item = Result<(String<A>, String<A>), A>;
 
     ghost next_gives = { λ s item t. NextItem s.env.now.names s.file.now item t.file.now
-        × AsksReads (t.file.now.lines.stage ≡ Open) s.file.now.lines.input t.file.now.lines.input
+        × AsksBetween s.file.now t.file.now
         × (t.file.ghost_name ≡ s.file.ghost_name) × (t.env.now ≡ s.env.now) × GivesName item };
 
     ghost remaining = { λ s. at_most (item_fuel s.file.now) };

@@ -7,7 +7,7 @@ mod first_use;
 mod iter;
 pub mod laws;
 mod loads;
-mod names;
+mod meaning;
 mod parse;
 mod remembered;
 mod written;

@@ -2,13 +2,13 @@
 ghost use Rattle.std.specs.Prelude.{◌≡◌};
 ghost use Rattle.std.specs.Str.{chars};
 ghost use Rattle.dotenvy.specs.Remembered.{remembered_of};
-ghost use Rattle.dotenvy.specs.Names.{values_of};
+ghost use Rattle.dotenvy.specs.Meaning.{values_of};
 ghost use Rattle.dotenv_base.specs.Environment.{KeepsNames};
 ghost use Rattle.dotenv_format.specs.Run.{Keep, sets};
 ghost use Rattle.dotenvy.specs.LoadsLeft.{ChangesKeys};
 ghost use Rattle.dotenvy.specs.LoadedLine.{mode_of, LoadsLine};
 
-use crate::names::Names;
+use crate::meaning::Names;
 use crate::parse::{pair_of, scan_line};
 use crate::remembered::Remembered;
 use dotenv_base::environment::Environment;

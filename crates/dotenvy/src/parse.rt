@@ -5,12 +5,12 @@ ghost use Rattle.dotenv_format.specs.Characters.{byte_len};
 ghost use Rattle.dotenv_format.specs.Line.{Outcome, Says, value_index};
 ghost use Rattle.dotenv_base.specs.Errors.{IsMemory, IsMemoryErr};
 ghost use Rattle.dotenvy.specs.Remembered.{remembered_of};
-ghost use Rattle.dotenvy.specs.Names.{look_up_of, names_of};
+ghost use Rattle.dotenvy.specs.Meaning.{look_up_of, names_of};
 ghost use Rattle.dotenv_format.specs.Value.{Piece};
 ghost use Rattle.dotenvy.specs.ScanLine.{IsAssigned, ScansAssigned, Scans, IsPairOf, AreCopiesOf};
 ghost use Rattle.dotenvy.specs.ParsedLine.{IsLineAnswer, Remembers, HasKey};
 
-use crate::names::Names;
+use crate::meaning::Names;
 use crate::remembered::{Remembered, remember};
 use dotenv_base::environment::Environment;
 use dotenv_base::errors::{Result, fault_error};

@@ -4,26 +4,22 @@ ghost use Rattle.std.specs.Prelude.{◌≡◌, ◌≤◌, ◌+◌, ◌++◌, ◌
 ghost use Rattle.std.specs.String.{string_capacity};
 ghost use Rattle.dotenv_format.specs.Statement.{is_key};
 ghost use Rattle.dotenv_format.specs.Characters.{byte_len};
-ghost use Rattle.dotenvy.specs.Names.{saturated};
+ghost use Rattle.dotenvy.specs.Meaning.{saturated};
 ghost use Rattle.dotenv_base.specs.Errors.{IsIoOf};
 ghost use Rattle.dotenv_format.specs.Written.{needs_backslash, written_character, written_text, written_bytes};
-ghost use Rattle.dotenvy.specs.Sent.{Sends, Writes};
+ghost use Rattle.dotenv_base.specs.Output.{Sends, Writes};
 ghost use Rattle.dotenv_base.specs.Environment.{AreTexts};
 ghost use Rattle.dotenvy.specs.Listed.{pairs_of, Lists, ListsSome};
 
 use crate::iter::Iter;
 use dotenv_base::environment::Environment;
-use dotenv_base::errors::{Error, Result};
+use dotenv_base::errors::Result;
+use dotenv_base::output::{MOST_WRITES, write_all};
 use dotenv_base::source::{Sink, Source};
 use dotenv_format::dialect::Dialect;
 use dotenv_format::text::{Class, Quoting, split_first, split_while};
 use memchr::memchr3_iter;
 use std::alloc::{AllocError, Allocator};
-use std::io;
-use std::io::ErrorKind;
-
-// The most writes that one call makes.
-const MOST_WRITES: u64 = 4_294_967_296;
 
 fn needs_backslash(c: char) -> bool
     ensures { result ≡ needs_backslash c }
@@ -114,32 +110,6 @@ fn listing<A: Allocator + Clone>(
     Ok(out)
 }
 
-// Writes all of the bytes, in at most `writes_left` writes.
-fn write_all<W: Sink, A: Allocator>(writer: &mut W, bytes: &[u8], writes_left: u64) -> Result<(), A>
-    ensures { Sends W.held W.last_fault W.calls writes_left writer.old writer.new bytes.now result }
-{
-    let mut rest = bytes;
-    'writes: for _ in 0..writes_left {
-        if rest.is_empty() {
-            return Ok(());
-        }
-        match writer.write_some(rest) {
-            Ok(0) => return Err(Error::Io(io::Error::from(ErrorKind::WriteZero))),
-            Ok(n) => rest = &rest[n..],
-            Err(e) => {
-                if e.kind() != ErrorKind::Interrupted {
-                    return Err(Error::Io(e));
-                }
-            }
-        }
-    }
-    if rest.is_empty() {
-        Ok(())
-    } else {
-        Err(Error::Io(io::Error::other("too many writes")))
-    }
-}
-
 /// Writes one pair in its written form, which is read back as that pair (docs/GRAMMAR.md, "The written form").
 ///
 /// The form is built before the first write. An interrupted write is asked again; a write that takes nothing is `Io`
@@ -200,6 +170,3 @@ pub fn list_with<R: Source + Drop, W: Sink, A: Allocator + Clone>(
     let text = listing(alloc, &env)?;
     write_all(writer, text.as_bytes(), MOST_WRITES)
 }
-
-#[cfg(test)]
-mod tests;

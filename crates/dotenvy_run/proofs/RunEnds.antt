@@ -4,7 +4,7 @@ use Rattle.dotenvy_run.specs.declared.command_line.CommandLine.{CommandLine as L
 use Rattle.dotenvy_run.specs.declared.failure.Usage.{Usage as Refusal}
 use Rattle.dotenvy_run.specs.declared.failure.Usage.TheVariants as refusal
 use Rattle.dotenvy_run.specs.Answers.{line_of, SaysAnswer, AnswersWords}
-use Rattle.dotenvy_run.specs.Failures.{IsMemory}
+use Rattle.dotenvy_run.specs.Failures.{IsMemoryFailure}
 use Rattle.dotenvy_run.specs.Words.{CommandLine, Usage, HasUsage}
 use Rattle.dotenvy_run.proofs.WordsOnce.{one_usage_of_words}
 
@@ -30,10 +30,10 @@ asks_for words asked line answers is = let says = says_usage words (Ok asked) (O
 
 -- words that ask for a line are refused for want of memory alone
 pub only_memory : {A : Type 0} (words : List (List ℕ)) (asked : CommandLine) (usage : Refusal A) →
-    AnswersWords {A = A} words (Err usage) → HasUsage words (Ok asked) → IsMemory usage
+    AnswersWords {A = A} words (Err usage) → HasUsage words (Ok asked) → IsMemoryFailure usage
 only_memory {A = A} words asked usage answers is = at usage (says_usage words (Ok asked) (Err usage) answers is)
   where
-    at : (usage : Refusal A) → SaysAnswer (Ok asked) (Err usage) → IsMemory usage
+    at : (usage : Refusal A) → SaysAnswer (Ok asked) (Err usage) → IsMemoryFailure usage
     at refusal.MissingCommand says = says
     at refusal.MissingFile says = says
     at (refusal.UnknownOption text) says = says

@@ -33,10 +33,10 @@ use Rattle.dotenv_format.specs.declared.dialect.Dialect.TheVariants.{V15, Next}
 use Rattle.dotenvy_run.specs.declared.failure.Usage.{Usage}
 use Rattle.dotenvy_run.specs.declared.failure.Usage.TheVariants as refusal
 use Rattle.dotenvy_run.specs.Answers.{texts, SaysAnswer, AnswersWords}
-use Rattle.dotenvy_run.specs.Failures.{IsMemory}
+use Rattle.dotenvy_run.specs.Failures.{IsMemoryFailure}
 use Rattle.dotenvy_run.specs.Words as definition
 use Rattle.dotenvy_run.proofs.WordsOnce.{usage_exists}
-use Rattle.dotenvy_run.specs.FirstGroup.{AreCommand, BeginsWith, IsUnknown}
+use Rattle.dotenvy_run.specs.FirstGroup.{AreCommand, GroupBeginsWith, IsUnknown}
 use Rattle.dotenvy_run.specs.Words.{
   Form,
   Group,
@@ -45,7 +45,7 @@ use Rattle.dotenvy_run.specs.Words.{
   assigned_file,
   list,
   next,
-  Ending,
+  WordsEnd,
   nothing,
   missing_file,
   unknown,
@@ -53,7 +53,7 @@ use Rattle.dotenvy_run.specs.Words.{
   file_word,
   AreGroups,
   IsGroup,
-  IsEnding,
+  IsWordsEnd,
   group_words,
   ending_words,
   group_files,
@@ -133,8 +133,8 @@ one_more words rest after line group (groups, are, spelled, is_line) is joins = 
 )
 
 -- groups and an ending have their answer
-ends_by : (words rest : List (List ℕ)) (line : CommandLine) (ending : Ending) → (so_far : SoFar words rest line) →
-    IsEnding ending → rest ≡ ending_words ending →
+ends_by : (words rest : List (List ℕ)) (line : CommandLine) (ending : WordsEnd) → (so_far : SoFar words rest line) →
+    IsWordsEnd ending → rest ≡ ending_words ending →
     HasUsage words (answer_to so_far.0 ending)
 ends_by words rest line ending (groups, are, spelled, is_line) is joins = (
   groups,
@@ -185,7 +185,7 @@ ends words (word ∷ others) line so_far are listed =
     (ends_by words (word ∷ others) line (command word others) so_far are refl)
 
 -- whatever the words are, refused memory may be answered
-pub answers_memory : {A : Type 0} (words : List (List ℕ)) (usage : Usage A) → IsMemory usage →
+pub answers_memory : {A : Type 0} (words : List (List ℕ)) (usage : Usage A) → IsMemoryFailure usage →
     AnswersWords words (Err usage)
 answers_memory {A = A} words (refusal.Memory error) is = let has = usage_exists words in (has.0, has.1, says has.0)
   where
@@ -199,7 +199,7 @@ answers_memory words (refusal.UnknownOption text) is = absurd is
 -- words are refused where what is left of them is
 pub answers_refused : {A : Type 0} (words rest : List (List ℕ)) (line : CommandLine) (usage : Usage A) →
     SoFar words rest line →
-    BeginsWith rest (Err usage) → AnswersWords words (Err usage)
+    GroupBeginsWith rest (Err usage) → AnswersWords words (Err usage)
 answers_refused words rest line refusal.MissingCommand so_far begins = absurd begins
 answers_refused words rest line refusal.MissingFile so_far (form, is) =
     (Err MissingFile, ends_without_file words rest line form so_far is, refl)

@@ -4,7 +4,7 @@ use Rattle.dotenv_base.specs.declared.errors.Error.{Error}
 use Rattle.dotenvy_run.specs.declared.failure.Failure.{Failure}
 use Rattle.dotenvy_run.specs.declared.failure.Failure.TheVariants.{Usage, Load, Start}
 use Rattle.dotenvy_run.specs.Answers.{SaysUsage}
-use Rattle.dotenvy_run.specs.Failures.{IsMemory}
+use Rattle.dotenvy_run.specs.Failures.{IsMemoryFailure}
 use Rattle.dotenvy_run.specs.Words as words
 
 -- with this refusal of the words, unless memory was refused
@@ -30,7 +30,7 @@ IsUsage (Start fault) = ⊥
 -- memory was refused while the words were read
 abbrev pub IsEarly : {A : Type 0} → Result ℕ (Failure A) → Type 0
 IsEarly (Ok status) = ⊥
-IsEarly (Err (Usage usage)) = IsMemory usage
+IsEarly (Err (Usage usage)) = IsMemoryFailure usage
 IsEarly (Err (Load error)) = ⊥
 IsEarly (Err (Start fault)) = ⊥
 

@@ -8,11 +8,11 @@ use Rattle.dotenvy_run.specs.declared.failure.Usage.{Usage}
 use Rattle.dotenvy_run.specs.declared.failure.Usage.TheVariants.{MissingCommand, MissingFile, UnknownOption, Memory}
 
 -- memory was refused
-abbrev pub IsMemory : {A : Type 0} → Usage A → Type 0
-IsMemory MissingCommand = ⊥
-IsMemory MissingFile = ⊥
-IsMemory (UnknownOption word) = ⊥
-IsMemory (Memory error) = Unit {0}
+abbrev pub IsMemoryFailure : {A : Type 0} → Usage A → Type 0
+IsMemoryFailure MissingCommand = ⊥
+IsMemoryFailure MissingFile = ⊥
+IsMemoryFailure (UnknownOption word) = ⊥
+IsMemoryFailure (Memory error) = Unit {0}
 
 -- why the words are refused
 abbrev pub usage_text : {A : Type 0} → Usage A → List ℕ

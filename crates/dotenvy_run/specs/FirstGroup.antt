@@ -46,13 +46,13 @@ AreCommand [] = Unit {0}
 AreCommand (text ∷ words) = IsTrue (not (is_option text))
 
 -- the words begin with this group, and these are the words after it; or no group comes first; or they are refused
-abbrev pub BeginsWith : {A : Type 0} → List (List ℕ) → Result (Option (Found × Bor (List (String A)))) (Usage A) →
+abbrev pub GroupBeginsWith : {A : Type 0} → List (List ℕ) → Result (Option (Found × Bor (List (String A)))) (Usage A) →
     Type 0
-BeginsWith words (Ok (Some (group, after))) =
+GroupBeginsWith words (Ok (Some (group, after))) =
     (spelled : Group) × IsGroup spelled × (words ≡ group_words spelled ++ texts after.now) × IsGroupOf spelled group
-BeginsWith words (Ok None) = AreCommand words
-BeginsWith words (Err MissingCommand) = ⊥
-BeginsWith words (Err MissingFile) = (form : Form) × (words ≡ file_word form ∷ [])
-BeginsWith words (Err (UnknownOption text)) = (others : List (List ℕ)) × (words ≡ string_bytes text ∷ others)
+GroupBeginsWith words (Ok None) = AreCommand words
+GroupBeginsWith words (Err MissingCommand) = ⊥
+GroupBeginsWith words (Err MissingFile) = (form : Form) × (words ≡ file_word form ∷ [])
+GroupBeginsWith words (Err (UnknownOption text)) = (others : List (List ℕ)) × (words ≡ string_bytes text ∷ others)
     × IsUnknown (string_bytes text)
-BeginsWith words (Err (Memory error)) = Unit {0}
+GroupBeginsWith words (Err (Memory error)) = Unit {0}

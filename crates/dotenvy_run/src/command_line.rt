@@ -2,7 +2,7 @@
 
 ghost use Rattle.std.specs.Prelude.{◌≡◌, [], IfOk, OnOk};
 ghost use Rattle.dotenvy_run.specs.Answers.{AnswersWords, line_of, texts};
-ghost use Rattle.dotenvy_run.specs.FirstGroup.{AttachesFile, BeginsWith, IsGroupOf, IsWord};
+ghost use Rattle.dotenvy_run.specs.FirstGroup.{AttachesFile, GroupBeginsWith, IsGroupOf, IsWord};
 ghost use Rattle.dotenvy_run.specs.Words.{Group as WordGroup, command_line, with_group, without_equals};
 
 use crate::failure::Usage;
@@ -103,7 +103,7 @@ fn first_group<'a, A: Allocator + Clone>(
     alloc: &A,
     words: &'a [String<A>],
 ) -> Result<Option<(Group<'a>, &'a [String<A>])>, Usage<A>>
-    ensures { BeginsWith (texts words.now) result }
+    ensures { GroupBeginsWith (texts words.now) result }
 {
     let Some((word, after)) = words.split_first() else {
         return Ok(None);

@@ -34,9 +34,9 @@ impl<A: Allocator> fmt::Display for Usage<A> {
 }
 
 impl<A: Allocator> From<AllocError> for Usage<A> {
-    ghost use Rattle.dotenvy_run.specs.Failures.{IsMemory};
+    ghost use Rattle.dotenvy_run.specs.Failures.{IsMemoryFailure};
 
-    ghost from_gives = { λ _ usage. IsMemory usage };
+    ghost from_gives = { λ _ usage. IsMemoryFailure usage };
 
     fn from(refused: AllocError) -> Usage<A> {
         Usage::Memory(refused)

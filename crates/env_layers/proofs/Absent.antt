@@ -5,7 +5,7 @@ use Rattle.std.specs.FinMap as fin
 use Rattle.dotenv_base.specs.Environment.{Texts}
 use Rattle.env_layers.specs.declared.missing.Missing.{Missing}
 use Rattle.env_layers.specs.declared.missing.Missing.TheVariants.{Names, Memory}
-use Rattle.env_layers.specs.Missing.{absent_names, IsMemory, TellsNames, AnswersRequire}
+use Rattle.env_layers.specs.Missing.{absent_names, IsMemoryMissing, TellsNames, AnswersRequire}
 
 -- where each passes a test, none fails it
 none_fails : {X : Type 0} (test : X → Bool) (xs : List X) → list_all test xs ≡ true → filter (λ x. not (test x)) xs ≡ []
@@ -55,7 +55,7 @@ answers_absent names asked missing all tells =
     at (x ∷ xs) name others is tells = tells
 
 -- refused memory tells whatever is absent
-pub tells_memory : {A : Type 0} (absent : List (List ℕ)) (missing : Missing A) → IsMemory missing →
+pub tells_memory : {A : Type 0} (absent : List (List ℕ)) (missing : Missing A) → IsMemoryMissing missing →
     TellsNames absent missing
 tells_memory absent (Names names) is = absurd is
 tells_memory absent (Memory error) is = tt

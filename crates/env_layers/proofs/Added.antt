@@ -8,7 +8,7 @@ use Rattle.dotenv_base.specs.Errors.{IsMemory}
 use Rattle.dotenv_format.specs.Items.{LookUp}
 use Rattle.dotenvy.specs.Iter.{fresh}
 use Rattle.dotenvy.specs.LoadsLeft.{Rule, Leaves, LoadsLeft}
-use Rattle.dotenvy.specs.Names.{values_of, recalled_of}
+use Rattle.dotenvy.specs.Meaning.{values_of, recalled_of}
 use Rattle.dotenv_base.specs.Source.{Ahead}
 use Rattle.std.specs.Option.{option_or}
 use Rattle.env_layers.specs.declared.layers.Mode.{Mode}

@@ -40,7 +40,7 @@ use Rattle.dotenvy.specs.Iter.{fresh}
 use Rattle.dotenv_format.specs.Laws.{HasOneReading}
 use Rattle.dotenvy.specs.LoadsLeft.{IsAnswer, Leaves}
 use Rattle.dotenv_format.specs.Marks.{without_mark}
-use Rattle.dotenvy.specs.Names.{values_of, recalled_of}
+use Rattle.dotenvy.specs.Meaning.{values_of, recalled_of}
 use Rattle.env_layers.specs.declared.layers.Mode.{Mode}
 use Rattle.env_layers.specs.declared.layers.Mode.TheVariants.{Keep, Override}
 use Rattle.env_layers.specs.Layers.{after_load, rule_of}

@@ -9,8 +9,8 @@ use Rattle.env_layers.specs.declared.missing.Missing.{Missing}
 use Rattle.env_layers.specs.declared.missing.Missing.TheVariants.{Names, Memory}
 
 -- the texts that are lent, by their bytes
-abbrev pub texts : List (Bor (List ℕ)) → List (List ℕ)
-texts lent = map (λ text. text.now) lent
+abbrev pub lent_texts : List (Bor (List ℕ)) → List (List ℕ)
+lent_texts lent = map (λ text. text.now) lent
 
 -- the names that an environment lacks, in the order asked, and as often as asked
 abbrev pub absent_names : Texts → List (List ℕ) → List (List ℕ)
@@ -21,9 +21,9 @@ abbrev pub HoldsTexts : {A : Type 0} → List (String A) → List (List ℕ) →
 HoldsTexts found names = map string_bytes found ≡ names
 
 -- memory was refused
-abbrev pub IsMemory : {A : Type 0} → Missing A → Type 0
-IsMemory (Names names) = ⊥
-IsMemory (Memory error) = Unit {0}
+abbrev pub IsMemoryMissing : {A : Type 0} → Missing A → Type 0
+IsMemoryMissing (Names names) = ⊥
+IsMemoryMissing (Memory error) = Unit {0}
 
 -- these names are told, unless memory was refused
 abbrev pub TellsNames : {A : Type 0} → List (List ℕ) → Missing A → Type 0

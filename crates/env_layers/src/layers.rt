@@ -7,7 +7,7 @@ ghost use Rattle.dotenv_base.specs.Environment.{KeepsNames};
 ghost use Rattle.dotenv_base.specs.Find.{IsPathOf};
 ghost use Rattle.dotenvy.specs.LoadsLeft.{ChangesKeys};
 ghost use Rattle.env_layers.specs.Layers.{AddsLayer};
-ghost use Rattle.env_layers.specs.Missing.{absent_names, texts, AnswersRequire, HoldsTexts};
+ghost use Rattle.env_layers.specs.Missing.{absent_names, lent_texts, AnswersRequire, HoldsTexts};
 
 use crate::missing::Missing;
 use dotenvy::{
@@ -139,7 +139,7 @@ impl<A: Allocator + Clone> Layers<A> {
     /// layers.require(alloc, &["HOST", "PORT"])?;
     /// ```
     pub fn require(&self, alloc: A, names: &[&str]) -> std::result::Result<(), Missing<A>>
-        ensures { AnswersRequire (absent_names self.now.names (texts names.now)) result }
+        ensures { AnswersRequire (absent_names self.now.names (lent_texts names.now)) result }
     {
         if self.contains_all(names) {
             return Ok(());
@@ -148,7 +148,8 @@ impl<A: Allocator + Clone> Layers<A> {
     }
 
     fn contains_all(&self, names: &[&str]) -> bool
-        ensures { result ≡ list_all (λ name. contains_key self.now.names name) (texts names.now) }
+        ensures { result
+            ≡ list_all (λ name. contains_key self.now.names name) (lent_texts names.now) }
     {
         names.iter().all(|name| self.environment.contains(name))
     }
@@ -156,7 +157,7 @@ impl<A: Allocator + Clone> Layers<A> {
     // The names that have no value, in the order given.
     fn absent(&self, alloc: A, names: &[&str]) -> std::result::Result<Vec<String<A>, A>, AllocError>
         ensures { IfOk result
-            (λ found. HoldsTexts found.items (absent_names self.now.names (texts names.now))) }
+            (λ found. HoldsTexts found.items (absent_names self.now.names (lent_texts names.now))) }
     {
         let mut absent = Vec::new(alloc.clone()?);
         'names: for name in names {

@@ -72,9 +72,9 @@ impl<A: Allocator> fmt::Display for Missing<A> {
 impl<A: Allocator> error::Error for Missing<A> {}
 
 impl<A: Allocator> From<AllocError> for Missing<A> {
-    ghost use Rattle.env_layers.specs.Missing.{IsMemory};
+    ghost use Rattle.env_layers.specs.Missing.{IsMemoryMissing};
 
-    ghost from_gives = { λ _ missing. IsMemory missing };
+    ghost from_gives = { λ _ missing. IsMemoryMissing missing };
 
     fn from(refused: AllocError) -> Missing<A> {
         Missing::Memory(refused)

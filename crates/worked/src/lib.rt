@@ -11,7 +11,11 @@ mod faults_of_std;
 #[cfg(test)]
 mod first_use;
 #[cfg(test)]
+mod lines;
+#[cfg(test)]
 mod missing;
+#[cfg(test)]
+mod output;
 #[cfg(test)]
 mod processes;
 #[cfg(test)]

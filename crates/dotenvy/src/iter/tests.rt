@@ -50,6 +50,7 @@ fn three_reads(rt: HostRuntime) -> std::result::Result<(), Fail> {
             lines: Splitter::with_limit(alloc, OneByteReads { rest }, 3)?,
             remembered: HashMap::new(alloc),
             dialect: Dialect::V15,
+            item_lines: (0, 0),
         };
         for text in wanted {
             assert_eq!(rt; next_text(alloc, &mut entries)?.as_str(), text);

@@ -1,7 +1,8 @@
-use Rattle.std.proofs.Common.{◌≢◌, ◌≤◌, ◌<◌, [], string_bytes}
+use Rattle.std.proofs.Common.{◌≢◌, ◌≤◌, ◌<◌, [], length, string_bytes}
 use Rattle.std.specs.Str.{chars}
 use Rattle.dotenv_base.specs.Source.{Ahead}
 use Rattle.dotenv_lines.specs.Input.{AsksReads, IsTold, supply}
+use Rattle.dotenv_lines.specs.Lines.{Counts}
 use Rattle.dotenv_lines.proofs.LineJoins.{Joining}
 use Rattle.dotenv_lines.proofs.lines.join_lines.Given as goal
 
@@ -9,7 +10,9 @@ abbrev pub invariant-joining : goal.invariant-joining
 invariant-joining g l =
     (supply l.input ≤ supply l.fn.input)
     × (string_bytes l.text ≢ [] → supply l.input < supply l.fn.input)
-    × ((a : Ahead) → IsTold l.fn.input.left a → Joining a l.fn.input (chars (string_bytes l.text)) l.mode l.input)
+    × ((a : Ahead) → IsTold l.fn.input.left a →
+    (j : Joining a l.fn.input (chars (string_bytes l.text)) l.mode l.input)
+    × Counts l.fn.lines_taken (length j.taken) l.lines_taken)
     × AsksReads (Unit {0}) l.fn.input l.input
 
 abbrev pub decreases-joining : goal.decreases-joining

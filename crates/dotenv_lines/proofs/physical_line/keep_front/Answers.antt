@@ -2,7 +2,7 @@ use Rattle.std.proofs.Common.{◌≡◌, ◌∙◌, ap, ◌++◌, string_bytes}
 use Rattle.std.specs.Prelude.{◌==◌}
 use Rattle.std.specs.Str.{chars}
 use Rattle.std.proofs.lemmas.Str.{IsUtf8-string_bytes, chars-append}
-use Rattle.dotenv_format.specs.LineModes.{kept}
+use Rattle.dotenv_format.specs.LineModes.{kept_before}
 use Rattle.dotenv_format.proofs.LineTexts.{kept_at_line_feed, kept_elsewhere}
 use Rattle.dotenv_lines.proofs.physical_line.keep_front.Goals as goal
 use Rattle.dotenv_lines.proofs.physical_line.keep_front.Goals.{then-end-eq10, else-end-eq10}
@@ -19,7 +19,7 @@ returns-clause-kept g c =
           ∙ w.drop_carriage_return.ensures
           ∙ kept_at_line_feed c.args.end (chars (string_bytes c.push_str.new.self))
           (ap (λ d. d == 10) w.if-end-eq10.true)
-          ∙ ap (kept c.args.end) pushed
+          ∙ ap (kept_before c.args.end) pushed
       | else-end-eq10 w ↦
           ap (λ t. chars (string_bytes t)) w.text-is ∙ pushed ∙ kept_elsewhere c.args.end all w.if-end-eq10.false
     ]

@@ -1,7 +1,7 @@
 use Rattle.std.proofs.Common.{rules, ◌≡◌, sym, ◌∙◌}
 use Rattle.std.proofs.lemmas.Bool.{false≢true}
 use Rattle.dotenvy.specs.Remembered.{remembered_of}
-use Rattle.dotenvy.specs.LineItem.{state_of}
+use Rattle.dotenvy.specs.LineItem.{reading_of}
 use Rattle.dotenvy.proofs.LineItems.{line_added, lines_said, refused_lines, kept_lines}
 use Rattle.dotenvy.proofs.iter.item_of.Goals as goal
 use Rattle.dotenvy.proofs.iter.item_of.Goals.{then-is_refused, else-is_refused}
@@ -18,8 +18,8 @@ returns-clause-adds g c =
           (λ is. false≢true (sym w.if-is_refused.false ∙ c.is_refused.ensures.1 is)) (search rules)
     ] in
     rw c.transpose.ensures (line_added c.args.env.now.names
-    (state_of before (remembered_of c.args.remembered.now.entries) c.args.dialect)
-    (state_of c.if-is_refused.lines.lines (remembered_of c.said_by-said.new.remembered.entries) c.args.dialect)
+    (reading_of before (remembered_of c.args.remembered.now.entries) c.args.dialect)
+    (reading_of c.if-is_refused.lines.lines (remembered_of c.said_by-said.new.remembered.entries) c.args.dialect)
     c.args.outcome c.args.lines.now.line
     c.said_by-said.result c.said_by-said.ensures.says c.said_by-said.ensures.remembers c.said_by-said.ensures.fault
     lines)

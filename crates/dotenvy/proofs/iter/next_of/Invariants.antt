@@ -1,4 +1,4 @@
-use Rattle.std.proofs.Common.{◌≡◌, ◌≢◌, ◌≤◌, List}
+use Rattle.std.proofs.Common.{◌≡◌, ◌≢◌, ◌≤◌, ℕ, List}
 use Rattle.dotenv_lines.specs.declared.lines.Stage.TheVariants.{Open}
 use Rattle.dotenv_format.specs.Entries.{Entry}
 use Rattle.dotenv_base.specs.Source.{Ahead}
@@ -17,10 +17,10 @@ invariant-lines g l = record {
   shut : l.fn.lines.lines.stage ≢ Open →
       (l.lines.lines ≡ l.fn.lines.lines)
       × (remembered_of l.remembered.entries ≡ remembered_of l.fn.remembered.entries);
-  passed : l.fn.lines.lines.stage ≡ Open → (a : Ahead) → IsTold l.fn.lines.lines.input.left a →
+  passed : (before : ℕ × ℕ) → l.fn.lines.lines.stage ≡ Open → (a : Ahead) → IsTold l.fn.lines.lines.input.left a →
       (entries : List Entry) → HasLeft l.fn.dialect a.fault a.bytes entries →
-      Passed a (state_of l.fn.lines.lines (remembered_of l.fn.remembered.entries) l.fn.dialect) entries
-      (state_of l.lines.lines (remembered_of l.remembered.entries) l.fn.dialect);
+      Passed a (state_of l.fn.lines.lines (remembered_of l.fn.remembered.entries) l.fn.dialect before) entries
+      (state_of l.lines.lines (remembered_of l.remembered.entries) l.fn.dialect before);
   asks : AsksReads (l.lines.lines.stage ≡ Open) l.fn.lines.lines.input l.lines.lines.input;
 }
 

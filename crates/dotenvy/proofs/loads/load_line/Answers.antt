@@ -3,7 +3,7 @@ use Rattle.std.specs.Str.{chars}
 use Rattle.std.proofs.lemmas.Str.{IsUtf8-string_bytes}
 use Rattle.dotenv_format.specs.Statement.{is_key}
 use Rattle.dotenvy.specs.Remembered.{remembered_of}
-use Rattle.dotenvy.specs.Names.{values_of, names_of}
+use Rattle.dotenvy.specs.Meaning.{values_of, names_of}
 use Rattle.dotenv_format.specs.Run.{sets}
 use Rattle.dotenvy.specs.LoadedLine.{mode_of}
 use Rattle.dotenvy.specs.ScanLine.{IsDeclared, Scans}

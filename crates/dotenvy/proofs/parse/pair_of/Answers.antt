@@ -1,5 +1,5 @@
 use Rattle.std.specs.Prelude.{string_bytes}
-use Rattle.dotenvy.specs.Names.{look_up_of}
+use Rattle.dotenvy.specs.Meaning.{look_up_of}
 use Rattle.dotenvy.proofs.LinePasses.{assigned_bytes, assigned_meaning}
 use Rattle.dotenvy.proofs.parse.pair_of.Goals as goal
 

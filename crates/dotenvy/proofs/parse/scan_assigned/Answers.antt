@@ -1,6 +1,6 @@
 use Rattle.std.proofs.Common.{sym}
 use Rattle.std.specs.Str.{chars}
-use Rattle.dotenvy.specs.Names.{look_up_of}
+use Rattle.dotenvy.specs.Meaning.{look_up_of}
 use Rattle.dotenvy.proofs.LinePasses.{some_bytes, assigned_value, assigned_fault}
 use Rattle.dotenvy.proofs.parse.scan_assigned.Goals as goal
 

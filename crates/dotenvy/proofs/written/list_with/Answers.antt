@@ -1,5 +1,5 @@
 use Rattle.std.proofs.Common.{◌∙◌, inr, subst, ℕ, List}
-use Rattle.dotenvy.specs.Sent.{Sends, most_writes}
+use Rattle.dotenv_base.specs.Output.{Sends, most_writes}
 use Rattle.std.proofs.lemmas.Result.{err_from_is_err_and}
 use Rattle.dotenv_format.specs.Loads.{load_result}
 use Rattle.dotenvy.specs.LoadsLeft.{ChangesKeys}

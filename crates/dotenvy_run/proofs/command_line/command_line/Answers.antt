@@ -1,7 +1,7 @@
 use Rattle.std.proofs.Common.{◌≡◌, true, [], Ok, Err, refl, sym, ap, subst, rules}
 use Rattle.std.proofs.lemmas.Result.{err_from_is_err_and}
 use Rattle.dotenvy_run.specs.Answers.{texts, line_of}
-use Rattle.dotenvy_run.specs.FirstGroup.{BeginsWith}
+use Rattle.dotenvy_run.specs.FirstGroup.{GroupBeginsWith}
 use Rattle.dotenvy_run.specs.Words.{MissingCommand}
 use Rattle.dotenvy_run.proofs.WordGroups.{
   answers_memory,
@@ -43,7 +43,7 @@ returns-in_err-add g c =
 
 pub groups-preserved : goal.groups-preserved
 groups-preserved g c =
-    let begins = subst (λ o. BeginsWith (texts c.groups.rest.now) (Ok o)) c.in-Some.is c.in_ok-group.ensures in
+    let begins = subst (λ o. GroupBeginsWith (texts c.groups.rest.now) (Ok o)) c.in-Some.is c.in_ok-group.ensures in
     rw (c.in_ok-add.ensures begins.0 begins.3)
     (one_more (texts c.args.words.now) (texts c.groups.rest.now) (texts c.in-Some.after.now)
     (line_of c.groups.line) begins.0 c.groups.invariant begins.1 begins.2)
@@ -64,7 +64,7 @@ returns-in_err-line-2 g c =
 pub returns : goal.returns
 returns g c =
     let line = line_of c.groups.line in
-    let command = subst (λ o. BeginsWith (texts c.groups.rest.now) (Ok o)) c.in_default.is c.in_ok-group.ensures in
+    let command = subst (λ o. GroupBeginsWith (texts c.groups.rest.now) (Ok o)) c.in_default.is c.in_ok-group.ensures in
     let listed : texts c.groups.rest.now ≡ [] → c.groups.line.list ≡ true =
     λ none.
     let empty = no_words c.groups.rest.now none in

@@ -1,14 +1,14 @@
 use Rattle.std.proofs.Common.{◌≤◌, ◌<◌, ◌⊎◌, ℕ, List}
 use Rattle.dotenv_base.specs.Source.{Ahead}
 use Rattle.dotenv_lines.specs.Input.{IsTold, AsksReads, supply}
-use Rattle.dotenv_lines.proofs.Inputs.{Reading}
+use Rattle.dotenv_lines.proofs.Inputs.{LineSoFar}
 use Rattle.dotenv_lines.proofs.input.Input.skip_line.Given as goal
 
 abbrev pub invariant-skipping : goal.invariant-skipping
 invariant-skipping g l =
     (supply l.self ≤ supply l.fn.self)
     × (0 < l.fn.self.unread → (supply l.self < supply l.fn.self) ⊎ (0 < l.self.unread))
-    × ((a : Ahead) → IsTold l.fn.self.left a → (line : List ℕ) × Reading a l.fn.self line l.self)
+    × ((a : Ahead) → IsTold l.fn.self.left a → (line : List ℕ) × LineSoFar a l.fn.self line l.self)
     × AsksReads (Unit {0}) l.fn.self l.self
 
 abbrev pub decreases-skipping : goal.decreases-skipping

@@ -19,7 +19,8 @@ returns-in_err-drop_mark-clause-told g c = λ opened.
     let mode = mode_of c.args.mode in
     let view = c.self.view_is in
     let inside =
-    state_of c.self.inside.lines.lines (remembered_of c.self.inside.remembered.entries) c.self.inside.dialect in
+    state_of c.self.inside.lines.lines (remembered_of c.self.inside.remembered.entries) c.self.inside.dialect
+    c.self.inside.item_lines in
     rw (p.1, p.2) (subst (λ s. LoadsLeft (run mode) s names (Err e) names) view
     (loads_mark mode inside c.drop_mark.new.self.lines.input names e
     (λ a told. c.in_err-drop_mark.ensures.told a (ap (λ (s : IterState). s.lines.stage) view ∙ opened) told)))
@@ -29,7 +30,8 @@ loading-init g c =
     let names = c.args.env.now.names in
     let mode = mode_of c.args.mode in
     let inside =
-    state_of c.self.inside.lines.lines (remembered_of c.self.inside.remembered.entries) c.self.inside.dialect in
+    state_of c.self.inside.lines.lines (remembered_of c.self.inside.remembered.entries) c.self.inside.dialect
+    c.self.inside.item_lines in
     let start : IterState = record inside { lines = c.drop_mark.new.self.lines } in record {
       shut = λ shut. search rules;
       came =
@@ -48,7 +50,7 @@ loading-preserved g c =
     let new = c.load_line.new.environment.names in
     let mode = mode_of c.args.mode in
     let self = c.loading.self-inside in
-    let now = state_of self.lines.lines (remembered_of self.remembered.entries) self.dialect in
+    let now = state_of self.lines.lines (remembered_of self.remembered.entries) self.dialect self.item_lines in
     let next : IterState = record now { lines = c.advance.new.self.lines } in record {
       shut = λ shut. absurd (search rules);
       came =
@@ -67,7 +69,7 @@ pub returns-in_err-outcome-clause-told : goal.returns-in_err-outcome-clause-told
 returns-in_err-outcome-clause-told g c = λ opened.
     let p = err_from_is_err_and c.from_residual-in_err-outcome.result c.from_residual-in_err-outcome.ensures.1 in
     let self = c.loading.self-inside in
-    let now = state_of self.lines.lines (remembered_of self.remembered.entries) self.dialect in
+    let now = state_of self.lines.lines (remembered_of self.remembered.entries) self.dialect self.item_lines in
     rw (p.1, p.2) (loads_fault (mode_of c.args.mode) c.args.self now c.advance.new.self.lines c.args.env.now.names
     c.loading.env.names c.in-Some.outcome c.advance.new.self.line c.in_err-outcome.field-0.0 opened
     c.loading.invariant.came c.in_err-outcome.was
@@ -81,7 +83,7 @@ returns-in_err-load_line-clause-told g c = λ opened.
     let new = c.load_line.new.environment.names in
     let mode = mode_of c.args.mode in
     let self = c.loading.self-inside in
-    let now = state_of self.lines.lines (remembered_of self.remembered.entries) self.dialect in
+    let now = state_of self.lines.lines (remembered_of self.remembered.entries) self.dialect self.item_lines in
     rw (p.1, p.2)
     (loads_line mode c.args.self now c.advance.new.self.lines c.args.env.now.names names new c.in-Some.outcome
     c.advance.new.self.line e opened c.loading.invariant.came c.in_ok-outcome.was
@@ -92,6 +94,6 @@ returns-in_err-load_line-clause-told g c = λ opened.
 pub returns-clause-told : goal.returns-clause-told
 returns-clause-told g c = λ opened.
     let self = c.loading.self-inside in
-    let now = state_of self.lines.lines (remembered_of self.remembered.entries) self.dialect in
+    let now = state_of self.lines.lines (remembered_of self.remembered.entries) self.dialect self.item_lines in
     loads_none {A = g.row.A.Denot} (mode_of c.args.mode) c.args.self now c.advance.new.self.lines c.args.env.now.names
     c.loading.env.names c.advance.new.self.line opened c.loading.invariant.came c.in_default.ensures.told

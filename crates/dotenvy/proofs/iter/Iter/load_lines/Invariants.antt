@@ -15,7 +15,7 @@ abbrev pub invariant-loading : goal.invariant-loading
 invariant-loading g l =
     let now =
     state_of l.self-inside.lines.lines (remembered_of l.self-inside.remembered.entries)
-    l.self-inside.dialect in
+    l.self-inside.dialect l.self-inside.item_lines in
     record {
       shut : l.fn.self.lines.stage ≢ Open → (now.lines.stage ≢ Open) × (l.env ≡ l.fn.env);
       came : CameTo (mode_of l.mode) l.fn.self l.fn.env.names l.env.names now;

@@ -1,0 +1,293 @@
+//! What logical lines come of bytes, however these are read.
+
+use dotenv_lines::lines::{QuotedLines, Splitter};
+use dotenvy::{Bytes, Environment, Error, Iter, Result, Source};
+use std::alloc::Global;
+use std::fmt::Write;
+use std::io;
+use std::io::ErrorKind;
+use std::test::Fail;
+
+// Gives its bytes in pieces, every second read interrupted, and then a fault, if it has one, or the end.
+#[derive(Drop)]
+struct Pieces<'a> {
+    rest: &'a [u8],
+    size: usize,
+    is_interrupted: bool,
+    fault: Option<ErrorKind>,
+}
+
+impl<'a> Source for Pieces<'a> {
+    fn read_some(&mut self, buf: &mut [u8]) -> io::Result<usize> {
+        self.is_interrupted = !self.is_interrupted;
+        if self.is_interrupted {
+            return Err(io::Error::from(ErrorKind::Interrupted));
+        }
+        if self.rest.is_empty() {
+            return match self.fault {
+                Some(kind) => Err(io::Error::from(kind)),
+                None => Ok(0),
+            };
+        }
+        let n = self.size.min(self.rest.len()).min(buf.len());
+        let (now, later) = self.rest.split_at(n);
+        buf[..n].copy_from_slice(now);
+        self.rest = later;
+        Ok(n)
+    }
+}
+
+// Adds a line in brackets, or its fault.
+fn list(all: &mut String, answer: Result<&str>) -> Result<()> {
+    match answer {
+        Ok(text) => write!(all, "[{text}]")?,
+        Err(Error::Io(e)) => {
+            let kind = e.kind();
+            write!(all, "<{kind:?}>")?;
+        }
+        Err(e) => write!(all, "<{e}>")?,
+    }
+    Ok(())
+}
+
+// Each line until `None`, as a text of its own.
+fn listed<R: Source + Drop>(alloc: Global, splitter: Splitter<R, Global>) -> Result<String> {
+    let mut all = String::new(alloc);
+    let mut lines = QuotedLines::new(splitter);
+    for _ in 0..1000 {
+        match lines.next_line() {
+            None => break,
+            Some(Ok(text)) => list(&mut all, Ok(text.as_str()))?,
+            Some(Err(e)) => list(&mut all, Err(e))?,
+        }
+    }
+    Ok(all)
+}
+
+// Each line until `None`, as the splitter holds it.
+fn listed_in_place<R: Source>(alloc: Global, splitter: &mut Splitter<R, Global>) -> Result<String> {
+    let mut all = String::new(alloc);
+    for _ in 0..1000 {
+        match splitter.advance() {
+            None => break,
+            Some(Ok(())) => list(&mut all, Ok(splitter.line()))?,
+            Some(Err(e)) => list(&mut all, Err(e))?,
+        }
+    }
+    Ok(all)
+}
+
+fn one_byte_a_read(bytes: &[u8]) -> Pieces<'_> {
+    Pieces {
+        rest: bytes,
+        size: 1,
+        is_interrupted: false,
+        fault: None,
+    }
+}
+
+fn listed_both_ways(alloc: Global, bytes: &[u8], has_mark: bool) -> Result<(String, String)> {
+    let mut whole = Splitter::new(alloc, Bytes::new(bytes))?;
+    let mut cut = Splitter::new(alloc, one_byte_a_read(bytes))?;
+    if has_mark {
+        whole.drop_mark()?;
+        cut.drop_mark()?;
+    }
+    Ok((listed(alloc, whole)?, listed(alloc, cut)?))
+}
+
+#[test]
+fn logical_lines(rt: HostRuntime) -> std::result::Result<(), Fail> {
+    let open_a = "<Error parsing line: 'A=\"b\n', error at line index: 5>";
+    let rows: [(&[u8], &str); 24] = [
+        (b"", ""),
+        (b"A=1\nB=2", "[A=1][B=2]"),
+        (b"\n\n", "[][]"),
+        (b"A=\"b\nc\"\nD", "[A=\"b\nc\"][D]"),
+        (b"A=1\r\nB\r", "[A=1][B\r]"),
+        (b"A\r\r\n", "[A\r]"),
+        (b"A=b\\\nB", "[A=b\\][B]"),
+        (b"A=b\\\r\nB", "[A=b\\][B]"),
+        (b" \t# a 'b\nC", "[][C]"),
+        (b"# \xFF\nC", "<InvalidData>[C]"),
+        (b"A=1 # a 'b\nC", "[A=1 ][C]"),
+        (b"A=1  # a 'b\nc'", "[A=1  # a 'b\nc']"),
+        (b"A=1   # a 'b\nC", "[A=1   ][C]"),
+        (b"A=\"b\n\xFF\nC", "<InvalidData>[C]"),
+        (b"A=\"b\n# c\"\n", "[A=\"b\n# c\"]"),
+        (b"A=\"b\n", open_a),
+        (
+            b"A=\\",
+            "<Error parsing line: 'A=\\', error at line index: 3>",
+        ),
+        (
+            b"A= ",
+            "<Error parsing line: 'A= ', error at line index: 3>",
+        ),
+        (b"A= 'b'", "[A= 'b']"),
+        (b"A='\\''b\nC", "[A='\\''b][C]"),
+        (
+            b"\xC3\xA9='\xC3\xA9",
+            "<Error parsing line: '\u{e9}='\u{e9}', error at line index: 6>",
+        ),
+        (b"\xC2\xA0#a", "[]"),
+        (b"\xC2\xA0\xC2\xA0#a'", "[]"),
+        (b"A\xC2\xA0#a'\nB", "[A\u{a0}][B]"),
+    ];
+    for (bytes, wanted) in rows {
+        let (whole, cut) = listed_both_ways(rt.alloc(), bytes, false)?;
+        assert_eq!(rt; whole.as_str(), wanted, "whole");
+        assert_eq!(rt; cut.as_str(), wanted, "in pieces");
+    }
+    Ok(())
+}
+
+#[test]
+fn byte_order_marks(rt: HostRuntime) -> std::result::Result<(), Fail> {
+    let rows: [(&[u8], &str); 6] = [
+        (b"\xEF\xBB\xBFA=1", "[A=1]"),
+        (b"\xEF\xBB\xBF\xEF\xBB\xBFA", "[\u{FEFF}A]"),
+        (b"\xEF\xBB\xBF", ""),
+        (b"\xEF\xBB", "<InvalidData>"),
+        (b"A", "[A]"),
+        (b"", ""),
+    ];
+    for (bytes, wanted) in rows {
+        let (whole, cut) = listed_both_ways(rt.alloc(), bytes, true)?;
+        assert_eq!(rt; whole.as_str(), wanted, "whole");
+        assert_eq!(rt; cut.as_str(), wanted, "in pieces");
+    }
+    Ok(())
+}
+
+#[test]
+fn a_fault_of_the_reader_is_the_last_answer(rt: HostRuntime) -> std::result::Result<(), Fail> {
+    let failing = Pieces {
+        rest: b"A=1\nB='c\n\xEF",
+        size: 4,
+        is_interrupted: false,
+        fault: Some(ErrorKind::InvalidData),
+    };
+    let mut lines = Splitter::new(rt.alloc(), failing)?;
+    let all = listed_in_place(rt.alloc(), &mut lines)?;
+    assert_eq!(rt; all.as_str(), "[A=1]<InvalidData>");
+    assert_eq!(rt; lines.drop_mark().is_ok(), true);
+    Ok(())
+}
+
+// The lines that so many reads give.
+fn listed_by<R: Source + Drop>(alloc: Global, reader: R, reads: u64) -> Result<String> {
+    listed(alloc, Splitter::with_limit(alloc, reader, reads)?)
+}
+
+#[test]
+fn the_bound_on_reads(rt: HostRuntime) -> std::result::Result<(), Fail> {
+    for (reads, wanted) in [(1, "[A]<Other>"), (2, "[A][B]")] {
+        let all = listed_by(rt.alloc(), Bytes::new(b"A\nB"), reads)?;
+        assert_eq!(rt; all.as_str(), wanted);
+    }
+    Ok(())
+}
+
+#[test]
+fn interrupted_reads_count(rt: HostRuntime) -> std::result::Result<(), Fail> {
+    let interrupted = Pieces {
+        rest: b"A\n",
+        size: 4,
+        is_interrupted: false,
+        fault: Some(ErrorKind::Interrupted),
+    };
+    let all = listed_by(rt.alloc(), interrupted, 1_000)?;
+    assert_eq!(rt; all.as_str(), "[A]<Other>");
+    Ok(())
+}
+
+#[test]
+fn nothing_comes_once_it_has_failed(rt: HostRuntime) -> std::result::Result<(), Fail> {
+    let mut failed = Splitter::new(rt.alloc(), Bytes::new(b"A"))?;
+    failed.fail();
+    let all = listed(rt.alloc(), failed)?;
+    assert_eq!(rt; all.as_str(), "");
+    Ok(())
+}
+
+#[test]
+fn the_line_buffer_holds_the_last_line(rt: HostRuntime) -> std::result::Result<(), Fail> {
+    let alloc = rt.alloc();
+    // A comment is skipped, also one that is read in pieces, and leaves none of the long line before
+    // it; the lines behind it are shorter, and each is there alone.
+    let bytes =
+        b"A='long\nquoted'\n# c\nB=1\n\n  # d\nC # e\nK=\xC3\nD\n\xFF 'x\nE='\n\xEF\xBB\xBF";
+    let wanted = "[A='long\nquoted'][][B=1][][][C ]<InvalidData>[D]<InvalidData>\
+        <Error parsing line: 'E='\n\u{FEFF}', error at line index: 7>";
+    let mut whole = Splitter::new(alloc, Bytes::new(bytes))?;
+    assert_eq!(rt;
+        listed_in_place(alloc, &mut whole)?.as_str(),
+        wanted,
+        "whole"
+    );
+    let mut cut = Splitter::new(alloc, one_byte_a_read(bytes))?;
+    assert_eq!(rt;
+        listed_in_place(alloc, &mut cut)?.as_str(),
+        wanted,
+        "in pieces"
+    );
+    assert!(rt; whole.advance().is_none());
+    assert!(rt; cut.advance().is_none());
+    Ok(())
+}
+
+// Whether the last item stands on the lines from the first to the last.
+fn stands_on<R: Source>(file: &Iter<R>, first: u64, last: u64) -> bool {
+    file.first_line() == first && file.last_line() == last
+}
+
+#[test]
+fn lines_of_items(rt: HostRuntime) -> std::result::Result<(), Fail> {
+    let alloc = rt.alloc();
+    let environment = Environment::new(alloc);
+    let bytes = b"# c\nA=1\nB=\"2\n3\"\nC=x y\n\nD=1\n# d";
+    let mut file = Iter::new(alloc, Bytes::new(bytes))?;
+    assert!(rt; stands_on(&file, 0, 0), "before the first item");
+    for (first, last) in [(2, 2), (3, 4), (5, 5), (7, 7)] {
+        assert!(rt; file.next_item(&environment).is_some());
+        assert!(rt; stands_on(&file, first, last), "line {first}");
+    }
+    assert!(rt; file.next_item(&environment).is_none());
+    assert!(rt; stands_on(&file, 7, 7), "at the end");
+    Ok(())
+}
+
+#[test]
+fn a_fault_of_the_reader_stands_on_no_line(rt: HostRuntime) -> std::result::Result<(), Fail> {
+    let alloc = rt.alloc();
+    let environment = Environment::new(alloc);
+    let failing = Pieces {
+        rest: b"A=1\nB=2",
+        size: 4,
+        is_interrupted: false,
+        fault: Some(ErrorKind::InvalidData),
+    };
+    let mut file = Iter::new(alloc, failing)?;
+    assert!(rt; file.next_item(&environment).is_some());
+    assert!(rt; stands_on(&file, 1, 1));
+    assert!(rt; file.next_item(&environment).is_some());
+    assert!(rt; stands_on(&file, 0, 0));
+    Ok(())
+}
+
+#[test]
+fn items_behind_a_dropped_mark(rt: HostRuntime) -> std::result::Result<(), Fail> {
+    let alloc = rt.alloc();
+    let environment = Environment::new(alloc);
+    for is_dropped in [true, false] {
+        let mut file = Iter::new(alloc, Bytes::new(b"\xEF\xBB\xBFA=1\n"))?;
+        if is_dropped {
+            file.drop_mark()?;
+        }
+        let is_pair = matches!(file.next_item(&environment), Some(Ok(_)));
+        assert_eq!(rt; is_pair, is_dropped);
+        assert!(rt; stands_on(&file, 1, 1));
+    }
+    Ok(())
+}

@@ -1,0 +1,89 @@
+//! What a loop of writes leaves and answers where no write is left.
+
+use dotenv_base::output::write_all;
+use dotenvy::{Error, Plain, Result};
+use std::alloc::Global;
+use std::io;
+use std::io::{ErrorKind, Write};
+use std::test::Fail;
+
+// What a write does: it takes at most so many bytes, or answers a fault of this kind.
+#[derive(Clone, Copy)]
+enum Step {
+    Take(usize),
+    Fault(ErrorKind),
+}
+
+// Plays its steps, one a write, and the last one ever after.
+#[derive(Drop)]
+struct Played<'a> {
+    steps: &'a [Step],
+    taken: Vec<u8>,
+}
+
+impl<'a> Played<'a> {
+    fn next_step(&mut self) -> Option<Step> {
+        let (first, later) = self.steps.split_first()?;
+        if !later.is_empty() {
+            self.steps = later;
+        }
+        Some(*first)
+    }
+}
+
+impl<'a> Write for Played<'a> {
+    fn write(&mut self, buf: &[u8]) -> io::Result<usize> {
+        let n = match self.next_step() {
+            Some(Step::Take(most)) => most.min(buf.len()),
+            Some(Step::Fault(kind)) => return Err(io::Error::from(kind)),
+            None => 0,
+        };
+        self.taken.extend_from_slice(&buf[..n])?;
+        Ok(n)
+    }
+
+    fn flush(&mut self) -> io::Result<()> {
+        Ok(())
+    }
+}
+
+// The answer, and in brackets what was written.
+fn answered(
+    alloc: Global,
+    steps: &[Step],
+    bytes: &[u8],
+    writes_left: u64,
+) -> std::result::Result<String, Fail> {
+    let taken = Vec::new(alloc);
+    let mut sink = Plain::new(Played { steps, taken });
+    let answer: Result<(), Global> = write_all(&mut sink, bytes, writes_left);
+    let text = String::from_utf8(sink.into_inner().taken)?;
+    Ok(match answer {
+        Ok(()) => format!(in alloc; "ok [{text}]")?,
+        Err(Error::Io(e)) => {
+            let kind = e.kind();
+            format!(in alloc; "{kind:?} [{text}]")?
+        }
+        Err(e) => format!(in alloc; "{e} [{text}]")?,
+    })
+}
+
+#[test]
+fn no_write_is_left(rt: HostRuntime) -> std::result::Result<(), Fail> {
+    let again = Step::Fault(ErrorKind::Interrupted);
+    let rows: [(&[Step], &[u8], u64, &str); 8] = [
+        (&[Step::Take(0)], b"", 3, "ok []"),
+        (&[Step::Take(1)], b"abc", 3, "ok [abc]"),
+        (&[Step::Take(1)], b"abcd", 3, "Other [abc]"),
+        (&[Step::Take(1)], b"K=\"1\"\n", 2, "Other [K=]"),
+        (&[Step::Take(2)], b"abcdef", 3, "ok [abcdef]"),
+        (&[Step::Take(2)], b"abcdefg", 3, "Other [abcdef]"),
+        (&[Step::Take(1), again], b"abc", 3, "Other [a]"),
+        (&[again], b"abc", 3, "Other []"),
+    ];
+    for (steps, bytes, writes_left, wanted) in rows {
+        let got = answered(rt.alloc(), steps, bytes, writes_left)?;
+        assert_eq!(rt; got.as_str(), wanted);
+    }
+    Ok(())
+}
