@@ -1,27 +1,11 @@
 -- Keys: their bytes are their characters, and each key is a name.
 use Rattle.std.proofs.Common.{◌≡◌, ◌<◌, ℕ, true, false, [], ◌∷◌, List, refl, sym, ap, ◌∙◌, arith}
-use Rattle.std.specs.Prelude.{
-  ◌++◌,
-  ◌||◌,
-  not,
-  ◌==◌,
-  encode_utf8_all,
-  Option,
-  Some,
-  None,
-  Result,
-  Ok,
-  Err,
-  IfSome,
-  IfOk,
-  IsTrue,
-  string_bytes,
-}
+use Rattle.std.specs.Prelude.{◌++◌, ◌||◌, not, ◌==◌, encode_utf8_all}
 use Rattle.std.specs.List.{list_all, list_any}
 use Rattle.std.specs.Str.{chars, IsUtf8}
 use Rattle.std.proofs.lemmas.Bool.{and_parts, and_from}
 use Rattle.std.proofs.lemmas.Bool.Decides.{nat_tests}
-use Rattle.std.proofs.lemmas.Str.{IsUtf8-string_bytes, encodes-chars, encode_ascii}
+use Rattle.std.proofs.lemmas.Str.{encodes-chars, encode_ascii}
 use Rattle.dotenv_format.specs.Characters.{begins_key, continues_key, equals_sign}
 use Rattle.dotenv_format.specs.Statement.{is_key}
 use Rattle.dotenv_base.specs.Environment.{name_ok}

@@ -1,5 +1,5 @@
 -- The law of the search.
-use Rattle.std.specs.Prelude.{◌≡◌, ◌≢◌, ◌<◌, ◌≤◌, ◌⊎◌, ℕ, List, [], ◌∷◌, ◌++◌, length, take, Option, Some, map, Ok, encode_utf8_all}
+use Rattle.std.specs.Prelude.{◌≡◌, ℕ, List}
 use Rattle.dotenv_base.specs.declared.search.Look.{Look}
 use Rattle.dotenv_base.specs.Search as search
 
