@@ -6,38 +6,38 @@ use std::env;
 use std::path::Path;
 use std::process::ExitCode;
 
-/// Whether each item of a file is a pair. Those that aren't are printed; one that stands on no line, such as a fault of
-/// the disk, without a line.
-fn is_clean(rt: HostRuntime, path: &str, environment: &Environment) -> Result<bool> {
+/// Prints each item of a file that is no pair, and answers whether there was one. A fault that stands on no line, such as
+/// one of the disk, is printed without a line.
+fn print_faults(rt: HostRuntime, path: &str, environment: &Environment) -> Result<bool> {
     let mut file = from_path_iter(&rt, Path::new(path))?;
     file.drop_mark()?;
-    let mut is_clean = true;
+    let mut has_faults = false;
     'items: while let Some(item) = file.next_item(environment) {
         if let Err(fault) = item {
-            is_clean = false;
+            has_faults = true;
             match file.first_line() {
                 0 => println!(rt; "{path}: {fault}")?,
                 line => println!(rt; "{path}:{line}: {fault}")?,
             }
         }
     }
-    Ok(is_clean)
+    Ok(has_faults)
 }
 
-/// Whether all files that the words name are clean.
-fn are_clean(rt: HostRuntime) -> Result<bool> {
+/// Prints the faults of all files that the words name, and answers whether there was one.
+fn print_all(rt: HostRuntime) -> Result<bool> {
     let environment = Environment::from_process(&rt)?;
-    let mut are_clean = true;
+    let mut has_faults = false;
     for path in env::args(&rt)?.skip(1) {
-        are_clean &= is_clean(rt, &path, &environment)?;
+        has_faults |= print_faults(rt, &path, &environment)?;
     }
-    Ok(are_clean)
+    Ok(has_faults)
 }
 
 fn main(rt: HostRuntime) -> ExitCode {
-    match are_clean(rt) {
-        Ok(true) => ExitCode::SUCCESS,
-        Ok(false) => ExitCode::FAILURE,
+    match print_all(rt) {
+        Ok(false) => ExitCode::SUCCESS,
+        Ok(true) => ExitCode::FAILURE,
         Err(error) => {
             let _ = eprintln!(rt; "error: {error}");
             ExitCode::FAILURE
