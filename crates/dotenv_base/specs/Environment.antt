@@ -22,12 +22,14 @@ pub record Env : Type 0 where
 -- its code, by those of its parts
 abbrev pub env_code : Coded Env
 env_code =
-    code_by (Texts × Bool) (coded× (fin.code (coded_list coded_ℕ) (coded_list coded_ℕ)) coded_bool) (λ e. (e.names, e.loaded)) (λ p. record { names = p.0; loaded = p.1 }) (λ _. refl)
+    code_by (Texts × Bool) (coded× (fin.code (coded_list coded_ℕ) (coded_list coded_ℕ)) coded_bool)
+      (λ e. (e.names, e.loaded)) (λ p. record { names = p.0; loaded = p.1 }) (λ _. refl)
 
 -- a name is not empty and has no `=` and no NUL
 abbrev pub name_ok : List ℕ → Bool
 name_ok [] = false
-name_ok (b ∷ bs) = not (list_any (λ c. c == equals_sign) (b ∷ bs)) && not (list_any (λ c. c == 0) (b ∷ bs))
+name_ok (b ∷ bs) =
+    not (list_any (λ c. c == equals_sign) (b ∷ bs)) && not (list_any (λ c. c == 0) (b ∷ bs))
 
 -- a value has no NUL
 abbrev pub value_ok : List ℕ → Bool
@@ -35,7 +37,8 @@ value_ok bs = not (list_any (λ c. c == 0) bs)
 
 -- every name and value is a good one
 abbrev pub IsEnvironment : Env → Type 0
-IsEnvironment e = (k v : List ℕ) → fin.get e.names k ≡ Some v → IsTrue (name_ok k) × IsTrue (value_ok v)
+IsEnvironment e =
+    (k v : List ℕ) → fin.get e.names k ≡ Some v → IsTrue (name_ok k) × IsTrue (value_ok v)
 
 -- each value is a text
 abbrev pub AreTexts : Texts → Type 0

@@ -27,7 +27,8 @@ IsMemory (Memory _) = Unit {0}
 
 -- the text of a fault of the grammar in the bytes `text`, at `place`
 abbrev pub line_parse_text : List ℕ → ℕ → List ℕ
-line_parse_text text place = codes "Error parsing line: '" ++ (text ++ (codes "', error at line index: " ++ decimal place))
+line_parse_text text place =
+    codes "Error parsing line: '" ++ (text ++ (codes "', error at line index: " ++ decimal place))
 
 -- what `{}` prints, and nothing is claimed of a fault of a reader, a writer or a file
 abbrev pub error_text : {A : Type 0} → Error A → Option (List ℕ)
@@ -60,7 +61,8 @@ IsMemoryErr (Err e) = IsMemory e
 
 -- a fault of the grammar, with this text, by its characters, and this index
 abbrev pub IsLineParseOf : {A : Type 0} → List ℕ → ℕ → Error A → Type 0
-IsLineParseOf text index (LineParse found place) = (chars (string_bytes found) ≡ text) × (place ≡ index)
+IsLineParseOf text index (LineParse found place) =
+    (chars (string_bytes found) ≡ text) × (place ≡ index)
 IsLineParseOf text index (Io _) = ⊥
 IsLineParseOf text index (EnvVar _) = ⊥
 IsLineParseOf text index (Nul _) = ⊥

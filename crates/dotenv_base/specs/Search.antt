@@ -33,7 +33,8 @@ path_in directory name =
 abbrev pub parent_part : List ℕ → List ℕ
 parent_part directory =
     if list_any is_slash directory
-    then (if length (before_last is_slash directory) == 0 then slash ∷ [] else before_last is_slash directory)
+    then (if length (before_last is_slash directory) == 0 then slash ∷ [] else
+          before_last is_slash directory)
     else []
 
 -- the directory above; the empty text and the root have none
@@ -66,7 +67,8 @@ AreAsked [] asked = asked ≡ []
 AreAsked (path ∷ paths) [] = ⊥
 AreAsked (path ∷ paths) ((first, look) ∷ asked) =
     (first ≡ path)
-    × ((IsTrue (ends_search look) × (asked ≡ [])) ⊎ (IsTrue (not (ends_search look)) × AreAsked paths asked))
+    × ((IsTrue (ends_search look) × (asked ≡ []))
+       ⊎ (IsTrue (not (ends_search look)) × AreAsked paths asked))
 
 -- what a search answers: the path of a file; the fault that ended it; or that there is no such file
 pub data Answer : Type 0 where
@@ -83,7 +85,8 @@ search_answer ((path, Fault fault) ∷ candidates) =
     if is_not_found (error_kind fault) then search_answer candidates else EndedBy fault
 
 -- the search for the name, from the directory up, asks these candidates, finds this at each, and has this answer
-pub record Searches (directory name : List ℕ) (asked : List (List ℕ × Look)) (answer : Answer) : Type 0 where
+pub record Searches (directory name : List ℕ) (asked : List (List ℕ × Look)) (answer : Answer) :
+    Type 0 where
   pub directories : List (List ℕ)
   pub ascends : Ascends directory directories
   pub are_asked : AreAsked (map (λ d. path_in d name) directories) asked

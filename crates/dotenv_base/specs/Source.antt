@@ -16,12 +16,18 @@ pub record Ahead : Type 0 where
 -- its code, by those of its parts
 abbrev pub ahead_code : Coded Ahead
 ahead_code =
-    code_by (List ℕ × Option ErrorKind) (coded× (coded_list coded_ℕ) (coded_option kind.the_row.coded)) (λ a. (a.bytes, a.fault)) (λ p. record { bytes = p.0; fault = p.1 }) (λ _. refl)
+    code_by (List ℕ × Option ErrorKind)
+      (coded× (coded_list coded_ℕ) (coded_option kind.the_row.coded)) (λ a. (a.bytes, a.fault))
+      (λ p. record { bytes = p.0; fault = p.1 }) (λ _. refl)
 
 -- a read that answered r took its bytes from the front of what was ahead: none only at the end, and a fault only where it stands next
 abbrev pub ReadsFront : Ahead → Option Ahead → Result ℕ Error → List ℕ → Type 0
 ReadsFront a after r buf =
-    IfOk r (λ n. (take n buf ≡ take n a.bytes) × (n ≤ length a.bytes) × (after ≡ Some (record { bytes = drop n a.bytes; fault = a.fault })) × (0 < length buf → n ≡ 0 → (a.bytes ≡ []) × (a.fault ≡ None)))
+    IfOk r
+      (λ n.
+         (take n buf ≡ take n a.bytes) × (n ≤ length a.bytes)
+         × (after ≡ Some (record { bytes = drop n a.bytes; fault = a.fault }))
+         × (0 < length buf → n ≡ 0 → (a.bytes ≡ []) × (a.fault ≡ None)))
     × IfErr r (λ e. (a.bytes ≡ []) × (a.fault ≡ Some (error_kind e)))
 
 abbrev pub ReadsAhead : Option Ahead → Option Ahead → Result ℕ Error → List ℕ → Type 0
@@ -31,7 +37,8 @@ ReadsAhead (Some a) after r buf = ReadsFront a after r buf
 -- a write that answered r appended the first bytes of buf, and none on a fault
 abbrev pub WriteAppends : Option (List ℕ) → Option (List ℕ) → Result ℕ Error → List ℕ → Type 0
 WriteAppends None after r buf = Unit {0}
-WriteAppends (Some xs) after r buf = IfOk r (λ n. after ≡ Some (xs ++ take n buf)) × OnErr r (after ≡ Some xs)
+WriteAppends (Some xs) after r buf =
+    IfOk r (λ n. after ≡ Some (xs ++ take n buf)) × OnErr r (after ≡ Some xs)
 
 -- the kind of the last fault of a write, after a write that answered r: WriteZero where it took none of some bytes
 abbrev pub fault_after : Option ErrorKind → List ℕ → Result ℕ Error → Option ErrorKind

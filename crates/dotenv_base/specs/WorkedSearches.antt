@@ -18,9 +18,11 @@ HaveSearchesOf denied missing =
     -- the first file is the answer
     Searches (codes "/a/b") (codes ".env") (asks "/a/b/.env" Other ∷ asks "/a/.env" File ∷ [])
     (FoundAt (codes "/a/.env"))
-    × Searches (codes "a") (codes ".env") (asks "a/.env" Other ∷ asks ".env" File ∷ []) (FoundAt (codes ".env"))
+    × Searches (codes "a") (codes ".env") (asks "a/.env" Other ∷ asks ".env" File ∷ [])
+        (FoundAt (codes ".env"))
     -- a fault ends the search, but for one that says that nothing is there
-    × Searches (codes "/a/b") (codes ".env") (asks "/a/b/.env" Other ∷ asks "/a/.env" (Fault denied) ∷ [])
+    × Searches (codes "/a/b") (codes ".env")
+        (asks "/a/b/.env" Other ∷ asks "/a/.env" (Fault denied) ∷ [])
     (EndedBy denied)
     × Searches (codes "/a/b") (codes ".env")
     (asks "/a/b/.env" Other ∷ asks "/a/.env" Other ∷ asks "/.env" (Fault missing) ∷ []) FoundNowhere
@@ -31,5 +33,6 @@ HaveSearchesOf denied missing =
 -- the same, whatever else the faults say
 abbrev pub HaveSearches : Type 0
 HaveSearches =
-    (denied missing : IoError) → error_kind denied ≡ PermissionDenied → error_kind missing ≡ NotFound →
+    (denied missing : IoError) → error_kind denied ≡ PermissionDenied →
+    error_kind missing ≡ NotFound →
     HaveSearchesOf denied missing

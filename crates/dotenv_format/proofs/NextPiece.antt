@@ -1,38 +1,5 @@
 -- How the pieces that the code reads follow from the reader of values.
-use Rattle.std.proofs.Common.{
-  ◌≡◌,
-  ◌≢◌,
-  ℕ,
-  zero,
-  suc,
-  ◌+◌,
-  ◌/◌,
-  ◌%◌,
-  ◌<◌,
-  Bool,
-  true,
-  false,
-  not,
-  ◌&&◌,
-  ◌||◌,
-  List,
-  [],
-  ◌∷◌,
-  ◌++◌,
-  Option,
-  Some,
-  None,
-  refl,
-  sym,
-  ◌∙◌,
-  ap,
-  subst,
-  arith,
-  length,
-  length-append,
-  append_assoc,
-  unwrap_or,
-}
+use Rattle.std.proofs.Common.{◌≡◌, ◌≢◌, ℕ, zero, suc, ◌+◌, ◌/◌, ◌%◌, ◌<◌, Bool, true, false, not, ◌&&◌, ◌||◌, List, [], ◌∷◌, ◌++◌, Some, None, refl, sym, ◌∙◌, ap, subst, arith, length, length-append, append_assoc, unwrap_or}
 use Rattle.std.specs.Prelude.{◌==◌, if◌then◌else◌}
 use Rattle.std.specs.List.{list_all}
 use denote.Ref.{Bor}
@@ -55,7 +22,7 @@ use Rattle.dotenv_format.specs.declared.value.Kind.TheVariants.{
 }
 use Rattle.dotenv_format.specs.declared.value.Piece.TheVariants.{Text as CodeText, Name as CodeName}
 use Rattle.dotenv_format.specs.declared.value.NextPiece.{NextPiece}
-use Rattle.dotenv_format.specs.declared.value.NextPiece.TheVariants.{Piece as GivesNext, End, Fault}
+use Rattle.dotenv_format.specs.declared.value.NextPiece.TheVariants.{Piece as GivesNext, End, Unfinished, Fault}
 use Rattle.dotenv_format.specs.Characters.{
   single_quote,
   double_quote,
@@ -96,6 +63,7 @@ use Rattle.dotenv_format.specs.ReadValue.{
   read_value,
   goes_base,
   with_pieces,
+  ValueStep,
   value_goes,
   value_reach_after,
   value_reach,
@@ -111,10 +79,9 @@ use Rattle.dotenv_format.specs.NextPiece.{
   IsShorter,
 }
 use Rattle.dotenv_format.proofs.Basics.{and_left, and_right, not_is, when_true, when_false, same_from}
-use Rattle.dotenv_format.proofs.Values.{given-given, read_comment, brace_not_left}
+use Rattle.dotenv_format.proofs.Values.{given-given, given-nil, stepped, comment_read, before_left, brace_not_left}
 use Rattle.dotenv_format.proofs.NameCharacters.{brace_no_name}
 use Rattle.dotenv_format.proofs.Slices.{IsCut, no_characters}
-use Rattle.dotenv_format.proofs.ValuePlaces.{from-goes, after, given-nil}
 
 -- a character that leads to a mode is read to there, and gives the pieces of its step
 pub one : (dialect : Dialect) (m n : ValueMode) (c : ℕ) (cs : List ℕ) (pieces : List Piece) →
@@ -122,7 +89,7 @@ pub one : (dialect : Dialect) (m n : ValueMode) (c : ℕ) (cs : List ℕ) (piece
 one dialect m n c cs pieces h = record {
   front = c ∷ [];
   spelled = refl;
-  reads = from-goes dialect m c (λ k. read_value dialect cs k) ∙ ap (λ g. after g (λ k. read_value dialect cs k)) h;
+  reads = stepped dialect m c cs (Some (n, pieces)) h;
   counts = ap (λ g. value_reach_after g (λ k. value_reach dialect cs k)) h ∙ omega arith;
 }
 
@@ -132,7 +99,7 @@ pub stop : (dialect : Dialect) (m : ValueMode) (c : ℕ) (cs : List ℕ) → val
 stop dialect m c cs h = record {
   front = [];
   spelled = refl;
-  reads = from-goes dialect m c (λ k. read_value dialect cs k) ∙ ap (λ g. after g (λ k. read_value dialect cs k)) h;
+  reads = stepped dialect m c cs None h;
   counts = ap (λ g. value_reach_after g (λ k. value_reach dialect cs k)) h;
 }
 
@@ -173,6 +140,7 @@ next_after dialect m n text left (GivesNext next) a h =
       follows = h.follows;
       means = h.means;
     }
+next_after dialect m n text left Unfinished a h = stop_after dialect m n text left [] [] a h
 next_after dialect m n text left (Fault rest) a h = stop_after dialect m n text left (chars rest.now) [] a h
 
 -- what follows a character and a front is shorter than all of it
@@ -186,6 +154,7 @@ shorter_after dialect m c cs End h = tt
 shorter_after dialect m c cs (GivesNext next) h =
     subst (λ t. length (chars next.rest.now) < length (c ∷ t)) (sym h.is_read.spelled)
     (longer h.is_read.front (chars next.rest.now) c)
+shorter_after dialect m c cs Unfinished h = tt
 shorter_after dialect m c cs (Fault left) h = tt
 
 -- a run of characters, each of which the mode collects, is collected, and gives no piece yet
@@ -207,7 +176,7 @@ run dialect mode passes step held (c ∷ front) rest h =
     (mode ((held ++ c ∷ []) ++ front)) (c ∷ (front ++ rest)) (front ++ rest) rest [] [] here later)
 
 -- where the first character leads, by what it begins
-abbrev goes_kind : Kind → Quoting → ℕ → Option (ValueMode × List Piece)
+abbrev goes_kind : Kind → Quoting → ℕ → ValueStep
 goes_kind Backslash q c = Some (escaping q, [])
 goes_kind SingleQuote q c = Some (in_single [], [])
 goes_kind DoubleQuote q c = Some (base (other_quoting q), [])
@@ -220,7 +189,7 @@ pub kind_goes : (q : CodeQuoting) (c : ℕ) → goes_base (quoting_of q) c ≡ g
 kind_goes Unquoted c = at (c == backslash) (c == single_quote) (c == double_quote) (c == dollar) (is_space_or_tab c)
   where
     at : (b s d o t : Bool) →
-        elim b as (λ _. Option (ValueMode × List Piece)) [
+        elim b as (λ _. ValueStep) [
           | true ↦ Some (escaping unquoted, [])
           | false ↦
               elim s [
@@ -252,7 +221,7 @@ kind_goes Unquoted c = at (c == backslash) (c == single_quote) (c == double_quot
 kind_goes DoubleQuoted c = at (c == backslash) (c == double_quote) (c == dollar)
   where
     at : (b d o : Bool) →
-        elim b as (λ _. Option (ValueMode × List Piece)) [
+        elim b as (λ _. ValueStep) [
           | true ↦ Some (escaping double_quoted, [])
           | false ↦
               elim d [
@@ -410,9 +379,9 @@ escape_ends dialect text e = ap (λ t. read_value dialect t (escaping unquoted))
 
 -- in double quotes, a text that ends behind a backslash is a fault at its end
 pub escape_open : (dialect : Dialect) (text : List ℕ) → text ≡ [] →
-    StopsAt dialect (escaping double_quoted) (chars text) (chars text)
+    StopsAt dialect (escaping double_quoted) (chars text) []
 escape_open dialect text e =
-    subst (λ t. StopsAt dialect (escaping double_quoted) t t) (sym (no_characters text e))
+    subst (λ t. StopsAt dialect (escaping double_quoted) t []) (sym (no_characters text e))
     (record { front = []; spelled = refl; reads = refl; counts = refl })
 
 -- A space or tab, and what may follow it.
@@ -420,14 +389,6 @@ escape_open dialect text e =
 collects_blanks : (dialect : Dialect) (held : List ℕ) (c : ℕ) → is_space_or_tab c ≡ true →
     value_goes dialect in_tail c ≡ Some (in_tail, [])
 collects_blanks dialect held c h = when_true _ _ (is_space_or_tab c) h
-
--- in a value's tail, nothing or a comment ends the value, and means nothing
-comment_read : (dialect : Dialect) (comment : List ℕ) → is_empty_or_comment comment ≡ true →
-    read_value dialect comment in_tail ≡ Some []
-comment_read dialect [] h = refl
-comment_read dialect (c ∷ comment) h =
-    subst (λ d. read_value dialect (d ∷ comment) in_tail ≡ Some []) (sym (same_from c hash h))
-    (read_comment dialect comment)
 
 -- in a value's tail, a character that is no space, tab or `#` is a fault where it stands
 tail_stops : (dialect : Dialect) (comment : List ℕ) → not (begins_passing is_space_or_tab comment) ≡ true →
@@ -473,7 +434,7 @@ plain_goes : (dialect : Dialect) (q : Quoting) (c : ℕ) → is_plain q c ≡ tr
 plain_goes dialect double_quoted c h = inside (c == backslash) (c == double_quote) (c == dollar) h
   where
     inside : (b d o : Bool) → not ((b || d) || o) ≡ true →
-        elim b as (λ _. Option (ValueMode × List Piece)) [
+        elim b as (λ _. ValueStep) [
           | true ↦ Some (escaping double_quoted, [])
           | false ↦
               elim d [
@@ -493,7 +454,7 @@ plain_goes dialect unquoted c h =
     outside (c == backslash) (c == single_quote) (c == double_quote) (c == dollar) (is_space_or_tab c) h
   where
     outside : (b s d o t : Bool) → not ((((b || s) || d) || o) || t) ≡ true →
-        elim b as (λ _. Option (ValueMode × List Piece)) [
+        elim b as (λ _. ValueStep) [
           | true ↦ Some (escaping unquoted, [])
           | false ↦
               elim s [
@@ -567,13 +528,13 @@ name_ends dialect name follows left u e none = record {
 
 -- in double quotes, a text that ends behind a bare name is a fault at its end
 pub name_open : (dialect : Dialect) (name left : List ℕ) → left ≡ [] →
-    StopsAt dialect (naming double_quoted name) (chars left) (chars left)
+    StopsAt dialect (naming double_quoted name) (chars left) []
 name_open dialect name left e =
-    subst (λ t. StopsAt dialect (naming double_quoted name) t t) (sym (no_characters left e))
+    subst (λ t. StopsAt dialect (naming double_quoted name) t []) (sym (no_characters left e))
     (record { front = []; spelled = refl; reads = refl; counts = refl })
 
 -- a step counts as far with pieces put before its own as without them
-place_with : (pieces : List Piece) (g : Option (ValueMode × List Piece)) (next : ValueMode → ℕ) →
+place_with : (pieces : List Piece) (g : ValueStep) (next : ValueMode → ℕ) →
     value_reach_after (with_pieces pieces g) next ≡ value_reach_after g next
 place_with pieces None next = refl
 place_with pieces (Some (m, more)) next = refl
@@ -585,7 +546,7 @@ left_read : (dialect : Dialect) (q : Quoting) (name cs : List ℕ) (c : ℕ) →
 left_read dialect q name cs c h k = record {
   front = [];
   spelled = refl;
-  reads = when_false _ _ (is_name_character dialect c) h ∙ when_true _ _ (is_left_by_name dialect q c) k;
+  reads = before_left dialect q name (c ∷ cs) k;
   counts =
       ap (λ g. value_reach_after g (λ n. value_reach dialect cs n))
       (when_false _ _ (is_name_character dialect c) h ∙ when_true _ _ (is_left_by_name dialect q c) k)
@@ -791,9 +752,9 @@ ends_unquoted dialect text e = ap (λ t. read_value dialect t (base unquoted)) (
 
 -- in double quotes, a text with nothing left is a fault at its end
 pub open_double : (dialect : Dialect) (text : List ℕ) → text ≡ [] →
-    StopsAt dialect (base double_quoted) (chars text) (chars text)
+    StopsAt dialect (base double_quoted) (chars text) []
 open_double dialect text e =
-    subst (λ t. StopsAt dialect (base double_quoted) t t) (sym (no_characters text e))
+    subst (λ t. StopsAt dialect (base double_quoted) t []) (sym (no_characters text e))
     (record { front = []; spelled = refl; reads = refl; counts = refl })
 
 -- a character of the plain kind means itself there

@@ -1,60 +1,13 @@
 -- Which fronts begin a value, and the place of a fault in one.
-use Rattle.std.proofs.Common.{
-  ◌≡◌,
-  ℕ,
-  suc,
-  ◌≤◌,
-  ◌<◌,
-  Bool,
-  true,
-  false,
-  List,
-  [],
-  ◌∷◌,
-  ◌++◌,
-  Option,
-  Some,
-  None,
-  refl,
-  sym,
-  ◌∙◌,
-  ap,
-  arith,
-  append_assoc,
-  subst,
-  length,
-  take,
-  drop,
-}
-use Rattle.std.specs.Prelude.{◌==◌}
+use Rattle.std.proofs.Common.{◌≡◌, ℕ, suc, ◌≤◌, ◌<◌, true, false, List, [], ◌∷◌, ◌++◌, Some, None, refl, sym, ◌∙◌, ap, arith, append_assoc, subst, length, take, drop}
 use Rattle.std.proofs.lemmas.List.{take-append-drop, take-take}
 use Rattle.dotenv_format.specs.declared.dialect.Dialect.{Dialect}
 use Rattle.dotenv_format.specs.declared.dialect.Dialect.TheVariants.{V15, Next}
-use Rattle.dotenv_format.specs.Characters.{
-  is_space_or_tab,
-  is_name_character,
-  single_quote,
-  double_quote,
-  dollar,
-  backslash,
-  right_brace,
-  hash,
-}
-use Rattle.dotenv_format.specs.Value.{
-  Quoting,
-  unquoted,
-  double_quoted,
-  Piece,
-  Text,
-  Name,
-  is_escape,
-  is_left_by_name,
-  ends_name,
-  IsValue,
-}
+use Rattle.dotenv_format.specs.Characters.{single_quote, double_quote, right_brace}
+use Rattle.dotenv_format.specs.Value.{Quoting, unquoted, double_quoted, Piece, Text, Name, is_left_by_name, ends_name, IsValue}
 use Rattle.dotenv_format.proofs.NameCharacters.{space_no_name}
 use Rattle.dotenv_format.specs.Places.{BeginsValue, IsPlace}
-use Rattle.dotenv_format.proofs.Values.{given-given, read-value, value-read, read_bare_end}
+use Rattle.dotenv_format.proofs.Values.{stepped, read-value, value-read, read_bare_end}
 use Rattle.dotenv_format.specs.ReadValue.{
   ValueMode,
   base,
@@ -65,68 +18,11 @@ use Rattle.dotenv_format.specs.ReadValue.{
   in_tail,
   in_comment,
   ValueReading,
+  ValueStep,
   given,
-  is_brace_first,
-  from_base,
-  value_from,
   read_value,
 }
-use Rattle.dotenv_format.specs.ReadValue.{goes_base, with_pieces, value_goes, value_reach_after, value_reach}
-
--- what is read on from where a step leads, behind the pieces of the step; none where it leads nowhere
-abbrev pub after : Option (ValueMode × List Piece) → (ValueMode → ValueReading) → ValueReading
-after None next = None
-after (Some (m, pieces)) next = given pieces (next m)
-
--- no pieces before those that are read change nothing
-pub given-nil : (r : ValueReading) → r ≡ given [] r
-given-nil None = refl
-given-nil (Some ps) = refl
-
--- a test decides alike on both sides
-either : (b : Bool) (x y : ValueReading) (u v : Option (ValueMode × List Piece)) (next : ValueMode → ValueReading) →
-    x ≡ after u next →
-    y ≡ after v next → elim b [ true ↦ x | false ↦ y ] ≡ after (elim b [ true ↦ u | false ↦ v ]) next
-either true x y u v next h k = h
-either false x y u v next h k = k
-
--- where a part may begin, reading a character is taking its step and reading on from there
-base-goes : (q : Quoting) (c : ℕ) (next : ValueMode → ValueReading) → from_base q c next ≡ after (goes_base q c) next
-base-goes unquoted c next =
-    either (c == backslash) _ _ _ _ next (given-nil (next (escaping unquoted))) (either (c == single_quote) _ _ _ _
-    next (given-nil (next (in_single []))) (either (c == double_quote) _ _ _ _ next
-    (given-nil (next (base double_quoted))) (either (c == dollar) _ _ _ _ next
-    (given-nil (next (naming unquoted [])))
-    (either (is_space_or_tab c) _ _ _ _ next (given-nil (next in_tail)) refl))))
-base-goes double_quoted c next =
-    either (c == backslash) _ _ _ _ next (given-nil (next (escaping double_quoted))) (either (c == double_quote) _ _
-    _ _ next (given-nil (next (base unquoted)))
-    (either (c == dollar) _ _ _ _ next (given-nil (next (naming double_quoted []))) refl))
-
--- pieces before what is read from a step on are pieces before those of the step
-given-after : (ps : List Piece) (g : Option (ValueMode × List Piece)) (next : ValueMode → ValueReading) →
-    given ps (after g next) ≡ after (with_pieces ps g) next
-given-after ps None next = refl
-given-after ps (Some (m, qs)) next = given-given ps qs (next m)
-
--- in each mode, reading a character is taking its step and reading on from there
-pub from-goes : (dialect : Dialect) (m : ValueMode) (c : ℕ) (next : ValueMode → ValueReading) →
-    value_from dialect m c next ≡ after (value_goes dialect m c) next
-from-goes dialect (base q) c next = base-goes q c next
-from-goes dialect (escaping q) c next = either (is_escape c) _ _ _ _ next refl refl
-from-goes dialect (in_single inner) c next =
-    either (c == single_quote) _ _ _ _ next refl (given-nil (next (in_single (inner ++ c ∷ []))))
-from-goes dialect (naming q name) c next =
-    either (is_name_character dialect c) _ _ _ _ next (given-nil (next (naming q (name ++ c ∷ []))))
-    (either (is_left_by_name dialect q c) _ _ _ _ next
-    (ap (given (Name name ∷ [])) (base-goes q c next) ∙ given-after (Name name ∷ []) (goes_base q c) next)
-    (either (is_brace_first name c) _ _ _ _ next (given-nil (next (bracing q []))) refl))
-from-goes dialect (bracing q name) c next =
-    either (c == right_brace) _ _ _ _ next refl (given-nil (next (bracing q (name ++ c ∷ []))))
-from-goes dialect in_tail c next =
-    either (is_space_or_tab c) _ _ _ _ next (given-nil (next in_tail))
-    (either (c == hash) _ _ _ _ next (given-nil (next in_comment)) refl)
-from-goes dialect in_comment c next = given-nil (next in_comment)
+use Rattle.dotenv_format.specs.ReadValue.{value_goes, value_reach_after, value_reach}
 
 -- read from this mode, the text can be completed to one that gives pieces
 abbrev Completes : (dialect : Dialect) → List ℕ → ValueMode → Type 0
@@ -173,9 +69,7 @@ goes_on : (dialect : Dialect) (m : ValueMode) (c : ℕ) (cs : List ℕ) (n : Val
 goes_on dialect m c cs n ps g (more, qs, h) = (
   more,
   ps ++ qs,
-  from-goes dialect m c (λ k. read_value dialect (cs ++ more) k)
-      ∙ ap (λ o. after o (λ k. read_value dialect (cs ++ more) k)) g
-      ∙ ap (given ps) h,
+  stepped dialect m c (cs ++ more) (Some (n, ps)) g ∙ ap (given ps) h,
 )
 
 -- where something is read with pieces before it, something is read without them
@@ -189,23 +83,18 @@ goes_back : (dialect : Dialect) (m : ValueMode) (c : ℕ) (cs : List ℕ) (n : V
 goes_back dialect m c cs n ps g (more, qs, h) =
     let r =
     given_some ps qs (read_value dialect (cs ++ more) n)
-    (sym (ap (λ o. after o (λ k. read_value dialect (cs ++ more) k)) g)
-    ∙ sym (from-goes dialect m c (λ k. read_value dialect (cs ++ more) k))
-    ∙ h) in
+    (sym (stepped dialect m c (cs ++ more) (Some (n, ps)) g) ∙ h) in
     (more, r.0, r.1)
 
 -- a text whose first character leads nowhere can't be completed
 goes_nowhere : (dialect : Dialect) (m : ValueMode) (c : ℕ) (cs : List ℕ) → value_goes dialect m c ≡ None →
     ¬ (Completes dialect (c ∷ cs) m)
 goes_nowhere dialect m c cs g (more, qs, h) =
-    let e : None ≡ Some qs =
-    sym (ap (λ o. after o (λ k. read_value dialect (cs ++ more) k)) g)
-    ∙ sym (from-goes dialect m c (λ k. read_value dialect (cs ++ more) k))
-    ∙ h in
+    let e : None ≡ Some qs = sym (stepped dialect m c (cs ++ more) None g) ∙ h in
     cc
 
 -- the place in a text is one more than in what follows its first character, or 0 if that leads nowhere
-placed_step : (dialect : Dialect) (c : ℕ) (cs : List ℕ) (m : ValueMode) (g : Option (ValueMode × List Piece)) →
+placed_step : (dialect : Dialect) (c : ℕ) (cs : List ℕ) (m : ValueMode) (g : ValueStep) →
     value_goes dialect m c ≡ g → ((n : ValueMode) → Placed dialect cs n (value_reach dialect cs n)) →
     Placed dialect (c ∷ cs) m (value_reach_after g (λ n. value_reach dialect cs n))
 placed_step dialect c cs m None h later =

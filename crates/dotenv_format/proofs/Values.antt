@@ -97,10 +97,14 @@ use Rattle.dotenv_format.specs.ReadValue.{
   in_tail,
   in_comment,
   ValueReading,
+  ValueStep,
   given,
   is_brace_first,
-  from_base,
+  goes_base,
+  with_pieces,
+  value_goes,
   value_at_end,
+  read_after,
   read_value,
 }
 
@@ -109,8 +113,29 @@ pub given-given : (xs ys : List Piece) (r : ValueReading) → given xs (given ys
 given-given xs ys None = refl
 given-given xs ys (Some zs) = ap Some (sym (append_assoc xs ys zs))
 
+-- no pieces before those that are read change nothing
+pub given-nil : (r : ValueReading) → r ≡ given [] r
+given-nil None = refl
+given-nil (Some ps) = refl
+
+-- pieces before what is read behind a step are pieces before those of the step
+given-after : (ps : List Piece) (g : ValueStep) (next : ValueMode → ValueReading) →
+    given ps (read_after g next) ≡ read_after (with_pieces ps g) next
+given-after ps None next = refl
+given-after ps (Some (m, qs)) next = given-given ps qs (next m)
+
+-- a text is read by the step of its first character
+pub stepped : (dialect : Dialect) (m : ValueMode) (c : ℕ) (cs : List ℕ) (g : ValueStep) → value_goes dialect m c ≡ g →
+    read_value dialect (c ∷ cs) m ≡ read_after g (λ n. read_value dialect cs n)
+stepped dialect m c cs g h = ap (λ g. read_after g (λ n. read_value dialect cs n)) h
+
+-- a character that completes no piece leaves the reading to what follows it
+silent : (dialect : Dialect) (m : ValueMode) (c : ℕ) (cs : List ℕ) (n : ValueMode) →
+    value_goes dialect m c ≡ Some (n, []) → read_value dialect (c ∷ cs) m ≡ read_value dialect cs n
+silent dialect m c cs n h = stepped dialect m c cs (Some (n, [])) h ∙ sym (given-nil (read_value dialect cs n))
+
 -- of what is chosen by five tests in turn, the last is chosen where none of them passes
-outside_plain : (b s d o t : Bool) (x y z w u v : ValueReading) → not ((((b || s) || d) || o) || t) ≡ true →
+outside_plain : (b s d o t : Bool) (x y z w u v : ValueStep) → not ((((b || s) || d) || o) || t) ≡ true →
     elim b [
       | true ↦ x
       | false ↦
@@ -127,7 +152,7 @@ outside_plain false false false true t x y z w u v h = cc
 outside_plain false false false false true x y z w u v h = cc
 
 -- of what is chosen by three tests in turn, the last is chosen where none of them passes
-inside_plain : (b d o : Bool) (x y z v : ValueReading) → not ((b || d) || o) ≡ true →
+inside_plain : (b d o : Bool) (x y z v : ValueStep) → not ((b || d) || o) ≡ true →
     elim b [ true ↦ x | false ↦ elim d [ true ↦ y | false ↦ elim o [ true ↦ z | false ↦ v ] ] ] ≡ v
 inside_plain false false false x y z v h = refl
 inside_plain true d o x y z v h = cc
@@ -137,22 +162,26 @@ inside_plain false false true x y z v h = cc
 -- where a part may begin, a plain character gives itself before what is read behind it
 pub read_plain : (dialect : Dialect) (q : Quoting) (c : ℕ) (cs : List ℕ) → is_plain q c ≡ true →
     read_value dialect (c ∷ cs) (base q) ≡ given (Text (c ∷ []) ∷ []) (read_value dialect cs (base q))
-read_plain dialect double_quoted c cs h = inside_plain (c == backslash) (c == double_quote) (c == dollar) _ _ _ _ h
+read_plain dialect double_quoted c cs h =
+    stepped dialect (base double_quoted) c cs (Some (base double_quoted, Text (c ∷ []) ∷ []))
+    (inside_plain (c == backslash) (c == double_quote) (c == dollar) _ _ _ _ h)
 read_plain dialect unquoted c cs h =
-    outside_plain (c == backslash) (c == single_quote) (c == double_quote) (c == dollar) (is_space_or_tab c) _ _ _ _
-    _ _ h
+    stepped dialect (base unquoted) c cs (Some (base unquoted, Text (c ∷ []) ∷ []))
+    (outside_plain (c == backslash) (c == single_quote) (c == double_quote) (c == dollar) (is_space_or_tab c) _ _ _ _
+    _ _ h)
 
 -- where a part may begin, what follows a backslash is read as escaped
 read_backslash : (dialect : Dialect) (q : Quoting) (cs : List ℕ) →
     read_value dialect (backslash ∷ cs) (base q) ≡ read_value dialect cs (escaping q)
-read_backslash dialect double_quoted cs = refl
-read_backslash dialect unquoted cs = refl
+read_backslash dialect double_quoted cs =
+    silent dialect (base double_quoted) backslash cs (escaping double_quoted) refl
+read_backslash dialect unquoted cs = silent dialect (base unquoted) backslash cs (escaping unquoted) refl
 
 -- where a part may begin, what follows a dollar is read as a name, with nothing of it read yet
 read_dollar : (dialect : Dialect) (q : Quoting) (cs : List ℕ) →
     read_value dialect (dollar ∷ cs) (base q) ≡ read_value dialect cs (naming q [])
-read_dollar dialect double_quoted cs = refl
-read_dollar dialect unquoted cs = refl
+read_dollar dialect double_quoted cs = silent dialect (base double_quoted) dollar cs (naming double_quoted []) refl
+read_dollar dialect unquoted cs = silent dialect (base unquoted) dollar cs (naming unquoted []) refl
 
 -- name characters behind what was read of a bare name are read as more of it
 read_name : (dialect : Dialect) (q : Quoting) (acc name cs : List ℕ) →
@@ -160,8 +189,9 @@ read_name : (dialect : Dialect) (q : Quoting) (acc name cs : List ℕ) →
     read_value dialect (name ++ cs) (naming q acc) ≡ read_value dialect cs (naming q (acc ++ name))
 read_name dialect q acc [] cs h = ap (λ n. read_value dialect cs (naming q n)) (sym (append-nil acc))
 read_name dialect q acc (c ∷ name) cs h =
-    when_true _ _ (is_name_character dialect c)
-    (and_left (is_name_character dialect c) (list_all (is_name_character dialect) name) h)
+    silent dialect (naming q acc) c (name ++ cs) (naming q (acc ++ c ∷ []))
+    (when_true _ _ (is_name_character dialect c)
+    (and_left (is_name_character dialect c) (list_all (is_name_character dialect) name) h))
     ∙ read_name dialect q (acc ++ c ∷ []) name cs
     (and_right (is_name_character dialect c) (list_all (is_name_character dialect) name) h)
     ∙ ap (λ n. read_value dialect cs (naming q n)) (append_assoc acc (c ∷ []) name)
@@ -174,8 +204,9 @@ read_braced : (dialect : Dialect) (q : Quoting) (acc name cs : List ℕ) →
 read_braced dialect q acc [] cs h =
     ap (λ n. given (Name n ∷ []) (read_value dialect cs (base q))) (sym (append-nil acc))
 read_braced dialect q acc (c ∷ name) cs h =
-    when_false _ _ (c == right_brace) (not_is (c == right_brace)
-    (and_left (not (c == right_brace)) (list_all (λ c. not (c == right_brace)) name) h))
+    silent dialect (bracing q acc) c (name ++ right_brace ∷ cs) (bracing q (acc ++ c ∷ []))
+    (when_false _ _ (c == right_brace) (not_is (c == right_brace)
+    (and_left (not (c == right_brace)) (list_all (λ c. not (c == right_brace)) name) h)))
     ∙ read_braced dialect q (acc ++ c ∷ []) name cs
     (and_right (not (c == right_brace)) (list_all (λ c. not (c == right_brace)) name) h)
     ∙ ap (λ n. given (Name n ∷ []) (read_value dialect cs (base q))) (append_assoc acc (c ∷ []) name)
@@ -187,8 +218,9 @@ read_single : (dialect : Dialect) (acc inner cs : List ℕ) → list_all (λ c. 
 read_single dialect acc [] cs h =
     ap (λ n. given (Text n ∷ []) (read_value dialect cs (base unquoted))) (sym (append-nil acc))
 read_single dialect acc (c ∷ inner) cs h =
-    when_false _ _ (c == single_quote) (not_is (c == single_quote)
-    (and_left (not (c == single_quote)) (list_all (λ c. not (c == single_quote)) inner) h))
+    silent dialect (in_single acc) c (inner ++ single_quote ∷ cs) (in_single (acc ++ c ∷ []))
+    (when_false _ _ (c == single_quote) (not_is (c == single_quote)
+    (and_left (not (c == single_quote)) (list_all (λ c. not (c == single_quote)) inner) h)))
     ∙ read_single dialect (acc ++ c ∷ []) inner cs
     (and_right (not (c == single_quote)) (list_all (λ c. not (c == single_quote)) inner) h)
     ∙ ap (λ n. given (Text n ∷ []) (read_value dialect cs (base unquoted))) (append_assoc acc (c ∷ []) inner)
@@ -201,12 +233,14 @@ pub read_bare_end : (dialect : Dialect) (q : Quoting) (name : List ℕ) (c : ℕ
 read_bare_end dialect q [] c cs h =
     let t = not_or (is_name_character dialect c || is_left_by_name dialect q c) (c == left_brace) h in
     let u = not_or (is_name_character dialect c) (is_left_by_name dialect q c) (rw t.0 refl) in
-    when_false _ _ (is_name_character dialect c) u.0
+    stepped dialect (naming q []) c cs (Some (base q, Name [] ∷ Text (c ∷ []) ∷ []))
+    (when_false _ _ (is_name_character dialect c) u.0
     ∙ when_false _ _ (is_left_by_name dialect q c) u.1
-    ∙ when_false _ _ (c == left_brace) t.1
+    ∙ when_false _ _ (c == left_brace) t.1)
 read_bare_end dialect q (d ∷ name) c cs h =
     let u = not_or (is_name_character dialect c) (is_left_by_name dialect q c) h in
-    when_false _ _ (is_name_character dialect c) u.0 ∙ when_false _ _ (is_left_by_name dialect q c) u.1
+    stepped dialect (naming q (d ∷ name)) c cs (Some (base q, Name (d ∷ name) ∷ Text (c ∷ []) ∷ []))
+    (when_false _ _ (is_name_character dialect c) u.0 ∙ when_false _ _ (is_left_by_name dialect q c) u.1)
 
 -- what a name is left by is no name character
 left_no_name : (dialect : Dialect) (q : Quoting) (c : ℕ) → is_left_by_name dialect q c ≡ true →
@@ -222,12 +256,14 @@ left_no_name dialect q c h = at (c == dollar) refl h
         ∙ quote_no_name dialect
 
 -- a bare name before a character that it leaves is given before what is read from that character on
-before_left : (dialect : Dialect) (q : Quoting) (name cs : List ℕ) → is_before_left dialect q cs ≡ true →
+pub before_left : (dialect : Dialect) (q : Quoting) (name cs : List ℕ) → is_before_left dialect q cs ≡ true →
     read_value dialect cs (naming q name) ≡ given (Name name ∷ []) (read_value dialect cs (base q))
 before_left dialect q name [] h = cc
 before_left dialect q name (c ∷ cs) h =
-    when_false _ _ (is_name_character dialect c) (left_no_name dialect q c h)
-    ∙ when_true _ _ (is_left_by_name dialect q c) h
+    stepped dialect (naming q name) c cs (with_pieces (Name name ∷ []) (goes_base q c))
+    (when_false _ _ (is_name_character dialect c) (left_no_name dialect q c h)
+    ∙ when_true _ _ (is_left_by_name dialect q c) h)
+    ∙ sym (given-after (Name name ∷ []) (goes_base q c) (λ n. read_value dialect cs n))
 
 -- no bare name leaves a left brace to what follows
 pub brace_not_left : (dialect : Dialect) (q : Quoting) → is_left_by_name dialect q left_brace ≡ false
@@ -239,11 +275,15 @@ brace_not_left Next unquoted = refl
 read_part : (dialect : Dialect) (q : Quoting) (p : Part) (cs : List ℕ) → IsPart dialect q p cs →
     read_value dialect (part_text p ++ cs) (base q) ≡ given (part_pieces p) (read_value dialect cs (base q))
 read_part dialect q (plain c) cs is = read_plain dialect q c cs is
-read_part dialect q (escape c) cs is = read_backslash dialect q (c ∷ cs) ∙ when_true _ _ (is_escape c) is
+read_part dialect q (escape c) cs is =
+    read_backslash dialect q (c ∷ cs)
+    ∙ stepped dialect (escaping q) c cs (Some (base q, Text (escape_meaning c ∷ []) ∷ []))
+    (when_true _ _ (is_escape c) is)
 read_part dialect q (braced name) cs is =
     read_dollar dialect q (left_brace ∷ ((name ++ right_brace ∷ []) ++ cs))
-    ∙ when_false _ _ (is_name_character dialect left_brace) (brace_no_name dialect)
-    ∙ when_false _ _ (is_left_by_name dialect q left_brace) (brace_not_left dialect q)
+    ∙ silent dialect (naming q []) left_brace ((name ++ right_brace ∷ []) ++ cs) (bracing q [])
+    (when_false _ _ (is_name_character dialect left_brace) (brace_no_name dialect)
+    ∙ when_false _ _ (is_left_by_name dialect q left_brace) (brace_not_left dialect q))
     ∙ ap (λ t. read_value dialect t (bracing q [])) (append_assoc name (right_brace ∷ []) cs)
     ∙ read_braced dialect q [] name cs is
 read_part dialect q (bare name c) cs is =
@@ -257,11 +297,7 @@ read_part dialect q (bare_before name) cs is =
 -- parts in a row are read as what they mean, before what is read behind them
 read_parts : (dialect : Dialect) (q : Quoting) (ps : List Part) (cs : List ℕ) → AreParts dialect q ps cs →
     read_value dialect (parts_text ps ++ cs) (base q) ≡ given (flat_map part_pieces ps) (read_value dialect cs (base q))
-read_parts dialect q [] cs are = given-none (read_value dialect cs (base q))
-  where
-    given-none : (r : ValueReading) → r ≡ given [] r
-    given-none None = refl
-    given-none (Some ps) = refl
+read_parts dialect q [] cs are = given-nil (read_value dialect cs (base q))
 read_parts dialect q (p ∷ ps) cs are =
     ap (λ t. read_value dialect t (base q)) (append_assoc (part_text p) (parts_text ps) cs)
     ∙ read_part dialect q p (parts_text ps ++ cs) are.0
@@ -274,30 +310,41 @@ read_segment : (dialect : Dialect) (s : Segment) (cs : List ℕ) → IsSegment d
     ≡ given (segment_pieces s) (read_value dialect cs (base unquoted))
 read_segment dialect (unquoted_part p) cs is = read_part dialect unquoted p cs is
 read_segment dialect (single inner) cs is =
-    ap (λ t. read_value dialect t (in_single [])) (append_assoc inner (single_quote ∷ []) cs)
+    silent dialect (base unquoted) single_quote ((inner ++ single_quote ∷ []) ++ cs) (in_single []) refl
+    ∙ ap (λ t. read_value dialect t (in_single [])) (append_assoc inner (single_quote ∷ []) cs)
     ∙ read_single dialect [] inner cs is
 read_segment dialect (double inner) cs is =
-    ap (λ t. read_value dialect t (base double_quoted)) (append_assoc (parts_text inner) (double_quote ∷ []) cs)
+    silent dialect (base unquoted) double_quote ((parts_text inner ++ double_quote ∷ []) ++ cs) (base double_quoted)
+    refl
+    ∙ ap (λ t. read_value dialect t (base double_quoted)) (append_assoc (parts_text inner) (double_quote ∷ []) cs)
     ∙ read_parts dialect double_quoted inner (double_quote ∷ cs) is
+    ∙ ap (given (flat_map part_pieces inner))
+    (silent dialect (base double_quoted) double_quote cs (base unquoted) refl)
 
 -- a comment is read to the end of the value and gives nothing
-pub read_comment : (dialect : Dialect) (cs : List ℕ) → read_value dialect cs in_comment ≡ Some []
+read_comment : (dialect : Dialect) (cs : List ℕ) → read_value dialect cs in_comment ≡ Some []
 read_comment dialect [] = refl
-read_comment dialect (c ∷ cs) = read_comment dialect cs
+read_comment dialect (c ∷ cs) = silent dialect in_comment c cs in_comment refl ∙ read_comment dialect cs
+
+-- in a tail, nothing or a comment gives nothing
+pub comment_read : (dialect : Dialect) (comment : List ℕ) → is_empty_or_comment comment ≡ true →
+    read_value dialect comment in_tail ≡ Some []
+comment_read dialect [] k = refl
+comment_read dialect (c ∷ comment) k =
+    subst (λ d. read_value dialect (d ∷ comment) in_tail ≡ Some []) (sym (same_from c hash k))
+    (silent dialect in_tail hash comment in_comment refl ∙ read_comment dialect comment)
 
 -- in a tail, spaces and tabs, then nothing or a comment, give nothing
 read_blanks : (dialect : Dialect) (blanks comment : List ℕ) → list_all is_space_or_tab blanks ≡ true →
     is_empty_or_comment comment ≡ true → read_value dialect (blanks ++ comment) in_tail ≡ Some []
-read_blanks dialect [] [] h k = refl
-read_blanks dialect [] (c ∷ comment) h k =
-    subst (λ d. read_value dialect (d ∷ comment) in_tail ≡ Some []) (sym (same_from c hash k))
-    (read_comment dialect comment)
+read_blanks dialect [] comment h k = comment_read dialect comment k
 read_blanks dialect (c ∷ blanks) comment h k =
-    when_true _ _ (is_space_or_tab c) (and_left (is_space_or_tab c) (list_all is_space_or_tab blanks) h)
+    silent dialect in_tail c (blanks ++ comment) in_tail
+    (when_true _ _ (is_space_or_tab c) (and_left (is_space_or_tab c) (list_all is_space_or_tab blanks) h))
     ∙ read_blanks dialect blanks comment (and_right (is_space_or_tab c) (list_all is_space_or_tab blanks) h) k
 
 -- of what is chosen by five tests in turn, the fifth is chosen where its test is the first that passes
-tail_tests : (b s d o t : Bool) (x y z w u v : ValueReading) → b ≡ false → s ≡ false → d ≡ false → o ≡ false →
+tail_tests : (b s d o t : Bool) (x y z w u v : ValueStep) → b ≡ false → s ≡ false → d ≡ false → o ≡ false →
     t ≡ true →
     elim b [
       | true ↦ x
@@ -317,9 +364,10 @@ not_special c d h k = grind (arith, nat_tests, h)
 read_blank : (dialect : Dialect) (c : ℕ) (cs : List ℕ) → is_space_or_tab c ≡ true →
     read_value dialect (c ∷ cs) (base unquoted) ≡ read_value dialect cs in_tail
 read_blank dialect c cs h =
-    tail_tests (c == backslash) (c == single_quote) (c == double_quote) (c == dollar) (is_space_or_tab c) _ _ _ _ _
+    silent dialect (base unquoted) c cs in_tail
+    (tail_tests (c == backslash) (c == single_quote) (c == double_quote) (c == dollar) (is_space_or_tab c) _ _ _ _ _
     _ (not_special c backslash h (omega arith)) (not_special c single_quote h (omega arith))
-    (not_special c double_quote h (omega arith)) (not_special c dollar h (omega arith)) h
+    (not_special c double_quote h (omega arith)) (not_special c dollar h (omega arith)) h)
 
 -- outside quotes a space or tab, more of them, then nothing or a comment, give nothing
 read_tail : (dialect : Dialect) (blank : ℕ) (blanks comment : List ℕ) → is_space_or_tab blank ≡ true →
@@ -340,7 +388,8 @@ read_close : (dialect : Dialect) (close : Close) → IsClose dialect close →
     read_value dialect (close_text close) (base unquoted) ≡ Some (close_pieces close)
 read_close dialect nothing is = refl
 read_close dialect lone_backslash is = refl
-read_close dialect (bare_name name) is = read_last_name dialect name is
+read_close dialect (bare_name name) is =
+    silent dialect (base unquoted) dollar name (naming unquoted []) refl ∙ read_last_name dialect name is
 read_close dialect (tail blank blanks comment) is =
     read_tail dialect blank blanks comment (and_left (is_space_or_tab blank) (list_all is_space_or_tab blanks) is.0)
     (and_right (is_space_or_tab blank) (list_all is_space_or_tab blanks) is.0) is.1
@@ -457,26 +506,26 @@ part_first dialect double_quoted p text (Some pieces) is h = record {
 -- what is right behind a backslash is right with the backslash in front, where a part may begin
 from_escaping : (dialect : Dialect) (q : Quoting) (cs : List ℕ) (r : ValueReading) →
     IsValueRead dialect (escaping q) cs r →
-    IsValueRead dialect (base q) (backslash ∷ cs) r
+    IsValueRead dialect (base q) (backslash ∷ cs) (given [] r)
 from_escaping dialect q cs None h = tt
 from_escaping dialect q cs (Some ps) h = h
 
 -- what is right behind a dollar is right with the dollar in front, where a part may begin
 from_naming : (dialect : Dialect) (q : Quoting) (cs : List ℕ) (r : ValueReading) →
     IsValueRead dialect (naming q []) cs r →
-    IsValueRead dialect (base q) (dollar ∷ cs) r
+    IsValueRead dialect (base q) (dollar ∷ cs) (given [] r)
 from_naming dialect q cs None h = tt
 from_naming dialect q cs (Some ps) h = h
 
 -- what is right in single quotes is right outside quotes, with the opening quote in front
 from_single : (dialect : Dialect) (cs : List ℕ) (r : ValueReading) → IsValueRead dialect (in_single []) cs r →
-    IsValueRead dialect (base unquoted) (single_quote ∷ cs) r
+    IsValueRead dialect (base unquoted) (single_quote ∷ cs) (given [] r)
 from_single dialect cs None h = tt
 from_single dialect cs (Some ps) h = h
 
 -- what is right in double quotes is right outside quotes, with the opening quote in front
 from_double : (dialect : Dialect) (cs : List ℕ) (r : ValueReading) → IsValueRead dialect (base double_quoted) cs r →
-    IsValueRead dialect (base unquoted) (double_quote ∷ cs) r
+    IsValueRead dialect (base unquoted) (double_quote ∷ cs) (given [] r)
 from_double dialect cs None h = tt
 from_double dialect cs (Some ps) h =
     let v = segment_first dialect (double h.inner) h.after (Some h.more) h.are h.reads in
@@ -487,7 +536,7 @@ from_double dialect cs (Some ps) h =
 
 -- what is right in a tail is right outside quotes, with a space or tab in front
 from_tail : (dialect : Dialect) (c : ℕ) (cs : List ℕ) (r : ValueReading) → is_space_or_tab c ≡ true →
-    IsValueRead dialect in_tail cs r → IsValueRead dialect (base unquoted) (c ∷ cs) r
+    IsValueRead dialect in_tail cs r → IsValueRead dialect (base unquoted) (c ∷ cs) (given [] r)
 from_tail dialect c cs None is h = tt
 from_tail dialect c cs (Some ps) is h = record {
   segments = [];
@@ -500,21 +549,21 @@ from_tail dialect c cs (Some ps) is h = record {
 
 -- in single quotes what is right once a character was taken is right with that character still in front
 more_single : (dialect : Dialect) (inner : List ℕ) (c : ℕ) (cs : List ℕ) (r : ValueReading) →
-    IsValueRead dialect (in_single (inner ++ c ∷ [])) cs r → IsValueRead dialect (in_single inner) (c ∷ cs) r
+    IsValueRead dialect (in_single (inner ++ c ∷ [])) cs r → IsValueRead dialect (in_single inner) (c ∷ cs) (given [] r)
 more_single dialect inner c cs None h = tt
 more_single dialect inner c cs (Some ps) h =
     subst (λ t. IsValue dialect (single_quote ∷ t) ps) (append_assoc inner (c ∷ []) cs) h
 
 -- in a bare name what is right once a character was taken is right with that character still in front
 more_name : (dialect : Dialect) (q : Quoting) (name : List ℕ) (c : ℕ) (cs : List ℕ) (r : ValueReading) →
-    IsValueRead dialect (naming q (name ++ c ∷ [])) cs r → IsValueRead dialect (naming q name) (c ∷ cs) r
+    IsValueRead dialect (naming q (name ++ c ∷ [])) cs r → IsValueRead dialect (naming q name) (c ∷ cs) (given [] r)
 more_name dialect q name c cs None h = tt
 more_name dialect q name c cs (Some ps) h =
     subst (λ t. IsBase dialect q (dollar ∷ t) ps) (append_assoc name (c ∷ []) cs) h
 
 -- in braces what is right once a character was taken is right with that character still in front
 more_braced : (dialect : Dialect) (q : Quoting) (name : List ℕ) (c : ℕ) (cs : List ℕ) (r : ValueReading) →
-    IsValueRead dialect (bracing q (name ++ c ∷ [])) cs r → IsValueRead dialect (bracing q name) (c ∷ cs) r
+    IsValueRead dialect (bracing q (name ++ c ∷ [])) cs r → IsValueRead dialect (bracing q name) (c ∷ cs) (given [] r)
 more_braced dialect q name c cs None h = tt
 more_braced dialect q name c cs (Some ps) h =
     subst (λ t. IsBase dialect q (dollar ∷ left_brace ∷ t) ps) (append_assoc name (c ∷ []) cs) h
@@ -559,26 +608,26 @@ ValueLater dialect cs = (m : ValueMode) → IsValueMode dialect m → IsValueRea
 outside_step : (dialect : Dialect) (c : ℕ) (cs : List ℕ) (b s d o t : Bool) → (c == backslash) ≡ b →
     (c == single_quote) ≡ s → (c == double_quote) ≡ d → (c == dollar) ≡ o → is_space_or_tab c ≡ t →
     ValueLater dialect cs →
-    IsValueRead dialect (base unquoted) (c ∷ cs) (elim b [
-      | true ↦ read_value dialect cs (escaping unquoted)
+    IsValueRead dialect (base unquoted) (c ∷ cs) (read_after (elim b [
+      | true ↦ Some (escaping unquoted, [])
       | false ↦
           elim s [
-            | true ↦ read_value dialect cs (in_single [])
+            | true ↦ Some (in_single [], [])
             | false ↦
                 elim d [
-                  | true ↦ read_value dialect cs (base double_quoted)
+                  | true ↦ Some (base double_quoted, [])
                   | false ↦
                       elim o [
-                        | true ↦ read_value dialect cs (naming unquoted [])
+                        | true ↦ Some (naming unquoted [], [])
                         | false ↦
                             elim t [
-                              | true ↦ read_value dialect cs in_tail
-                              | false ↦ given (Text (c ∷ []) ∷ []) (read_value dialect cs (base unquoted))
+                              | true ↦ Some (in_tail, [])
+                              | false ↦ Some (base unquoted, Text (c ∷ []) ∷ [])
                             ]
                       ]
                 ]
           ]
-    ])
+    ]) (λ n. read_value dialect cs n))
 outside_step dialect c cs true s d o t hb hs hd ho ht later =
     rw (same_from c backslash hb)
     (from_escaping dialect unquoted cs (read_value dialect cs (escaping unquoted)) (later (escaping unquoted) tt))
@@ -600,18 +649,18 @@ outside_step dialect c cs false false false false false hb hs hd ho ht later =
 -- where a text is read right from every sound mode, so is it in double quotes with a character in front
 inside_step : (dialect : Dialect) (c : ℕ) (cs : List ℕ) (b d o : Bool) → (c == backslash) ≡ b →
     (c == double_quote) ≡ d → (c == dollar) ≡ o → ValueLater dialect cs →
-    IsValueRead dialect (base double_quoted) (c ∷ cs) (elim b [
-      | true ↦ read_value dialect cs (escaping double_quoted)
+    IsValueRead dialect (base double_quoted) (c ∷ cs) (read_after (elim b [
+      | true ↦ Some (escaping double_quoted, [])
       | false ↦
           elim d [
-            | true ↦ read_value dialect cs (base unquoted)
+            | true ↦ Some (base unquoted, [])
             | false ↦
                 elim o [
-                  | true ↦ read_value dialect cs (naming double_quoted [])
-                  | false ↦ given (Text (c ∷ []) ∷ []) (read_value dialect cs (base double_quoted))
+                  | true ↦ Some (naming double_quoted [], [])
+                  | false ↦ Some (base double_quoted, Text (c ∷ []) ∷ [])
                 ]
           ]
-    ])
+    ]) (λ n. read_value dialect cs n))
 inside_step dialect c cs true d o hb hd ho later =
     rw (same_from c backslash hb) (from_escaping dialect double_quoted cs
     (read_value dialect cs (escaping double_quoted))
@@ -620,7 +669,7 @@ inside_step dialect c cs false true o hb hd ho later =
     rw (same_from c double_quote hd) (closed cs (read_value dialect cs (base unquoted)) (later (base unquoted) tt))
   where
     closed : (cs : List ℕ) (r : ValueReading) → IsValueRead dialect (base unquoted) cs r →
-        IsValueRead dialect (base double_quoted) (double_quote ∷ cs) r
+        IsValueRead dialect (base double_quoted) (double_quote ∷ cs) (given [] r)
     closed cs None h = tt
     closed cs (Some ps) h =
         record { inner = []; after = cs; more = ps; are = tt; spelled = refl; means = refl; reads = h }
@@ -635,7 +684,7 @@ inside_step dialect c cs false false false hb hd ho later =
 escape_step : (dialect : Dialect) (q : Quoting) (c : ℕ) (cs : List ℕ) (b : Bool) → is_escape c ≡ b →
     ValueLater dialect cs →
     IsValueRead dialect (escaping q) (c ∷ cs)
-    (elim b [ true ↦ given (Text (escape_meaning c ∷ []) ∷ []) (read_value dialect cs (base q)) | false ↦ None ])
+    (read_after (elim b [ true ↦ Some (base q, Text (escape_meaning c ∷ []) ∷ []) | false ↦ None ]) (λ n. read_value dialect cs n))
 escape_step dialect q c cs true h later =
     to_escaping dialect q (c ∷ cs) (given (Text (escape_meaning c ∷ []) ∷ []) (read_value dialect cs (base q)))
     (part_first dialect q (escape c) cs (read_value dialect cs (base q)) h (later (base q) tt))
@@ -651,10 +700,10 @@ all-more p (x ∷ xs) c h k =
 -- where a text is read right from every sound mode, so is it in single quotes with a character in front
 single_step : (dialect : Dialect) (inner : List ℕ) (c : ℕ) (cs : List ℕ) (b : Bool) → (c == single_quote) ≡ b →
     IsValueMode dialect (in_single inner) → ValueLater dialect cs →
-    IsValueRead dialect (in_single inner) (c ∷ cs) (elim b [
-      | true ↦ given (Text inner ∷ []) (read_value dialect cs (base unquoted))
-      | false ↦ read_value dialect cs (in_single (inner ++ c ∷ []))
-    ])
+    IsValueRead dialect (in_single inner) (c ∷ cs) (read_after (elim b [
+      | true ↦ Some (base unquoted, Text inner ∷ [])
+      | false ↦ Some (in_single (inner ++ c ∷ []), [])
+    ]) (λ n. read_value dialect cs n))
 single_step dialect inner c cs true h ok later =
     to_single dialect inner (c ∷ cs) (given (Text inner ∷ []) (read_value dialect cs (base unquoted)))
     (base_at dialect unquoted ((single_quote ∷ (inner ++ single_quote ∷ [])) ++ cs)
@@ -674,19 +723,20 @@ ends dialect q (d ∷ name) c h k l = rw (h, k) refl
 
 -- where a text is read right from every sound mode, so is it behind a dollar with a left brace in front
 braces : (dialect : Dialect) (q : Quoting) (name : List ℕ) (c : ℕ) (cs : List ℕ) → is_brace_first name c ≡ true →
-    ValueLater dialect cs → IsValueRead dialect (naming q name) (c ∷ cs) (read_value dialect cs (bracing q []))
+    ValueLater dialect cs →
+    IsValueRead dialect (naming q name) (c ∷ cs) (given [] (read_value dialect cs (bracing q [])))
 braces dialect q [] c cs h later =
     rw (same_from c left_brace h) (open_brace (read_value dialect cs (bracing q [])) (later (bracing q []) refl))
   where
     open_brace : (r : ValueReading) → IsValueRead dialect (bracing q []) cs r →
-        IsValueRead dialect (naming q []) (left_brace ∷ cs) r
+        IsValueRead dialect (naming q []) (left_brace ∷ cs) (given [] r)
     open_brace None h = tt
     open_brace (Some ps) h = h
 braces dialect q (d ∷ name) c cs h later = cc
 
 -- where a text is read right from every sound mode, so is it where a part may begin with a character in front
 base_step : (dialect : Dialect) (q : Quoting) (c : ℕ) (cs : List ℕ) → ValueLater dialect cs →
-    IsValueRead dialect (base q) (c ∷ cs) (from_base q c (λ m. read_value dialect cs m))
+    IsValueRead dialect (base q) (c ∷ cs) (read_after (goes_base q c) (λ n. read_value dialect cs n))
 base_step dialect unquoted c cs later =
     outside_step dialect c cs (c == backslash) (c == single_quote) (c == double_quote) (c == dollar)
     (is_space_or_tab c) refl refl refl refl refl later
@@ -697,25 +747,27 @@ base_step dialect double_quoted c cs later =
 naming_step : (dialect : Dialect) (q : Quoting) (name : List ℕ) (c : ℕ) (cs : List ℕ) (n o b : Bool) →
     is_name_character dialect c ≡ n → is_left_by_name dialect q c ≡ o → is_brace_first name c ≡ b →
     IsValueMode dialect (naming q name) → ValueLater dialect cs →
-    IsValueRead dialect (naming q name) (c ∷ cs) (elim n [
-      | true ↦ read_value dialect cs (naming q (name ++ c ∷ []))
+    IsValueRead dialect (naming q name) (c ∷ cs) (read_after (elim n [
+      | true ↦ Some (naming q (name ++ c ∷ []), [])
       | false ↦
           elim o [
-            | true ↦ given (Name name ∷ []) (from_base q c (λ m. read_value dialect cs m))
+            | true ↦ with_pieces (Name name ∷ []) (goes_base q c)
             | false ↦
                 elim b [
-                  | true ↦ read_value dialect cs (bracing q [])
-                  | false ↦ given (Name name ∷ Text (c ∷ []) ∷ []) (read_value dialect cs (base q))
+                  | true ↦ Some (bracing q [], [])
+                  | false ↦ Some (base q, Name name ∷ Text (c ∷ []) ∷ [])
                 ]
           ]
-    ])
+    ]) (λ n. read_value dialect cs n))
 naming_step dialect q name c cs true o b hn ho hb ok later =
     more_name dialect q name c cs (read_value dialect cs (naming q (name ++ c ∷ [])))
     (later (naming q (name ++ c ∷ [])) (all-more (is_name_character dialect) name c ok hn))
 naming_step dialect q name c cs false true b hn ho hb ok later =
-    let r = from_base q c (λ m. read_value dialect cs m) in
-    to_naming dialect q name (c ∷ cs) (given (Name name ∷ []) r)
-    (part_first dialect q (bare_before name) (c ∷ cs) r (ok, ho) (base_step dialect q c cs later))
+    let r = read_after (goes_base q c) (λ n. read_value dialect cs n) in
+    subst (IsValueRead dialect (naming q name) (c ∷ cs))
+    (given-after (Name name ∷ []) (goes_base q c) (λ n. read_value dialect cs n))
+    (to_naming dialect q name (c ∷ cs) (given (Name name ∷ []) r)
+    (part_first dialect q (bare_before name) (c ∷ cs) r (ok, ho) (base_step dialect q c cs later)))
 naming_step dialect q name c cs false false true hn ho hb ok later = braces dialect q name c cs hb later
 naming_step dialect q name c cs false false false hn ho hb ok later =
     to_naming dialect q name (c ∷ cs) (given (Name name ∷ Text (c ∷ []) ∷ []) (read_value dialect cs (base q)))
@@ -727,10 +779,10 @@ naming_step dialect q name c cs false false false hn ho hb ok later =
 -- where a text is read right from every sound mode, so is it in braces with a character in front
 bracing_step : (dialect : Dialect) (q : Quoting) (name : List ℕ) (c : ℕ) (cs : List ℕ) (b : Bool) →
     (c == right_brace) ≡ b → IsValueMode dialect (bracing q name) → ValueLater dialect cs →
-    IsValueRead dialect (bracing q name) (c ∷ cs) (elim b [
-      | true ↦ given (Name name ∷ []) (read_value dialect cs (base q))
-      | false ↦ read_value dialect cs (bracing q (name ++ c ∷ []))
-    ])
+    IsValueRead dialect (bracing q name) (c ∷ cs) (read_after (elim b [
+      | true ↦ Some (base q, Name name ∷ [])
+      | false ↦ Some (bracing q (name ++ c ∷ []), [])
+    ]) (λ n. read_value dialect cs n))
 bracing_step dialect q name c cs true h ok later =
     rw (same_from c right_brace h) (to_bracing dialect q name (right_brace ∷ cs)
     (given (Name name ∷ []) (read_value dialect cs (base q))) (base_at dialect q
@@ -745,13 +797,13 @@ bracing_step dialect q name c cs false h ok later =
 -- where a text is read right from every sound mode, so is it in a tail with a character in front
 tail_step : (dialect : Dialect) (c : ℕ) (cs : List ℕ) (t n : Bool) → is_space_or_tab c ≡ t → (c == hash) ≡ n →
     ValueLater dialect cs →
-    IsValueRead dialect in_tail (c ∷ cs) (elim t [
-      | true ↦ read_value dialect cs in_tail
-      | false ↦ elim n [ true ↦ read_value dialect cs in_comment | false ↦ None ]
-    ])
+    IsValueRead dialect in_tail (c ∷ cs) (read_after (elim t [
+      | true ↦ Some (in_tail, [])
+      | false ↦ elim n [ true ↦ Some (in_comment, []) | false ↦ None ]
+    ]) (λ n. read_value dialect cs n))
 tail_step dialect c cs true n ht hn later = longer (read_value dialect cs in_tail) (later in_tail tt)
   where
-    longer : (r : ValueReading) → IsValueRead dialect in_tail cs r → IsValueRead dialect in_tail (c ∷ cs) r
+    longer : (r : ValueReading) → IsValueRead dialect in_tail cs r → IsValueRead dialect in_tail (c ∷ cs) (given [] r)
     longer None h = tt
     longer (Some ps) h = (
       record {
@@ -765,14 +817,14 @@ tail_step dialect c cs true n ht hn later = longer (read_value dialect cs in_tai
     )
 tail_step dialect c cs false true ht hn later = begun (read_value dialect cs in_comment) (later in_comment tt)
   where
-    begun : (r : ValueReading) → IsValueRead dialect in_comment cs r → IsValueRead dialect in_tail (c ∷ cs) r
+    begun : (r : ValueReading) → IsValueRead dialect in_comment cs r → IsValueRead dialect in_tail (c ∷ cs) (given [] r)
     begun None h = tt
     begun (Some ps) h = (record { blanks = []; comment = c ∷ cs; are = refl; is = hn; spelled = refl }, h)
 tail_step dialect c cs false false ht hn later = tt
 
 -- what is right in a comment is right there with any character in front
 comment_step : (dialect : Dialect) (c : ℕ) (cs : List ℕ) (r : ValueReading) → IsValueRead dialect in_comment cs r →
-    IsValueRead dialect in_comment (c ∷ cs) r
+    IsValueRead dialect in_comment (c ∷ cs) (given [] r)
 comment_step dialect c cs None h = tt
 comment_step dialect c cs (Some ps) h = h
 

@@ -83,7 +83,9 @@ allows_underscore Next = true
 
 -- a character of a bare name: alphabetic, in a category of numbers, or `_` where that is allowed
 unfoldable pub is_name_character : Dialect → ℕ → Bool
-is_name_character dialect c = (is_alphabetic c || is_number_category (general_category_number (general_category c))) || (allows_underscore dialect && c == underscore)
+is_name_character dialect c =
+    (is_alphabetic c || is_number_category (general_category_number (general_category c)))
+    || (allows_underscore dialect && c == underscore)
 
 -- the text begins with this character
 abbrev pub begins_with : ℕ → List ℕ → Bool

@@ -14,7 +14,8 @@ before_some c (d ∷ cs) = c ∷ d ∷ cs
 -- the front of the bytes up to and with their last line feed
 abbrev pub up_to_last_line_feed : List ℕ → List ℕ
 up_to_last_line_feed [] = []
-up_to_last_line_feed (c ∷ cs) = if c == line_feed then c ∷ up_to_last_line_feed cs else before_some c (up_to_last_line_feed cs)
+up_to_last_line_feed (c ∷ cs) =
+    if c == line_feed then c ∷ up_to_last_line_feed cs else before_some c (up_to_last_line_feed cs)
 
 -- the logical lines before an open end
 abbrev pub without_open_end : List Logical → List Logical

@@ -43,7 +43,8 @@ outcome_entries (Fault text index) = Fails (LineParse text index) ∷ []
 -- these are the entries of one logical line
 abbrev pub Gives : Dialect → Logical → List Entry → Type 0
 Gives dialect Skip entries = entries ≡ []
-Gives dialect (Text text) entries = (outcome : Outcome) × Says dialect text outcome × (entries ≡ outcome_entries outcome)
+Gives dialect (Text text) entries =
+    (outcome : Outcome) × Says dialect text outcome × (entries ≡ outcome_entries outcome)
 Gives dialect (Open text n) entries = entries ≡ Fails (LineParse text n) ∷ []
 Gives dialect Broken entries = entries ≡ Fails (Io InvalidData) ∷ []
 
@@ -51,7 +52,8 @@ Gives dialect Broken entries = entries ≡ Fails (Io InvalidData) ∷ []
 abbrev pub GiveAll : Dialect → List Logical → List Entry → Type 0
 GiveAll dialect [] entries = entries ≡ []
 GiveAll dialect (first ∷ others) entries =
-    (front after : List Entry) × Gives dialect first front × GiveAll dialect others after × (entries ≡ front ++ after)
+    (front after : List Entry) × Gives dialect first front × GiveAll dialect others after
+    × (entries ≡ front ++ after)
 
 -- the bytes have these entries
 pub record HasEntries (dialect : Dialect) (bytes : List ℕ) (entries : List Entry) : Type 0 where

@@ -25,7 +25,8 @@ meaning look (Name name ∷ pieces) = unwrap_or (look name) [] ++ meaning look p
 -- the value of the first pair with this key
 abbrev pub first_value : List (List ℕ × List ℕ) → LookUp
 first_value [] name = None
-first_value ((key, value) ∷ pairs) name = if bytes_eq key name then Some value else first_value pairs name
+first_value ((key, value) ∷ pairs) name =
+    if bytes_eq key name then Some value else first_value pairs name
 
 -- what the first has for a name, else what the second has
 abbrev pub or_else : LookUp → LookUp → LookUp

@@ -26,7 +26,9 @@ HasOneNext =
 
 -- a value means one list of pieces
 abbrev pub HasOneMeaning : Type 0
-HasOneMeaning = (dialect : Dialect) (value : List ℕ) (p q : List Piece) → IsValue dialect value p → IsValue dialect value q → p ≡ q
+HasOneMeaning =
+    (dialect : Dialect) (value : List ℕ) (p q : List Piece) → IsValue dialect value p →
+    IsValue dialect value q → p ≡ q
 
 -- a line says one thing
 abbrev pub HasOneOutcome : Type 0
@@ -41,7 +43,8 @@ NoLongerBegins Begins text n = (m : ℕ) → n < m → m ≤ length text → ¬ 
 -- the place of a fault is that of the longest front: no longer one begins a statement, or a value
 abbrev pub PlacesAreLongest : Type 0
 PlacesAreLongest =
-    ((text : List ℕ) (n : ℕ) → IsPlace BeginsStatement text n → NoLongerBegins BeginsStatement text n)
+    ((text : List ℕ) (n : ℕ) → IsPlace BeginsStatement text n →
+    NoLongerBegins BeginsStatement text n)
     × ((dialect : Dialect) (text : List ℕ) (n : ℕ) → IsPlace (BeginsValue dialect) text n →
     NoLongerBegins (BeginsValue dialect) text n)
 
@@ -60,14 +63,17 @@ HasOneDecision =
 -- the entries that bytes decide are the first of the bytes, whatever follows them
 abbrev pub DecidesFront : Type 0
 DecidesFront =
-    (dialect : Dialect) (bytes more : List ℕ) (decided entries : List Entry) → HasDecided dialect bytes decided → HasEntries dialect (bytes ++ more) entries →
+    (dialect : Dialect) (bytes more : List ℕ) (decided entries : List Entry) →
+    HasDecided dialect bytes decided → HasEntries dialect (bytes ++ more) entries →
     (later : List Entry) × (entries ≡ decided ++ later)
 
 -- written pairs are read back as themselves, under every environment
 abbrev pub ReadsBack : Type 0
 ReadsBack =
-    (dialect : Dialect) (env : LookUp) (pairs : List (List ℕ × List ℕ)) (entries : List Entry) → AreWritable pairs →
-    HasEntries dialect (encode_utf8_all (written_text pairs)) entries → items env entries ≡ map Ok pairs
+    (dialect : Dialect) (env : LookUp) (pairs : List (List ℕ × List ℕ)) (entries : List Entry) →
+    AreWritable pairs →
+    HasEntries dialect (encode_utf8_all (written_text pairs)) entries →
+    items env entries ≡ map Ok pairs
 
 -- loading one entry after another is the closed rule of the load
 abbrev pub LoadsInTurn : Type 0
@@ -78,25 +84,30 @@ LoadsInTurn =
 
 -- `load` keeps the value of each name that was there
 abbrev pub LoadKeeps : Type 0
-LoadKeeps = (env remembered : LookUp) (entries : List Entry) (name value : List ℕ) → env name ≡ Some value → (load_result env remembered entries).env name ≡ Some value
+LoadKeeps =
+    (env remembered : LookUp) (entries : List Entry) (name value : List ℕ) → env name ≡ Some value →
+    (load_result env remembered entries).env name ≡ Some value
 
 -- to `load` the same entries again changes nothing, and has the same answer
 abbrev pub LoadsTwice : Type 0
 LoadsTwice =
     (env remembered : LookUp) (entries : List Entry) →
-    SameLoad (load_result (load_result env remembered entries).env remembered entries) (load_result env remembered entries)
+    SameLoad (load_result (load_result env remembered entries).env remembered entries)
+    (load_result env remembered entries)
 
 -- the name is declared before the stop of `load_override`: with the entries up to that declaration it has no fault
 abbrev pub IsOverridden : LookUp → LookUp → List Entry → List ℕ → Type 0
 IsOverridden env remembered entries name =
-    (before : List Entry) × (pieces : List Piece) × (after : List Entry) × (entries ≡ before ++ Declares name pieces ∷ after)
+    (before : List Entry) × (pieces : List Piece) × (after : List Entry)
+    × (entries ≡ before ++ Declares name pieces ∷ after)
     × ((override_result env remembered (before ++ Declares name pieces ∷ [])).answer ≡ Ok tt)
 
 -- `load_override` changes no name that is not declared before its stop
 abbrev pub OverridesDeclared : Type 0
 OverridesDeclared =
     (env remembered : LookUp) (entries : List Entry) (name : List ℕ) →
-    ((override_result env remembered entries).env name ≡ env name) ⊎ IsOverridden env remembered entries name
+    ((override_result env remembered entries).env name ≡ env name)
+    ⊎ IsOverridden env remembered entries name
 
 -- two environments have the same value for each name in the pieces
 abbrev pub AgreeOn : LookUp → LookUp → List Piece → Type 0
@@ -112,4 +123,5 @@ AgreeIn a b (Fails failure ∷ entries) = AgreeIn a b entries
 
 -- environments that agree on every name in the entries give the same items
 abbrev pub NamesDecideItems : Type 0
-NamesDecideItems = (a b : LookUp) (entries : List Entry) → AgreeIn a b entries → items a entries ≡ items b entries
+NamesDecideItems =
+    (a b : LookUp) (entries : List Entry) → AgreeIn a b entries → items a entries ≡ items b entries

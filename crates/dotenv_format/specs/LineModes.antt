@@ -11,15 +11,22 @@ use Rattle.dotenv_format.specs.LogicalLine.{without_carriage_return}
 
 -- where a character leads after a whole token
 abbrev pub leads_outside : ℕ → Option LineMode
-leads_outside c = if c == line_feed then None else (if c == backslash then Some Escaping else (if is_quote c then Some (Inside c) else (if is_blank c then Some AfterBlank else Some Outside)))
+leads_outside c =
+    if c == line_feed then None else
+    if c == backslash then Some Escaping else
+    if is_quote c then Some (Inside c) else
+    if is_blank c then Some AfterBlank else Some Outside
 
 -- where a character leads, and none where it ends the logical line
 abbrev pub leads : LineMode → ℕ → Option LineMode
 leads Outside c = leads_outside c
 leads Escaping c = if c == line_feed then None else Some Outside
-leads (Inside quote) c = if c == quote then Some Outside else (if c == backslash then Some (InsideEscaping quote) else Some (Inside quote))
+leads (Inside quote) c =
+    if c == quote then Some Outside else
+    (if c == backslash then Some (InsideEscaping quote) else Some (Inside quote))
 leads (InsideEscaping quote) c = Some (Inside quote)
-leads AfterBlank c = if c == hash then None else (if stands_for_itself c then leads_outside c else Some Outside)
+leads AfterBlank c =
+    if c == hash then None else (if stands_for_itself c then leads_outside c else Some Outside)
 
 -- the text that a line keeps, of what stands before the character that ends it
 abbrev pub kept_before : ℕ → List ℕ → List ℕ
@@ -42,7 +49,10 @@ walk m seen (c ∷ cs) = walked (leads m c) c seen (λ n. walk n (seen ++ c ∷ 
 -- a walk over the characters of a text's bytes
 abbrev pub WalksText : LineMode → List ℕ → Walked → Type 0
 WalksText m text (Going n) = (seen : List ℕ) → walk m seen (chars text) ≡ going n
-WalksText m text (EndedAt at c) = (at ≤ length text) × IsCharBoundary text at × ((seen : List ℕ) → walk m seen (chars text) ≡ ended (kept_before c (seen ++ chars (take at text))))
+WalksText m text (EndedAt at c) =
+    (at ≤ length text) × IsCharBoundary text at
+    × ((seen : List ℕ) →
+    walk m seen (chars text) ≡ ended (kept_before c (seen ++ chars (take at text))))
 
 -- the characters at the front of a text leave the mode as it is, and the rest follows them
 pub record PassesRun (m : LineMode) (text rest : List ℕ) : Type 0 where

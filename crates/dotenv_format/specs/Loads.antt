@@ -13,12 +13,15 @@ pub record Declared : Type 0 where
 -- the value of the last pair with this key
 abbrev pub last_value : List (List ℕ × List ℕ) → LookUp
 last_value [] name = None
-last_value ((key, value) ∷ pairs) name = option_or (last_value pairs name) (if bytes_eq key name then Some value else None)
+last_value ((key, value) ∷ pairs) name =
+    option_or (last_value pairs name) (if bytes_eq key name then Some value else None)
 
 -- the declarations up to the stop, after earlier ones: `look earlier` says what a name means, and `matters earlier key` whether a NUL would be a fault
-abbrev pub declared_from : (List (List ℕ × List ℕ) → LookUp) → (List (List ℕ × List ℕ) → List ℕ → Bool) → List (List ℕ × List ℕ) → List Entry → Declared
+abbrev pub declared_from : (List (List ℕ × List ℕ) → LookUp) →
+    (List (List ℕ × List ℕ) → List ℕ → Bool) → List (List ℕ × List ℕ) → List Entry → Declared
 declared_from look matters earlier [] = record { pairs = earlier; stop = Ok tt }
-declared_from look matters earlier (Fails failure ∷ entries) = record { pairs = earlier; stop = Err failure }
+declared_from look matters earlier (Fails failure ∷ entries) =
+    record { pairs = earlier; stop = Err failure }
 declared_from look matters earlier (Declares key pieces ∷ entries) =
     let value = meaning (look earlier) pieces in
     if matters earlier key && has_nul value
@@ -36,7 +39,8 @@ is_first_of_absent env earlier key = is_none (env key) && is_none (first_value e
 -- `load`: each absent name that is declared before the stop has its first value there
 abbrev pub load_result : LookUp → LookUp → List Entry → Loaded
 load_result env remembered entries =
-    let declared = declared_from (load_look_up env remembered) (is_first_of_absent env) [] entries in
+    let declared =
+    declared_from (load_look_up env remembered) (is_first_of_absent env) [] entries in
     record { env = or_else env (first_value declared.pairs); answer = declared.stop }
 
 -- under `load_override` a name means the value of the last earlier declaration, else the environment's, else what is remembered
@@ -46,7 +50,8 @@ override_look_up env remembered earlier = or_else (last_value earlier) (or_else 
 -- `load_override`: each name that is declared before the stop has its last value there
 abbrev pub override_result : LookUp → LookUp → List Entry → Loaded
 override_result env remembered entries =
-    let declared = declared_from (override_look_up env remembered) (λ earlier key. true) [] entries in
+    let declared =
+    declared_from (override_look_up env remembered) (λ earlier key. true) [] entries in
     record { env = or_else (last_value declared.pairs) env; answer = declared.stop }
 
 -- the same answer, and the same value of each name

@@ -11,7 +11,7 @@ use Rattle.dotenv_format.specs.declared.value.Piece.{Piece as CodePiece}
 use Rattle.dotenv_format.specs.declared.value.Piece.TheVariants.{Text, Name}
 use Rattle.dotenv_format.specs.declared.value.Given.{Given}
 use Rattle.dotenv_format.specs.declared.value.NextPiece.{NextPiece}
-use Rattle.dotenv_format.specs.declared.value.NextPiece.TheVariants.{Piece as GivesNext, End, Fault}
+use Rattle.dotenv_format.specs.declared.value.NextPiece.TheVariants.{Piece as GivesNext, End, Unfinished, Fault}
 use Rattle.dotenv_format.specs.Characters.{single_quote, double_quote, dollar, backslash, is_space_or_tab}
 use Rattle.dotenv_format.specs.Value.{Quoting, unquoted, double_quoted, Piece, is_escape, escape_meaning}
 use Rattle.dotenv_format.specs.Slices.{quoting_of}
@@ -43,26 +43,33 @@ kind_of DoubleQuoted c =
 
 -- the bytes that a backslash and this character mean
 abbrev pub Escapes : ℕ → Option (Bor (List ℕ)) → Type 0
-Escapes c result = MatchOption result (is_escape c ≡ false) (λ text. (is_escape c ≡ true) × (text.now ≡ encode_utf8_all (escape_meaning c ∷ [])))
+Escapes c result =
+    MatchOption result (is_escape c ≡ false)
+    (λ text. (is_escape c ≡ true) × (text.now ≡ encode_utf8_all (escape_meaning c ∷ [])))
 
 -- the bytes that a piece of the code means
 abbrev pub piece_bytes : LookUp → CodePiece → List ℕ
 piece_bytes look_up (Text text) = text.now
-piece_bytes look_up (Name name after) = encode_utf8_all (unwrap_or (look_up (chars name.now)) []) ++ after.now
+piece_bytes look_up (Name name after) =
+    encode_utf8_all (unwrap_or (look_up (chars name.now)) []) ++ after.now
 
 -- reading the text from one mode gives the pieces, and goes on with the rest from another
-pub record IsReadTo (dialect : Dialect) (m : ValueMode) (text : List ℕ) (pieces : List Piece) (n : ValueMode) (rest : List ℕ) : Type 0 where
+pub record IsReadTo (dialect : Dialect) (m : ValueMode) (text : List ℕ) (pieces : List Piece)
+    (n : ValueMode) (rest : List ℕ) : Type 0 where
   pub front : List ℕ
   pub spelled : text ≡ front ++ rest
   pub reads : read_value dialect text m ≡ given pieces (read_value dialect rest n)
   pub counts : value_reach dialect text m ≡ length front + value_reach dialect rest n
 
 -- the piece and where the value goes on, whatever names stand for
-pub record GivesPiece (dialect : Dialect) (m : ValueMode) (text : List ℕ) (next : Given) : Type 0 where
+pub record GivesPiece (dialect : Dialect) (m : ValueMode) (text : List ℕ) (next : Given)
+    : Type 0 where
   pub pieces : List Piece
-  pub is_read : IsReadTo dialect m text pieces (base (quoting_of next.quoting)) (chars next.rest.now)
+  pub is_read :
+      IsReadTo dialect m text pieces (base (quoting_of next.quoting)) (chars next.rest.now)
   pub follows : IsUtf8 next.rest.now
-  pub means : (look_up : LookUp) → piece_bytes look_up next.piece ≡ encode_utf8_all (meaning look_up pieces)
+  pub means : (look_up : LookUp) →
+      piece_bytes look_up next.piece ≡ encode_utf8_all (meaning look_up pieces)
 
 -- no value goes on with what is left
 pub record StopsAt (dialect : Dialect) (m : ValueMode) (text left : List ℕ) : Type 0 where
@@ -71,14 +78,16 @@ pub record StopsAt (dialect : Dialect) (m : ValueMode) (text left : List ℕ) : 
   pub reads : read_value dialect text m ≡ None
   pub counts : value_reach dialect text m ≡ length front
 
--- the end of the value, a piece, or what is left at a fault
+-- the end of the value, a piece, the end of a text that lacks the end of its value, or what is left at a fault
 abbrev pub NextPieceIs : (dialect : Dialect) (m : ValueMode) (text : List ℕ) → NextPiece → Type 0
 NextPieceIs dialect m text End = read_value dialect text m ≡ Some []
 NextPieceIs dialect m text (GivesNext next) = GivesPiece dialect m text next
+NextPieceIs dialect m text Unfinished = StopsAt dialect m text []
 NextPieceIs dialect m text (Fault left) = StopsAt dialect m text (chars left.now)
 
 -- a piece leaves fewer characters
 abbrev pub IsShorter : List ℕ → NextPiece → Type 0
 IsShorter text End = Unit {0}
 IsShorter text (GivesNext next) = length (chars next.rest.now) < length text
+IsShorter text Unfinished = Unit {0}
 IsShorter text (Fault left) = Unit {0}

@@ -51,7 +51,9 @@ second_key left = key_then left (skipping after_plain_key)
 
 -- after the first key, which may be a prefix
 abbrev pub after_first_key : List ℕ → List ℕ → Parsed
-after_first_key key left = cond (bytes_eq key export) (equals_then left (after_equals key) (second_key left)) (after_plain_key key left)
+after_first_key key left =
+    cond (bytes_eq key export) (equals_then left (after_equals key) (second_key left))
+    (after_plain_key key left)
 
 -- the whole line, without white space at its end
 abbrev pub parse : List ℕ → Parsed
@@ -68,6 +70,7 @@ assigned_of (Some statement) other = assigns (chars statement.key.now) (chars st
 assigned_of None other = other
 
 -- go on after the key, where there was one
-abbrev pub keyed_of : Result (Bor (List ℕ) × Bor (List ℕ)) (Bor (List ℕ)) → (List ℕ → List ℕ → Parsed) → Parsed
+abbrev pub keyed_of : Result (Bor (List ℕ) × Bor (List ℕ)) (Bor (List ℕ)) →
+    (List ℕ → List ℕ → Parsed) → Parsed
 keyed_of (Ok cut) next = next (chars cut.0.now) (chars cut.1.now)
 keyed_of (Err left) next = fails (chars left.now)

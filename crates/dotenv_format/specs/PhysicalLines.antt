@@ -12,7 +12,8 @@ onto_first c (line ∷ lines) = (c ∷ line) ∷ lines
 -- the bytes, or characters, cut after each line feed
 abbrev pub physical_lines : List ℕ → List (List ℕ)
 physical_lines [] = []
-physical_lines (c ∷ cs) = if c == line_feed then (c ∷ []) ∷ physical_lines cs else onto_first c (physical_lines cs)
+physical_lines (c ∷ cs) =
+    if c == line_feed then (c ∷ []) ∷ physical_lines cs else onto_first c (physical_lines cs)
 
 -- the text that a line's bytes spell; none where the line is broken, so that its bytes are no UTF-8
 abbrev pub line_text : List ℕ → Option (List ℕ)

@@ -10,7 +10,8 @@ BeginsStatement front = (more key rest : List ℕ) × IsStatement (front ++ more
 
 -- the text is the front of a value
 abbrev pub BeginsValue : Dialect → List ℕ → Type 0
-BeginsValue dialect front = (more : List ℕ) × (pieces : List Piece) × IsValue dialect (front ++ more) pieces
+BeginsValue dialect front =
+    (more : List ℕ) × (pieces : List Piece) × IsValue dialect (front ++ more) pieces
 
 -- the first n characters are the longest front of the text that can be completed
 pub record IsPlace (Begins : List ℕ → Type 0) (text : List ℕ) (n : ℕ) : Type 0 where

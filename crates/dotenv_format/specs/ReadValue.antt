@@ -18,6 +18,10 @@ pub data ValueMode : Type 0 where
 abbrev pub ValueReading : Type 0
 ValueReading = Option (List Piece)
 
+-- the mode that a character leads to, and the pieces that it completes; `None` where no value goes on with it
+abbrev pub ValueStep : Type 0
+ValueStep = Option (ValueMode × List Piece)
+
 -- pieces before those that are still read
 abbrev pub given : List Piece → ValueReading → ValueReading
 given pieces None = None
@@ -27,56 +31,6 @@ given pieces (Some more) = Some (pieces ++ more)
 abbrev pub is_brace_first : List ℕ → ℕ → Bool
 is_brace_first [] c = c == left_brace
 is_brace_first (d ∷ name) c = false
-
--- where a part may begin
-abbrev pub from_base : Quoting → ℕ → (ValueMode → ValueReading) → ValueReading
-from_base unquoted c next =
-    elim (c == backslash) [
-      | true ↦ next (escaping unquoted)
-      | false ↦
-          elim (c == single_quote) [
-            | true ↦ next (in_single [])
-            | false ↦
-                elim (c == double_quote) [
-                  | true ↦ next (base double_quoted)
-                  | false ↦
-                      elim (c == dollar) [
-                        | true ↦ next (naming unquoted [])
-                        | false ↦
-                            elim (is_space_or_tab c) [ true ↦ next in_tail | false ↦ given (Text (c ∷ []) ∷ []) (next (base unquoted)) ]
-                      ]
-                ]
-          ]
-    ]
-from_base double_quoted c next =
-    elim (c == backslash) [
-      | true ↦ next (escaping double_quoted)
-      | false ↦
-          elim (c == double_quote) [
-            | true ↦ next (base unquoted)
-            | false ↦
-                elim (c == dollar) [ true ↦ next (naming double_quoted []) | false ↦ given (Text (c ∷ []) ∷ []) (next (base double_quoted)) ]
-          ]
-    ]
-
--- where a character leads, and what it gives, with what is read from there
-abbrev pub value_from : (dialect : Dialect) → ValueMode → ℕ → (ValueMode → ValueReading) → ValueReading
-value_from dialect (base q) c next = from_base q c next
-value_from dialect (escaping q) c next = elim (is_escape c) [ true ↦ given (Text (escape_meaning c ∷ []) ∷ []) (next (base q)) | false ↦ None ]
-value_from dialect (in_single inner) c next = elim (c == single_quote) [ true ↦ given (Text inner ∷ []) (next (base unquoted)) | false ↦ next (in_single (inner ++ c ∷ [])) ]
-value_from dialect (naming q name) c next =
-    elim (is_name_character dialect c) [
-      | true ↦ next (naming q (name ++ c ∷ []))
-      | false ↦
-          elim (is_left_by_name dialect q c) [
-            | true ↦ given (Name name ∷ []) (from_base q c next)
-            | false ↦
-                elim (is_brace_first name c) [ true ↦ next (bracing q []) | false ↦ given (Name name ∷ Text (c ∷ []) ∷ []) (next (base q)) ]
-          ]
-    ]
-value_from dialect (bracing q name) c next = elim (c == right_brace) [ true ↦ given (Name name ∷ []) (next (base q)) | false ↦ next (bracing q (name ++ c ∷ [])) ]
-value_from dialect in_tail c next = elim (is_space_or_tab c) [ true ↦ next in_tail | false ↦ elim (c == hash) [ true ↦ next in_comment | false ↦ None ] ]
-value_from dialect in_comment c next = next in_comment
 
 -- what the end of the text gives
 abbrev pub value_at_end : ValueMode → ValueReading
@@ -91,13 +45,8 @@ value_at_end (naming double_quoted name) = None
 value_at_end (bracing q name) = None
 value_at_end (in_single inner) = None
 
--- what the text gives, read from this mode
-abbrev pub read_value : (dialect : Dialect) → List ℕ → ValueMode → ValueReading
-read_value dialect [] mode = value_at_end mode
-read_value dialect (c ∷ cs) mode = value_from dialect mode c (λ m. read_value dialect cs m)
-
--- the same where a part may begin
-abbrev pub goes_base : Quoting → ℕ → Option (ValueMode × List Piece)
+-- where a character leads where a part may begin, and the pieces that it completes
+abbrev pub goes_base : Quoting → ℕ → ValueStep
 goes_base unquoted c =
     elim (c == backslash) [
       | true ↦ Some (escaping unquoted, [])
@@ -111,7 +60,10 @@ goes_base unquoted c =
                       elim (c == dollar) [
                         | true ↦ Some (naming unquoted [], [])
                         | false ↦
-                            elim (is_space_or_tab c) [ true ↦ Some (in_tail, []) | false ↦ Some (base unquoted, Text (c ∷ []) ∷ []) ]
+                            elim (is_space_or_tab c) [
+                              | true ↦ Some (in_tail, [])
+                              | false ↦ Some (base unquoted, Text (c ∷ []) ∷ [])
+                            ]
                       ]
                 ]
           ]
@@ -123,20 +75,28 @@ goes_base double_quoted c =
           elim (c == double_quote) [
             | true ↦ Some (base unquoted, [])
             | false ↦
-                elim (c == dollar) [ true ↦ Some (naming double_quoted [], []) | false ↦ Some (base double_quoted, Text (c ∷ []) ∷ []) ]
+                elim (c == dollar) [
+                  | true ↦ Some (naming double_quoted [], [])
+                  | false ↦ Some (base double_quoted, Text (c ∷ []) ∷ [])
+                ]
           ]
     ]
 
 -- pieces before those that a step completes
-abbrev pub with_pieces : List Piece → Option (ValueMode × List Piece) → Option (ValueMode × List Piece)
+abbrev pub with_pieces : List Piece → ValueStep → ValueStep
 with_pieces pieces None = None
 with_pieces pieces (Some (m, more)) = Some (m, pieces ++ more)
 
--- where one character leads, and the pieces that it completes; `None` where no value goes on with it
-abbrev pub value_goes : (dialect : Dialect) → ValueMode → ℕ → Option (ValueMode × List Piece)
+-- where a character leads from each mode
+abbrev pub value_goes : (dialect : Dialect) → ValueMode → ℕ → ValueStep
 value_goes dialect (base q) c = goes_base q c
-value_goes dialect (escaping q) c = elim (is_escape c) [ true ↦ Some (base q, Text (escape_meaning c ∷ []) ∷ []) | false ↦ None ]
-value_goes dialect (in_single inner) c = elim (c == single_quote) [ true ↦ Some (base unquoted, Text inner ∷ []) | false ↦ Some (in_single (inner ++ c ∷ []), []) ]
+value_goes dialect (escaping q) c =
+    elim (is_escape c) [ true ↦ Some (base q, Text (escape_meaning c ∷ []) ∷ []) | false ↦ None ]
+value_goes dialect (in_single inner) c =
+    elim (c == single_quote) [
+      | true ↦ Some (base unquoted, Text inner ∷ [])
+      | false ↦ Some (in_single (inner ++ c ∷ []), [])
+    ]
 value_goes dialect (naming q name) c =
     elim (is_name_character dialect c) [
       | true ↦ Some (naming q (name ++ c ∷ []), [])
@@ -144,19 +104,42 @@ value_goes dialect (naming q name) c =
           elim (is_left_by_name dialect q c) [
             | true ↦ with_pieces (Name name ∷ []) (goes_base q c)
             | false ↦
-                elim (is_brace_first name c) [ true ↦ Some (bracing q [], []) | false ↦ Some (base q, Name name ∷ Text (c ∷ []) ∷ []) ]
+                elim (is_brace_first name c) [
+                  | true ↦ Some (bracing q [], [])
+                  | false ↦ Some (base q, Name name ∷ Text (c ∷ []) ∷ [])
+                ]
           ]
     ]
-value_goes dialect (bracing q name) c = elim (c == right_brace) [ true ↦ Some (base q, Name name ∷ []) | false ↦ Some (bracing q (name ++ c ∷ []), []) ]
-value_goes dialect in_tail c = elim (is_space_or_tab c) [ true ↦ Some (in_tail, []) | false ↦ elim (c == hash) [ true ↦ Some (in_comment, []) | false ↦ None ] ]
+value_goes dialect (bracing q name) c =
+    elim (c == right_brace) [
+      | true ↦ Some (base q, Name name ∷ [])
+      | false ↦ Some (bracing q (name ++ c ∷ []), [])
+    ]
+value_goes dialect in_tail c =
+    elim (is_space_or_tab c) [
+      | true ↦ Some (in_tail, [])
+      | false ↦ elim (c == hash) [ true ↦ Some (in_comment, []) | false ↦ None ]
+    ]
 value_goes dialect in_comment c = Some (in_comment, [])
 
+-- what is read behind a character, with the pieces that it completes before it
+abbrev pub read_after : ValueStep → (ValueMode → ValueReading) → ValueReading
+read_after None next = None
+read_after (Some (m, pieces)) next = given pieces (next m)
+
+-- what the text gives, read from this mode
+abbrev pub read_value : (dialect : Dialect) → List ℕ → ValueMode → ValueReading
+read_value dialect [] mode = value_at_end mode
+read_value dialect (c ∷ cs) mode =
+    read_after (value_goes dialect mode c) (λ m. read_value dialect cs m)
+
 -- one character more, unless no value goes on with it
-abbrev pub value_reach_after : Option (ValueMode × List Piece) → (ValueMode → ℕ) → ℕ
+abbrev pub value_reach_after : ValueStep → (ValueMode → ℕ) → ℕ
 value_reach_after None next = 0
 value_reach_after (Some (m, pieces)) next = suc (next m)
 
 -- the number of characters up to the first that no value goes on with
 abbrev pub value_reach : (dialect : Dialect) → List ℕ → ValueMode → ℕ
 value_reach dialect [] m = 0
-value_reach dialect (c ∷ cs) m = value_reach_after (value_goes dialect m c) (λ n. value_reach dialect cs n)
+value_reach dialect (c ∷ cs) m =
+    value_reach_after (value_goes dialect m c) (λ n. value_reach dialect cs n)

@@ -17,7 +17,8 @@ is_white_space text = list_all is_whitespace text
 abbrev pub IsPrefix : List ℕ → Type 0
 IsPrefix prefix =
     (prefix ≡ [])
-    ⊎ ((first : ℕ) × (gap : List ℕ) × (prefix ≡ codes "export" ++ first ∷ gap) × IsTrue (is_white_space (first ∷ gap)))
+    ⊎ ((first : ℕ) × (gap : List ℕ) × (prefix ≡ codes "export" ++ first ∷ gap)
+    × IsTrue (is_white_space (first ∷ gap)))
 
 -- the text begins with white space
 abbrev pub begins_with_white_space : List ℕ → Bool

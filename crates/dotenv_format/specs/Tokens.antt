@@ -51,11 +51,14 @@ is_before_break (c ∷ cs) = stands_for_itself c
 abbrev pub IsToken : Token → List ℕ → Type 0
 IsToken (plain c) after = IsTrue (not (is_blank c || stands_for_itself c))
 IsToken (backslash_pair c) after = IsTrue (not (c == line_feed))
-IsToken (quoted quote inner) after = IsTrue (is_quote quote) × IsTrue (list_all (is_quoted quote) inner)
-IsToken (blank_pair b c) after = IsTrue (is_blank b) × IsTrue (not (c == hash || stands_for_itself c))
+IsToken (quoted quote inner) after =
+    IsTrue (is_quote quote) × IsTrue (list_all (is_quoted quote) inner)
+IsToken (blank_pair b c) after =
+    IsTrue (is_blank b) × IsTrue (not (c == hash || stands_for_itself c))
 IsToken (blank b) after = IsTrue (is_blank b) × IsTrue (is_before_break after)
 
 -- the tokens may stand in a row where this text follows
 abbrev pub AreTokens : List Token → List ℕ → Type 0
 AreTokens [] after = Unit {0}
-AreTokens (token ∷ tokens) after = IsToken token (tokens_text tokens ++ after) × AreTokens tokens after
+AreTokens (token ∷ tokens) after =
+    IsToken token (tokens_text tokens ++ after) × AreTokens tokens after

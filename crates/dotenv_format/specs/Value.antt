@@ -96,11 +96,16 @@ is_plain_inside c = not ((c == backslash || c == double_quote) || c == dollar)
 
 -- a character that means itself outside quotes
 abbrev pub is_plain_outside : ℕ → Bool
-is_plain_outside c = not ((((c == backslash || c == single_quote) || c == double_quote) || c == dollar) || is_space_or_tab c)
+is_plain_outside c =
+    not
+    ((((c == backslash || c == single_quote) || c == double_quote) || c == dollar)
+    || is_space_or_tab c)
 
 -- backslash, quotes, dollar, space and `n`
 abbrev pub is_escape : ℕ → Bool
-is_escape c = ((((c == backslash || c == single_quote) || c == double_quote) || c == dollar) || c == space) || c == letter_n
+is_escape c =
+    ((((c == backslash || c == single_quote) || c == double_quote) || c == dollar) || c == space)
+    || c == letter_n
 
 -- a character that means itself there
 abbrev pub is_plain : Quoting → ℕ → Bool
@@ -115,7 +120,8 @@ closes_after_name Next double_quoted = true
 
 -- a bare name leaves this character to what follows: it begins another name, or closes the quotes
 abbrev pub is_left_by_name : Dialect → Quoting → ℕ → Bool
-is_left_by_name dialect quoting c = c == dollar || (closes_after_name dialect quoting && c == double_quote)
+is_left_by_name dialect quoting c =
+    c == dollar || (closes_after_name dialect quoting && c == double_quote)
 
 -- such a character stands next
 abbrev pub is_before_left : Dialect → Quoting → List ℕ → Bool
@@ -124,21 +130,27 @@ is_before_left dialect quoting (c ∷ cs) = is_left_by_name dialect quoting c
 
 -- this character ends the bare name before it, and means itself; a brace after the dollar would begin a braced name
 abbrev pub ends_name : Dialect → Quoting → List ℕ → ℕ → Bool
-ends_name dialect quoting [] c = not ((is_name_character dialect c || is_left_by_name dialect quoting c) || c == left_brace)
-ends_name dialect quoting (d ∷ name) c = not (is_name_character dialect c || is_left_by_name dialect quoting c)
+ends_name dialect quoting [] c =
+    not ((is_name_character dialect c || is_left_by_name dialect quoting c) || c == left_brace)
+ends_name dialect quoting (d ∷ name) c =
+    not (is_name_character dialect c || is_left_by_name dialect quoting c)
 
 -- the part may stand there, where this text follows
 abbrev pub IsPart : Dialect → Quoting → Part → List ℕ → Type 0
 IsPart dialect quoting (plain c) after = IsTrue (is_plain quoting c)
 IsPart dialect quoting (escape c) after = IsTrue (is_escape c)
 IsPart dialect quoting (braced name) after = IsTrue (list_all (λ c. not (c == right_brace)) name)
-IsPart dialect quoting (bare name c) after = IsTrue (list_all (is_name_character dialect) name) × IsTrue (ends_name dialect quoting name c)
-IsPart dialect quoting (bare_before name) after = IsTrue (list_all (is_name_character dialect) name) × IsTrue (is_before_left dialect quoting after)
+IsPart dialect quoting (bare name c) after =
+    IsTrue (list_all (is_name_character dialect) name) × IsTrue (ends_name dialect quoting name c)
+IsPart dialect quoting (bare_before name) after =
+    IsTrue (list_all (is_name_character dialect) name)
+    × IsTrue (is_before_left dialect quoting after)
 
 -- the parts may stand there in a row, where this text follows
 abbrev pub AreParts : Dialect → Quoting → List Part → List ℕ → Type 0
 AreParts dialect quoting [] after = Unit {0}
-AreParts dialect quoting (p ∷ parts) after = IsPart dialect quoting p (parts_text parts ++ after) × AreParts dialect quoting parts after
+AreParts dialect quoting (p ∷ parts) after =
+    IsPart dialect quoting p (parts_text parts ++ after) × AreParts dialect quoting parts after
 
 -- the segment may stand, where this text follows
 abbrev pub IsSegment : Dialect → Segment → List ℕ → Type 0
@@ -149,14 +161,17 @@ IsSegment dialect (double inner) after = AreParts dialect double_quoted inner (d
 -- the segments may stand in a row, where this text follows
 abbrev pub AreSegments : Dialect → List Segment → List ℕ → Type 0
 AreSegments dialect [] after = Unit {0}
-AreSegments dialect (s ∷ segments) after = IsSegment dialect s (segments_text segments ++ after) × AreSegments dialect segments after
+AreSegments dialect (s ∷ segments) after =
+    IsSegment dialect s (segments_text segments ++ after) × AreSegments dialect segments after
 
 -- this may stand at the end of a value
 abbrev pub IsClose : Dialect → Close → Type 0
 IsClose dialect nothing = Unit {0}
 IsClose dialect lone_backslash = Unit {0}
 IsClose dialect (bare_name name) = IsTrue (list_all (is_name_character dialect) name)
-IsClose dialect (tail blank blanks comment) = IsTrue (is_space_or_tab blank && list_all is_space_or_tab blanks) × IsTrue (is_empty_or_comment comment)
+IsClose dialect (tail blank blanks comment) =
+    IsTrue (is_space_or_tab blank && list_all is_space_or_tab blanks)
+    × IsTrue (is_empty_or_comment comment)
 
 -- the text is a value, and means these pieces
 pub record IsValue (dialect : Dialect) (value : List ℕ) (pieces : List Piece) : Type 0 where

@@ -41,32 +41,45 @@ broken_line = Fails (Io InvalidData)
 abbrev pub HaveLines : Type 0
 HaveLines =
     -- quotes join lines, and keep each character between them
-    HasEntries V15 (file "A=\"x\ny\"\nB=2\n") (declares "A" (text_piece "x" ∷ text_piece "\n" ∷ text_piece "y" ∷ []) ∷ declares "B" (text_piece "2" ∷ []) ∷ [])
+    HasEntries V15 (file "A=\"x\ny\"\nB=2\n")
+    (declares "A" (text_piece "x" ∷ text_piece "\n" ∷ text_piece "y" ∷ [])
+    ∷ declares "B" (text_piece "2" ∷ []) ∷ [])
     -- a carriage return before a line feed goes with it, but stays between quotes
-    × HasEntries V15 (file "A=1\r\nB=\"x\r\ny\"\r\n") (declares "A" (text_piece "1" ∷ []) ∷ declares "B" (text_piece "x" ∷ text_piece "\r" ∷ text_piece "\n" ∷ text_piece "y" ∷ []) ∷ [])
+    × HasEntries V15 (file "A=1\r\nB=\"x\r\ny\"\r\n")
+    (declares "A" (text_piece "1" ∷ [])
+    ∷ declares "B" (text_piece "x" ∷ text_piece "\r" ∷ text_piece "\n" ∷ text_piece "y" ∷ [])
+    ∷ [])
     -- a skipped line opens no quote
     × HasEntries V15 (file " # it's\nA=1\n") (declares "A" (text_piece "1" ∷ []) ∷ [])
     -- after one blank `#` begins a comment, and the quote in it opens nothing
-    × HasEntries V15 (file "A=1 # it's\nB=2\n") (declares "A" (text_piece "1" ∷ []) ∷ declares "B" (text_piece "2" ∷ []) ∷ [])
+    × HasEntries V15 (file "A=1 # it's\nB=2\n")
+    (declares "A" (text_piece "1" ∷ []) ∷ declares "B" (text_piece "2" ∷ []) ∷ [])
     -- two blanks are one token, so `#` after them begins none, and the quote opens; the value still ends there
     × HasEntries V15 (file "A=1  # it's\nB=2\n") (fault_in "A=1  # it's\nB=2\n" 16 ∷ [])
     × HasEntries V15 (file "K=a  # b\n") (declares "K" (text_piece "a" ∷ []) ∷ [])
     -- after three blanks it begins one
-    × HasEntries V15 (file "A=1   # it's\nB=2\n") (declares "A" (text_piece "1" ∷ []) ∷ declares "B" (text_piece "2" ∷ []) ∷ [])
+    × HasEntries V15 (file "A=1   # it's\nB=2\n")
+    (declares "A" (text_piece "1" ∷ []) ∷ declares "B" (text_piece "2" ∷ []) ∷ [])
     -- a blank at the end of the input asks for one more character; a pair of blanks does not
     × HasEntries V15 (file "K=1 ") (fault_in "K=1 " 4 ∷ [])
     × HasEntries V15 (file "K=1  ") (declares "K" (text_piece "1" ∷ []) ∷ [])
     -- a broken line takes the open text before it along; it is broken also where the byte stands in a comment
-    × HasEntries V15 (file "A=\"x\n" ++ broken_byte ++ file "\nB=2\n") (broken_line ∷ declares "B" (text_piece "2" ∷ []) ∷ [])
-    × HasEntries V15 (file "A=1 # " ++ broken_byte ++ file "\nB=2\n") (broken_line ∷ declares "B" (text_piece "2" ∷ []) ∷ [])
+    × HasEntries V15 (file "A=\"x\n" ++ broken_byte ++ file "\nB=2\n")
+    (broken_line ∷ declares "B" (text_piece "2" ∷ []) ∷ [])
+    × HasEntries V15 (file "A=1 # " ++ broken_byte ++ file "\nB=2\n")
+    (broken_line ∷ declares "B" (text_piece "2" ∷ []) ∷ [])
     -- a backslash before a line feed does not join lines: it stands alone at the end of the value, where it means nothing
-    × HasEntries V15 (file "K=a\\\nL=1\n") (declares "K" (text_piece "a" ∷ []) ∷ declares "L" (text_piece "1" ∷ []) ∷ [])
+    × HasEntries V15 (file "K=a\\\nL=1\n")
+    (declares "K" (text_piece "a" ∷ []) ∷ declares "L" (text_piece "1" ∷ []) ∷ [])
     × HasEntries V15 (file "K=a\\ \n") (declares "K" (text_piece "a" ∷ []) ∷ [])
-    × HasEntries V15 (file "K=a\\\r\nL=1\n") (declares "K" (text_piece "a" ∷ []) ∷ declares "L" (text_piece "1" ∷ []) ∷ [])
+    × HasEntries V15 (file "K=a\\\r\nL=1\n")
+    (declares "K" (text_piece "a" ∷ []) ∷ declares "L" (text_piece "1" ∷ []) ∷ [])
     -- a backslash takes the quote after it, also in single quotes
     × HasEntries V15 (file "K='a\\'\nB=2\n") (fault_in "K='a\\'\nB=2\n" 11 ∷ [])
     -- an open end is one fault, from its first line to the end of the input
-    × HasEntries V15 (file "KEY=my uncool value\nKEY2=\"why\nKEY3='please stop''\nKEY4=h\\8u\n") (fault_in "my uncool value" 3 ∷ fault_in "KEY2=\"why\nKEY3='please stop''\nKEY4=h\\8u\n" 40 ∷ [])
+    × HasEntries V15 (file "KEY=my uncool value\nKEY2=\"why\nKEY3='please stop''\nKEY4=h\\8u\n")
+    (fault_in "my uncool value" 3 ∷ fault_in "KEY2=\"why\nKEY3='please stop''\nKEY4=h\\8u\n" 40
+    ∷ [])
     × HasEntries V15 (file "K=#'\n") (fault_in "K=#'\n" 5 ∷ [])
 
 -- keys, `export`, and lines without a statement
@@ -75,23 +88,33 @@ HaveStatements =
     -- white space may stand before the key and round the `=`; a comment or an empty line says nothing
     HasEntries V15 (file "  _b.C \t= 1\n# c\n\n") (declares "_b.C" (text_piece "1" ∷ []) ∷ [])
     -- `export` before a key is a prefix, else it is a key
-    × HasEntries V15 (file "export\nexport=1\nexport export=1\nexport A\n") (fault_in "export" 6 ∷ declares "export" (text_piece "1" ∷ []) ∷ declares "export" (text_piece "1" ∷ []) ∷ fault_in "export A" 8 ∷ [])
+    × HasEntries V15 (file "export\nexport=1\nexport export=1\nexport A\n")
+    (fault_in "export" 6 ∷ declares "export" (text_piece "1" ∷ [])
+    ∷ declares "export" (text_piece "1" ∷ []) ∷ fault_in "export A" 8 ∷ [])
     -- the fault has the line as it is, and the index of the first byte with which no statement goes on
-    × HasEntries V15 (file "  invalid    \nvery bacon = yes indeed\n=value\n.Key=VALUE") (fault_in "  invalid    " 9 ∷ fault_in "very bacon = yes indeed" 5 ∷ fault_in "=value" 0 ∷ fault_in ".Key=VALUE" 0 ∷ [])
+    × HasEntries V15 (file "  invalid    \nvery bacon = yes indeed\n=value\n.Key=VALUE")
+    (fault_in "  invalid    " 9 ∷ fault_in "very bacon = yes indeed" 5 ∷ fault_in "=value" 0
+    ∷ fault_in ".Key=VALUE" 0 ∷ [])
 
 -- values, and the places of faults in them
 abbrev pub HaveValues : Type 0
 HaveValues =
     -- nothing, or a comment
-    HasEntries V15 (file "K=\nL=  # c\nM=#x\n") (declares "K" [] ∷ declares "L" [] ∷ declares "M" [] ∷ [])
-    × HasEntries V15 (file "K=a#b\n") (declares "K" (text_piece "a" ∷ text_piece "#" ∷ text_piece "b" ∷ []) ∷ [])
+    HasEntries V15 (file "K=\nL=  # c\nM=#x\n")
+    (declares "K" [] ∷ declares "L" [] ∷ declares "M" [] ∷ [])
+    × HasEntries V15 (file "K=a#b\n")
+    (declares "K" (text_piece "a" ∷ text_piece "#" ∷ text_piece "b" ∷ []) ∷ [])
     -- escapes, outside quotes and in double quotes, and a dollar in single quotes
-    × HasEntries V15 (file "K=\\$\\ \"\\n\"'\\$A'\n") (declares "K" (text_piece "$" ∷ text_piece " " ∷ text_piece "\n" ∷ text_piece "\\$A" ∷ []) ∷ [])
+    × HasEntries V15 (file "K=\\$\\ \"\\n\"'\\$A'\n")
+    (declares "K" (text_piece "$" ∷ text_piece " " ∷ text_piece "\n" ∷ text_piece "\\$A" ∷ [])
+    ∷ [])
     -- the index of a fault counts characters
-    × HasEntries V15 (file "K=é\\f\nVALUE=>\\f<\nKEY=my uncool value\n") (fault_in "é\\f" 2 ∷ fault_in ">\\f<" 2 ∷ fault_in "my uncool value" 3 ∷ [])
+    × HasEntries V15 (file "K=é\\f\nVALUE=>\\f<\nKEY=my uncool value\n")
+    (fault_in "é\\f" 2 ∷ fault_in ">\\f<" 2 ∷ fault_in "my uncool value" 3 ∷ [])
     × HasEntries V15 (file "K=\"a\\\nb\"\n") (fault_in "\"a\\\nb\"" 3 ∷ [])
     -- where a value only lacks its end, it is the number of bytes less one
-    × HasEntries V15 (file "K='a\\'b'\nL=\"é$A\"\n") (fault_in "'a\\'b'" 5 ∷ fault_in "\"é$A\"" 5 ∷ [])
+    × HasEntries V15 (file "K='a\\'b'\nL=\"é$A\"\n")
+    (fault_in "'a\\'b'" 5 ∷ fault_in "\"é$A\"" 5 ∷ [])
     -- names of every form
     × HasEntries V15 (file "A=$\nB=${}x\nC=$$x\nD=a$-b\nE=$A b\nF=${A\n")
     (declares "A" (name_of "" ∷ [])
@@ -114,7 +137,8 @@ HaveDialects =
     × HasEntries V15 (file "K=$A\"\n") (fault_in "K=$A\"\n" 6 ∷ [])
     × HasEntries Next (file "K=$A\"\n") (fault_in "K=$A\"\n" 6 ∷ [])
     -- a bare name may hold `_`
-    × HasEntries V15 (file "K=$A_B-\n") (declares "K" (name_of "A" ∷ text_piece "_" ∷ text_piece "B" ∷ text_piece "-" ∷ []) ∷ [])
+    × HasEntries V15 (file "K=$A_B-\n")
+    (declares "K" (name_of "A" ∷ text_piece "_" ∷ text_piece "B" ∷ text_piece "-" ∷ []) ∷ [])
     × HasEntries Next (file "K=$A_B-\n") (declares "K" (name_of "A_B" ∷ text_piece "-" ∷ []) ∷ [])
 
 -- byte order marks
@@ -144,7 +168,8 @@ abbrev pub HaveDecisions : Type 0
 HaveDecisions =
     -- the lines up to the last line feed
     HasDecided V15 (file "A=1\nB=2") (declares "A" (text_piece "1" ∷ []) ∷ [])
-    × HasDecided V15 (file "A=1\nB=2\n") (declares "A" (text_piece "1" ∷ []) ∷ declares "B" (text_piece "2" ∷ []) ∷ [])
+    × HasDecided V15 (file "A=1\nB=2\n")
+    (declares "A" (text_piece "1" ∷ []) ∷ declares "B" (text_piece "2" ∷ []) ∷ [])
     × HasDecided V15 (file "A=1") []
     -- and no open end
     × HasDecided V15 (file "A=1\nB=\"x\ny\n") (declares "A" (text_piece "1" ∷ []) ∷ [])

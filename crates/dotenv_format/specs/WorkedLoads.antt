@@ -26,11 +26,16 @@ IsAbsent loaded name = loaded.env (codes name) ≡ None
 
 -- two values of one name, and a use of it
 abbrev pub two_values : List Entry
-two_values = declares "A" (text_piece "1" ∷ []) ∷ declares "A" (text_piece "2" ∷ []) ∷ declares "B" (name_of "A" ∷ []) ∷ []
+two_values =
+    declares "A" (text_piece "1" ∷ []) ∷ declares "A" (text_piece "2" ∷ [])
+    ∷ declares "B" (name_of "A" ∷ []) ∷ []
 
 -- a value with a NUL between two others
 abbrev pub with_nul : List Entry
-with_nul = declares "A" (text_piece "1" ∷ []) ∷ declares "B" (text_piece "x" ∷ text_piece "\0" ∷ text_piece "y" ∷ []) ∷ declares "C" (text_piece "3" ∷ []) ∷ []
+with_nul =
+    declares "A" (text_piece "1" ∷ [])
+    ∷ declares "B" (text_piece "x" ∷ text_piece "\0" ∷ text_piece "y" ∷ [])
+    ∷ declares "C" (text_piece "3" ∷ []) ∷ []
 
 -- which of two values counts
 abbrev pub HaveRepeats : Type 0
@@ -45,13 +50,17 @@ HaveRepeats =
     × HasValue (override_result no_values no_values two_values) "A" "2"
     × HasValue (override_result no_values no_values two_values) "B" "2"
     -- over A=0, iteration and `load` mean that value
-    × (items (with_only "A" "0") two_values ≡ pair_of "A" "1" ∷ pair_of "A" "2" ∷ pair_of "B" "0" ∷ [])
+    ×
+    (items (with_only "A" "0") two_values
+    ≡ pair_of "A" "1" ∷ pair_of "A" "2" ∷ pair_of "B" "0" ∷ [])
     × HasValue (load_result (with_only "A" "0") no_values two_values) "A" "0"
     × HasValue (load_result (with_only "A" "0") no_values two_values) "B" "0"
     × HasValue (override_result (with_only "A" "0") no_values two_values) "B" "2"
     -- what is remembered counts last
-    × HasValue (load_result no_values (with_only "A" "1") (declares "C" (name_of "A" ∷ []) ∷ [])) "C" "1"
-    × IsAbsent (load_result no_values (with_only "A" "1") (declares "C" (name_of "A" ∷ []) ∷ [])) "A"
+    × HasValue (load_result no_values (with_only "A" "1") (declares "C" (name_of "A" ∷ []) ∷ []))
+    "C" "1"
+    × IsAbsent (load_result no_values (with_only "A" "1") (declares "C" (name_of "A" ∷ []) ∷ []))
+    "A"
 
 -- where a NUL stops a load
 abbrev pub HaveNuls : Type 0

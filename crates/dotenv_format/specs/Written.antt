@@ -15,7 +15,9 @@ written_character c = if needs_backslash c then backslash ∷ c ∷ [] else c �
 
 -- KEY="text" and a line feed
 abbrev pub written_pair : List ℕ × List ℕ → List ℕ
-written_pair (key, text) = key ++ equals_sign ∷ double_quote ∷ (flat_map written_character text ++ double_quote ∷ line_feed ∷ [])
+written_pair (key, text) =
+    key ++ equals_sign ∷ double_quote
+    ∷ (flat_map written_character text ++ double_quote ∷ line_feed ∷ [])
 
 -- the written form of pairs in order
 abbrev pub written_text : List (List ℕ × List ℕ) → List ℕ

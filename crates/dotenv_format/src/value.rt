@@ -27,12 +27,14 @@ pub struct Given<'a> {
     pub quoting: Quoting,
 }
 
-/// What comes next in a value: a piece, or its end, or what is left where no value goes on. Nothing is left where the value only
-/// lacks its end.
+/// What comes next in a value.
 #[derive(Clone, Copy)]
 pub enum NextPiece<'a> {
     Piece(Given<'a>),
     End,
+    /// The text ends, and the value lacks its end: a quote or a brace is open.
+    Unfinished,
+    /// No value goes on with what is left.
     Fault(&'a str),
 }
 
@@ -107,7 +109,7 @@ fn at_end(text: &str, quoting: Quoting) -> NextPiece<'_>
 {
     match quoting {
         Quoting::Unquoted => NextPiece::End,
-        Quoting::DoubleQuoted => NextPiece::Fault(text),
+        Quoting::DoubleQuoted => NextPiece::Unfinished,
     }
 }
 
@@ -169,7 +171,7 @@ fn single_quoted(left: &str) -> NextPiece<'_>
             rest,
             quoting: Quoting::Unquoted,
         }),
-        None => NextPiece::Fault(""),
+        None => NextPiece::Unfinished,
     }
 }
 
@@ -184,7 +186,7 @@ fn braced(left: &str, quoting: Quoting) -> NextPiece<'_>
             rest,
             quoting,
         }),
-        None => NextPiece::Fault(""),
+        None => NextPiece::Unfinished,
     }
 }
 
@@ -203,7 +205,7 @@ fn after_name<'a>(name: &'a str, left: &'a str, quoting: Quoting, dialect: Diale
                 rest: left,
                 quoting,
             }),
-            Quoting::DoubleQuoted => NextPiece::Fault(left),
+            Quoting::DoubleQuoted => NextPiece::Unfinished,
         },
         Some((first, rest)) => {
             if is_left_by_name(dialect, quoting, first) {

@@ -10,7 +10,8 @@ AppendsGiven old (Ok n) given new = (n ≤ length given) × (new ≡ old ++ take
 AppendsGiven old (Err e) given new = new ≡ old
 
 -- one read of a source, with all the room behind the unread bytes
-pub record Fills (ahead : Option Ahead) (calls : Option (List Call)) (old : List ℕ) (r : Result ℕ IoError)
+pub record Fills (ahead : Option Ahead) (calls : Option (List Call)) (old : List ℕ)
+  (r : Result ℕ IoError)
     (ahead_after : Option Ahead) (calls_after : Option (List Call)) (new : List ℕ) : Type 0 where
   pub given : List ℕ
   pub room : length old + length given ≡ 8192

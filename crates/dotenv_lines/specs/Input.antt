@@ -73,10 +73,13 @@ end_reads at_end = if at_end then 1 else 0
 
 -- from s with a left to t with b left no more reads were made than bytes came, and one for the end
 abbrev pub ReadsFit : Ahead → InputState → Ahead → InputState → Type 0
-ReadsFit a s b t = s.reads + s.unread + length b.bytes + end_reads s.at_end ≤ t.reads + t.unread + length a.bytes + end_reads t.at_end
+ReadsFit a s b t =
+    s.reads + s.unread + length b.bytes + end_reads s.at_end
+    ≤ t.reads + t.unread + length a.bytes + end_reads t.at_end
 
 -- the bound on reads was met on the way from s to t after a front of the bytes, of which P holds: no read is left, and each gave a byte at least
-pub record BoundIsMet (a : Ahead) (s : InputState) (P : List ℕ → Type 0) (t : InputState) : Type 0 where
+pub record BoundIsMet (a : Ahead) (s : InputState) (P : List ℕ → Type 0) (t : InputState)
+    : Type 0 where
   pub front : List ℕ
   pub later : List ℕ
   pub cut : a.bytes ≡ front ++ later
@@ -86,10 +89,12 @@ pub record BoundIsMet (a : Ahead) (s : InputState) (P : List ℕ → Type 0) (t 
 
 -- a fault of reading, met after bytes of which P holds: the one that is told, after all of them; or the bound on reads
 abbrev pub IsReadFault : Ahead → InputState → (List ℕ → Type 0) → InputState → IoError → Type 0
-IsReadFault a s P t e = ((a.fault ≡ Some (error_kind e)) × P a.bytes) ⊎ ((error_kind e ≡ Other) × BoundIsMet a s P t)
+IsReadFault a s P t e =
+    ((a.fault ≡ Some (error_kind e)) × P a.bytes) ⊎ ((error_kind e ≡ Other) × BoundIsMet a s P t)
 
 -- a final fault: memory was refused, or a fault of reading
-abbrev pub IsFinal : {A : Type 0} → Ahead → InputState → (List ℕ → Type 0) → Error A → InputState → Type 0
+abbrev pub IsFinal : {A : Type 0} → Ahead → InputState → (List ℕ → Type 0) → Error A → InputState →
+    Type 0
 IsFinal a s P e t = IsMemory e ⊎ IsIoOf (IsReadFault a s P t) e
 
 -- the source answers this fault next
@@ -97,7 +102,8 @@ abbrev pub FaultIsNext : Ahead → IoError → Type 0
 FaultIsNext a e = (a.bytes ≡ []) × (a.fault ≡ Some (error_kind e))
 
 -- some of the bytes that are told were taken, and more than none but at the end
-pub record Takes (a : Ahead) (old : List ℕ) (at_end : Bool) (after : Option Ahead) (new : List ℕ) : Type 0 where
+pub record Takes (a : Ahead) (old : List ℕ) (at_end : Bool) (after : Option Ahead) (new : List ℕ) :
+    Type 0 where
   pub some : List ℕ
   pub later : List ℕ
   pub cut : a.bytes ≡ some ++ later
@@ -107,23 +113,28 @@ pub record Takes (a : Ahead) (old : List ℕ) (at_end : Bool) (after : Option Ah
   pub ends : at_end ≡ true → (later ≡ []) × (a.fault ≡ None)
 
 -- one read of a source that tells
-abbrev pub ReadsOnce : {A : Type 0} → Ahead → List ℕ → Result Bool (Error A) → Option Ahead → List ℕ → Type 0
+abbrev pub ReadsOnce : {A : Type 0} → Ahead → List ℕ → Result Bool (Error A) → Option Ahead →
+    List ℕ → Type 0
 ReadsOnce a old (Ok at_end) after new = Takes a old at_end after new
 ReadsOnce a old (Err e) after new = IsMemory e ⊎ IsIoOf (FaultIsNext a) e
 
 -- one read: something more was read, or the end
-abbrev pub ReadsMore : {A : Type 0} → Ahead → InputState → Result (Unit {0}) (Error A) → InputState → Type 0
+abbrev pub ReadsMore : {A : Type 0} → Ahead → InputState → Result (Unit {0}) (Error A) →
+    InputState → Type 0
 ReadsMore a s (Ok _) t = (t.left ≡ Some a) × ReadsFit a s a t
 ReadsMore a s (Err e) t = IsFinal a s (λ bytes. length bytes ≡ s.unread) e t
 
 -- of the unread bytes those up to the first line feed, and that one, or all where there is none
 pub record IsLinePiece (s : InputState) (piece : List ℕ) (whole : Bool) : Type 0 where
   pub within : length piece ≤ s.unread
-  pub is_line : MatchBool whole (is_whole_line piece ≡ true) ((no_line_feed piece ≡ true) × (length piece ≡ s.unread))
+  pub is_line :
+      MatchBool whole (is_whole_line piece ≡ true)
+        ((no_line_feed piece ≡ true) × (length piece ≡ s.unread))
   pub told : (a : Ahead) → s.left ≡ Some a → piece ≡ take (length piece) a.bytes
 
 -- something is left to use, and some of it was read; or nothing, and the end was read; or a fault came before a byte
-abbrev pub FindsMore : {A : Type 0} → Ahead → InputState → Result Bool (Error A) → InputState → Type 0
+abbrev pub FindsMore : {A : Type 0} → Ahead → InputState → Result Bool (Error A) → InputState →
+    Type 0
 FindsMore a s (Ok more) t =
     (t.left ≡ Some a) × ReadsFit a s a t
     × MatchBool more (0 < t.unread) ((a.bytes ≡ []) × (a.fault ≡ None) × (t.at_end ≡ true))
@@ -135,7 +146,8 @@ pub record MovesLine (a : Ahead) (s : InputState) (whole : Bool) (t : InputState
   pub left : List ℕ
   pub joins : a.bytes ≡ some ++ left
   pub is_left : t.left ≡ Some (record { bytes = left; fault = a.fault })
-  pub is_line : MatchBool whole (is_whole_line some ≡ true) ((no_line_feed some ≡ true) × (t.unread ≡ 0))
+  pub is_line :
+      MatchBool whole (is_whole_line some ≡ true) ((no_line_feed some ≡ true) × (t.unread ≡ 0))
   pub unread : t.unread + length some ≡ s.unread
   pub reads : t.reads ≡ s.reads
   pub at_end : t.at_end ≡ s.at_end
@@ -150,10 +162,13 @@ pub record Moves (a : Ahead) (s : InputState) (used left : List ℕ) (t : InputS
 pub record TakesLine (a : Ahead) (s : InputState) (line : List ℕ) (t : InputState) : Type 0 where
   pub left : List ℕ
   pub moves : Moves a s line left t
-  pub is_line : (is_whole_line line ≡ true) ⊎ ((no_line_feed line ≡ true) × (left ≡ []) × (a.fault ≡ None) × (t.at_end ≡ true))
+  pub is_line :
+      (is_whole_line line ≡ true)
+      ⊎ ((no_line_feed line ≡ true) × (left ≡ []) × (a.fault ≡ None) × (t.at_end ≡ true))
 
 -- a physical line was passed by, or a fault that is told came before a line feed
-abbrev pub SkipsLine : {A : Type 0} → Ahead → InputState → Result (Unit {0}) (Error A) → InputState → Type 0
+abbrev pub SkipsLine : {A : Type 0} → Ahead → InputState → Result (Unit {0}) (Error A) →
+    InputState → Type 0
 SkipsLine a s (Ok _) t = (line : List ℕ) × TakesLine a s line t
 SkipsLine a s (Err e) t = IsFinal a s (λ bytes. no_line_feed bytes ≡ true) e t
 
@@ -162,8 +177,11 @@ abbrev pub begins_mark : List ℕ → Bool
 begins_mark bytes = nat_lt (length bytes) 3 && starts_with nat_eq byte_order_mark bytes
 
 -- a byte order mark that stood next was dropped, and nothing else, or a fault that is told came before that was decided
-abbrev pub DropsMark : {A : Type 0} → Ahead → InputState → Result (Unit {0}) (Error A) → InputState → Type 0
-DropsMark a s (Ok _) t = (t.left ≡ Some (record { bytes = without_mark a.bytes; fault = a.fault })) × ReadsFit a s (record { bytes = without_mark a.bytes; fault = a.fault }) t
+abbrev pub DropsMark : {A : Type 0} → Ahead → InputState → Result (Unit {0}) (Error A) →
+    InputState → Type 0
+DropsMark a s (Ok _) t =
+    (t.left ≡ Some (record { bytes = without_mark a.bytes; fault = a.fault }))
+    × ReadsFit a s (record { bytes = without_mark a.bytes; fault = a.fault }) t
 DropsMark a s (Err e) t = IsFinal a s (λ bytes. begins_mark bytes ≡ true) e t
 
 -- the reads that were made on the way from s to t: each counts, also one that was interrupted; each
@@ -183,7 +201,8 @@ AsksReads goes_on s t =
     × (goes_on → t.at_end ≡ false → AllMayGoOn made)
 
 -- one read of the source, which answers whether it met the end
-abbrev pub AsksOnce : {A : Type 0} → Option (List Call) → Result Bool (Error A) → Option (List Call) → Type 0
+abbrev pub AsksOnce : {A : Type 0} → Option (List Call) → Result Bool (Error A) →
+    Option (List Call) → Type 0
 AsksOnce before answer after =
     (all : List Call) → after ≡ Some all →
     (calls : List Call) × (call : Call) × (before ≡ Some calls) × (all ≡ calls ++ call ∷ [])

@@ -39,7 +39,8 @@ TakesJoined a s OpenEnd text count t = TakesNext a s (Open (chars text) (length 
 TakesJoined a s BrokenLine text count t = TakesNext a s Broken count t
 
 -- and those are counted, from one number to the other
-abbrev pub JoinsNext : {A : Type 0} → Ahead → InputState → ℕ → Result Joined (Error A) → List ℕ → InputState → ℕ → Type 0
+abbrev pub JoinsNext : {A : Type 0} → Ahead → InputState → ℕ → Result Joined (Error A) → List ℕ →
+    InputState → ℕ → Type 0
 JoinsNext a s before (Ok joined) text t after =
     (count : ℕ) × TakesJoined a s joined text count t × Counts before count after
 JoinsNext a s before (Err e) text t after = IsFinal a s IsUndecided e t
@@ -68,12 +69,15 @@ abbrev pub stage_after : Joined → Bool → Bool → Stage
 stage_after joined used_up refused = if refused then Failed else stage_joined joined used_up
 
 -- what was joined, as an outcome
-abbrev pub IsOutcome : {A : Type 0} → Joined → List ℕ → Option (Result (Unit {0}) (Error A)) → Type 0
+abbrev pub IsOutcome : {A : Type 0} → Joined → List ℕ → Option (Result (Unit {0}) (Error A)) →
+    Type 0
 IsOutcome Nothing text r = r ≡ None
 IsOutcome Skipped text r = r ≡ Some (Ok tt)
 IsOutcome Whole text r = r ≡ Some (Ok tt)
-IsOutcome OpenEnd text r = IsSomeAnd r (λ q. IsErrAnd q (λ e. IsMemory e ⊎ IsLineParseOf (chars text) (length text) e))
-IsOutcome BrokenLine text r = IsSomeAnd r (λ q. IsErrAnd q (IsIoOf (λ e. error_kind e ≡ InvalidData)))
+IsOutcome OpenEnd text r =
+    IsSomeAnd r (λ q. IsErrAnd q (λ e. IsMemory e ⊎ IsLineParseOf (chars text) (length text) e))
+IsOutcome BrokenLine text r =
+    IsSomeAnd r (λ q. IsErrAnd q (IsIoOf (λ e. error_kind e ≡ InvalidData)))
 
 -- the outcome says that memory was refused
 abbrev pub is_refused : {A : Type 0} → Option (Result (Unit {0}) (Error A)) → Bool

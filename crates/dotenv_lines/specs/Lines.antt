@@ -74,10 +74,14 @@ IsAtEnd fault left t = (fault ≡ None) × (left ≡ []) × (t.at_end ≡ true)
 
 -- whatever follows the bytes, their first physical lines, so many, are this logical line
 abbrev pub IsNextAlways : List ℕ → ℕ → Logical → Type 0
-IsNextAlways bytes count next = (more : List ℕ) → (lines_so_far (bytes ++ more) ≢ []) × IsNext (lines_so_far (bytes ++ more)) count next × (drop count (lines_so_far (bytes ++ more)) ≡ lines_so_far more)
+IsNextAlways bytes count next =
+    (more : List ℕ) →
+    (lines_so_far (bytes ++ more) ≢ []) × IsNext (lines_so_far (bytes ++ more)) count next
+    × (drop count (lines_so_far (bytes ++ more)) ≡ lines_so_far more)
 
 -- from s with a left the next logical line was taken, which is so many physical lines; an open end is one at the end of input alone. What follows these is left, and unless the end was read they are that line whatever follows
-pub record TakesNext (a : Ahead) (s : InputState) (next : Logical) (count : ℕ) (t : InputState) : Type 0 where
+pub record TakesNext (a : Ahead) (s : InputState) (next : Logical) (count : ℕ) (t : InputState) :
+    Type 0 where
   pub some : whole_lines a ≢ []
   pub is_next : IsNext (whole_lines a) count next
   pub open_at_end : IsOpenEnd next → a.fault ≡ None
@@ -90,7 +94,9 @@ pub record TakesNext (a : Ahead) (s : InputState) (next : Logical) (count : ℕ)
 
 -- of bytes whose end was not reached no logical line is whole
 abbrev pub IsUndecided : List ℕ → Type 0
-IsUndecided bytes = (count : ℕ) (next : Logical) → lines_so_far bytes ≢ [] → IsNext (lines_so_far bytes) count next → IsOpenEnd next
+IsUndecided bytes =
+    (count : ℕ) (next : Logical) → lines_so_far bytes ≢ [] →
+    IsNext (lines_so_far bytes) count next → IsOpenEnd next
 
 -- a logical line as an answer: a text, empty for a line that is skipped
 abbrev pub TakesLineText : {A : Type 0} → Ahead → InputState → String A → ℕ → InputState → Type 0
@@ -107,21 +113,26 @@ TakesFault a s (EnvVar e) count t = ⊥
 TakesFault a s (Nul key) count t = ⊥
 TakesFault a s (Memory e) count t = ⊥
 
-abbrev pub TakesAnswer : {A : Type 0} → Ahead → InputState → Result (String A) (Error A) → ℕ → InputState → Type 0
+abbrev pub TakesAnswer : {A : Type 0} → Ahead → InputState → Result (String A) (Error A) → ℕ →
+    InputState → Type 0
 TakesAnswer a s (Ok text) count t = TakesLineText a s text count t
 TakesAnswer a s (Err e) count t = TakesFault a s e count t
 
 -- the iterator goes on, or has ended with nothing left
 abbrev pub GoesOn : LinesState → Type 0
-GoesOn t = (t.stage ≡ stage_open) ⊎ ((t.stage ≡ Ended) × (t.input.left ≡ Some (record { bytes = []; fault = None })))
+GoesOn t =
+    (t.stage ≡ stage_open)
+    ⊎ ((t.stage ≡ Ended) × (t.input.left ≡ Some (record { bytes = []; fault = None })))
 
 -- the iterator has failed by a fault that is final: in what is told, no logical line comes whole before it
-abbrev pub FailsFor : {T A : Type 0} → Ahead → InputState → Result T (Error A) → (List ℕ → Type 0) → LinesState → Type 0
+abbrev pub FailsFor : {T A : Type 0} → Ahead → InputState → Result T (Error A) → (List ℕ → Type 0) →
+    LinesState → Type 0
 FailsFor a s (Ok x) P t = ⊥
 FailsFor a s (Err e) P t = (t.stage ≡ Failed) × IsFinal a s P e t.input
 
 -- an answer of an open iterator with a left
-abbrev pub NextTextIs : {A : Type 0} → Ahead → LinesState → Option (Result (String A) (Error A)) → LinesState → Type 0
+abbrev pub NextTextIs : {A : Type 0} → Ahead → LinesState → Option (Result (String A) (Error A)) →
+    LinesState → Type 0
 NextTextIs a s None t = (a.bytes ≡ []) × (a.fault ≡ None) × (t.stage ≡ Ended)
 NextTextIs a s (Some r) t =
     ((count : ℕ) × TakesAnswer a s.input r count t.input × CountsLine s count t × GoesOn t)

@@ -34,7 +34,8 @@ certain_bytes s = s.reads + s.unread + end_reads s.at_end
 -- a reading of a, of which so many bytes can be read for certain, without a byte order mark at its
 -- front, stops at the bound on reads: after the entries that the bytes read so far decide, where
 -- each read gave a byte at least
-pub record StopsAtBound (dialect : Dialect) (a : Ahead) (certain : ℕ) (read : List Entry) : Type 0 where
+pub record StopsAtBound (dialect : Dialect) (a : Ahead) (certain : ℕ) (read : List Entry)
+    : Type 0 where
   pub bytes : List ℕ
   pub later : List ℕ
   pub cut : a.bytes ≡ bytes ++ later
@@ -45,4 +46,6 @@ pub record StopsAtBound (dialect : Dialect) (a : Ahead) (certain : ℕ) (read : 
 
 -- a reading of a from s on, where these are the entries without the byte order mark: all of them and the fault that is told; or it stops before
 abbrev pub IsReading : Dialect → Ahead → InputState → List Entry → List Entry → Type 0
-IsReading dialect a s entries read = (read ≡ entries ++ told_fault a.fault) ⊎ (StopsAtMemory entries read ⊎ StopsAtBound dialect a (certain_bytes s) read)
+IsReading dialect a s entries read =
+    (read ≡ entries ++ told_fault a.fault)
+    ⊎ (StopsAtMemory entries read ⊎ StopsAtBound dialect a (certain_bytes s) read)

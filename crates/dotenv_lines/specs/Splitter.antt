@@ -41,13 +41,15 @@ fresh_lines ahead calls reads = record {
 }
 
 -- an outcome and the text that it left: a line that is skipped leaves the empty one
-abbrev pub TakesOutcome : {A : Type 0} → Ahead → InputState → Result (Unit {0}) (Error A) → List ℕ → ℕ → InputState → Type 0
+abbrev pub TakesOutcome : {A : Type 0} → Ahead → InputState → Result (Unit {0}) (Error A) → List ℕ →
+    ℕ → InputState → Type 0
 TakesOutcome a s (Ok _) line count t =
     ((line ≡ []) × TakesNext a s Skip count t) ⊎ TakesNext a s (Text (chars line)) count t
 TakesOutcome a s (Err e) line count t = TakesFault a s e count t
 
 -- what an open splitter answers with a left, and the text that it leaves
-abbrev pub AdvanceIs : {A : Type 0} → Ahead → LinesState → Option (Result (Unit {0}) (Error A)) → List ℕ → LinesState → Type 0
+abbrev pub AdvanceIs : {A : Type 0} → Ahead → LinesState → Option (Result (Unit {0}) (Error A)) →
+    List ℕ → LinesState → Type 0
 AdvanceIs a s None line t = (a.bytes ≡ []) × (a.fault ≡ None) × (t.stage ≡ Ended)
 AdvanceIs a s (Some r) line t =
     ((count : ℕ) × TakesOutcome a s.input r line count t.input × CountsLine s count t × GoesOn t)

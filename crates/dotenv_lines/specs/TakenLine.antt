@@ -37,20 +37,24 @@ IsNoComment cs =
 
 -- cs, the front of a physical line, were walked from a mode, behind the text seen; this text is kept
 abbrev pub Walks : LineMode → List ℕ → Progress → List ℕ → List ℕ → Type 0
-Walks m seen (Blank n) cs text = (seen ≡ []) × (skip_leading_whitespace cs ≡ []) × (walk m seen cs ≡ going n) × (text ≡ cs)
-Walks m seen (Going n) cs text = (seen ≡ [] → IsNoComment cs) × (walk m seen cs ≡ going n) × (text ≡ seen ++ cs)
+Walks m seen (Blank n) cs text =
+    (seen ≡ []) × (skip_leading_whitespace cs ≡ []) × (walk m seen cs ≡ going n) × (text ≡ cs)
+Walks m seen (Going n) cs text =
+    (seen ≡ [] → IsNoComment cs) × (walk m seen cs ≡ going n) × (text ≡ seen ++ cs)
 Walks m seen Ended cs text = (seen ≡ [] → IsNoComment cs) × (walk m seen cs ≡ ended text)
 Walks m seen Comment cs text = (seen ≡ []) × (begins_with hash (skip_leading_whitespace cs) ≡ true)
 
 -- one more piece of a line whose front has no line feed
 abbrev pub WalksOn : Progress → List ℕ → List ℕ → List ℕ → Progress → Type 0
 WalksOn p old piece new q =
-    (m : LineMode) (seen cs : List ℕ) → no_line_feed cs ≡ true → Walks m seen p cs old → Walks m seen q (cs ++ piece) new
+    (m : LineMode) (seen cs : List ℕ) → no_line_feed cs ≡ true → Walks m seen p cs old →
+    Walks m seen q (cs ++ piece) new
 
 -- a piece was walked from a mode, and is kept behind the old text as far as it goes
 abbrev pub WalksFrom : LineMode → List ℕ → List ℕ → List ℕ → Progress → Type 0
 WalksFrom m old piece new (Blank n) = ⊥
-WalksFrom m old piece new (Going n) = ((seen : List ℕ) → walk m seen piece ≡ going n) × (new ≡ old ++ piece)
+WalksFrom m old piece new (Going n) =
+    ((seen : List ℕ) → walk m seen piece ≡ going n) × (new ≡ old ++ piece)
 WalksFrom m old piece new Ended = walk m old piece ≡ ended new
 WalksFrom m old piece new Comment = ⊥
 
@@ -78,10 +82,12 @@ Stands Broken piece left fault t =
     (no_line_feed piece ≡ true)
     × ((line later : List ℕ) → left ≡ line ++ later →
     (is_whole_line line ≡ true) ⊎ ((no_line_feed line ≡ true) × (later ≡ [])) → ¬ (IsUtf8 line))
-Stands Unread piece left fault t = (no_line_feed piece ≡ true) × (no_line_feed (take t.unread left) ≡ true)
+Stands Unread piece left fault t =
+    (no_line_feed piece ≡ true) × (no_line_feed (take t.unread left) ≡ true)
 
 -- a piece that is text was taken
-pub record TakesPiece (a : Ahead) (s : InputState) (piece : List ℕ) (after : After) (t : InputState) : Type 0 where
+pub record TakesPiece (a : Ahead) (s : InputState) (piece : List ℕ) (after : After) (t : InputState)
+    : Type 0 where
   pub left : List ℕ
   pub joins : a.bytes ≡ piece ++ left
   pub is_left : t.left ≡ Some (record { bytes = left; fault = a.fault })
@@ -99,7 +105,8 @@ PieceFalls s Broken t = (supply t ≤ supply s) × (0 < t.unread)
 PieceFalls s Unread t = (supply t ≤ supply s) × (t.unread < 4) × (t.at_end ≡ false)
 
 -- the first physical line of what was left was taken, and is text
-pub record TakesTextLine (a : Ahead) (s : InputState) (line : List ℕ) (t : InputState) : Type 0 where
+pub record TakesTextLine (a : Ahead) (s : InputState) (line : List ℕ) (t : InputState)
+    : Type 0 where
   pub some : line ≢ []
   pub text : IsUtf8 line
   pub takes : TakesLine a s line t
@@ -111,13 +118,18 @@ IsShown seen line = seen ≡ [] → begins_with hash (skip_leading_whitespace (c
 -- what the physical line that stands next makes of a logical line with the text seen, and the text then
 abbrev pub LineMakes : LineMode → List ℕ → Ahead → InputState → Taken → List ℕ → InputState → Type 0
 LineMakes m seen a s (taken_going n) now t =
-    (line : List ℕ) × TakesTextLine a s line t × IsShown seen line × (walk m seen (chars line) ≡ going n) × (now ≡ seen ++ chars line)
+    (line : List ℕ) × TakesTextLine a s line t × IsShown seen line
+    × (walk m seen (chars line) ≡ going n) × (now ≡ seen ++ chars line)
 LineMakes m seen a s taken_ended now t =
-    (line : List ℕ) × TakesTextLine a s line t × IsShown seen line × (walk m seen (chars line) ≡ ended now)
+    (line : List ℕ) × TakesTextLine a s line t × IsShown seen line
+    × (walk m seen (chars line) ≡ ended now)
 LineMakes m seen a s taken_comment now t =
-    (line : List ℕ) × TakesTextLine a s line t × (seen ≡ []) × (begins_with hash (skip_leading_whitespace (chars line)) ≡ true)
-LineMakes m seen a s taken_broken now t = (line : List ℕ) × (line ≢ []) × ¬ (IsUtf8 line) × TakesLine a s line t
+    (line : List ℕ) × TakesTextLine a s line t × (seen ≡ [])
+    × (begins_with hash (skip_leading_whitespace (chars line)) ≡ true)
+LineMakes m seen a s taken_broken now t =
+    (line : List ℕ) × (line ≢ []) × ¬ (IsUtf8 line) × TakesLine a s line t
 
-abbrev pub TakesLineOn : {A : Type 0} → LineMode → List ℕ → Ahead → InputState → Result Taken (Error A) → List ℕ → InputState → Type 0
+abbrev pub TakesLineOn : {A : Type 0} → LineMode → List ℕ → Ahead → InputState →
+    Result Taken (Error A) → List ℕ → InputState → Type 0
 TakesLineOn m seen a s (Ok made) now t = LineMakes m seen a s made now t
 TakesLineOn m seen a s (Err e) now t = IsFinal a s (λ bytes. no_line_feed bytes ≡ true) e t

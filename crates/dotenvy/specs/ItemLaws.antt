@@ -21,25 +21,33 @@ use Rattle.dotenvy.specs.ItemRuns.{Item, GivesItems, NoneRefused, IsReadable, Ca
 -- a fresh iterator gives the items of what its source tells, and the fault that is told, if one is, as the last
 abbrev pub ItemsInOrder : Type 0 → Type 0
 ItemsInOrder A =
-    (dialect : Dialect) (a : Ahead) (calls : Option (List Call)) (names : Texts) (entries : List Entry) (given : List (Item A)) →
+    (dialect : Dialect) (a : Ahead) (calls : Option (List Call)) (names : Texts)
+      (entries : List Entry) (given : List (Item A)) →
     IsReadable a → HasLeft dialect a.fault a.bytes entries →
-    GivesItems names (fresh (Some a) calls dialect) given → NoneRefused given → SayItems given (items (values_of names) (entries ++ told_fault a.fault))
+    GivesItems names (fresh (Some a) calls dialect) given → NoneRefused given →
+    SayItems given (items (values_of names) (entries ++ told_fault a.fault))
 
 -- an iterator that was used gives the items of what is left, where a name may also mean what is remembered
 abbrev pub ItemsGoOn : Type 0 → Type 0
 ItemsGoOn A =
-    (s : IterState) (a : Ahead) (names : Texts) (entries : List Entry) (given : List (Item A)) → CanRead s a → HasLeft s.dialect a.fault a.bytes entries →
-    GivesItems names s given → NoneRefused given → SayItems given (items_from (values_of names) (recalled_of s.remembered) (entries ++ told_fault a.fault))
+    (s : IterState) (a : Ahead) (names : Texts) (entries : List Entry) (given : List (Item A)) →
+    CanRead s a → HasLeft s.dialect a.fault a.bytes entries →
+    GivesItems names s given → NoneRefused given →
+    SayItems given
+      (items_from (values_of names) (recalled_of s.remembered) (entries ++ told_fault a.fault))
 
 -- two fresh iterators over what a source tells give the same items
 abbrev pub GiveTheSame : Type 0 → Type 0
 GiveTheSame A =
-    (dialect : Dialect) (a : Ahead) (calls other_calls : Option (List Call)) (names : Texts) (given others : List (Item A)) →
+    (dialect : Dialect) (a : Ahead) (calls other_calls : Option (List Call)) (names : Texts)
+      (given others : List (Item A)) →
     IsReadable a → GivesItems names (fresh (Some a) calls dialect) given → NoneRefused given →
-    GivesItems names (fresh (Some a) other_calls dialect) others → NoneRefused others → SayTheSame given others
+    GivesItems names (fresh (Some a) other_calls dialect) others → NoneRefused others →
+    SayTheSame given others
 
 -- a load by this rule of what a source tells, by a fresh iterator, which was not refused memory
-pub record LoadsFresh {A : Type 0} (rule : Rule) (dialect : Dialect) (a : Ahead) (old : Texts) (answer : Result (Unit {0}) (Error A)) (new : Texts) : Type 0 where
+pub record LoadsFresh {A : Type 0} (rule : Rule) (dialect : Dialect) (a : Ahead) (old : Texts)
+    (answer : Result (Unit {0}) (Error A)) (new : Texts) : Type 0 where
   pub calls : Option (List Call)
   pub loads : LoadsLeft rule (fresh (Some a) calls dialect) old answer new
   pub not_refused : ¬ (IsMemoryErr answer)
@@ -51,8 +59,11 @@ HaveSameValues names others = (name : List ℕ) → values_of others name ≡ va
 -- two such loads from one environment leave the same values and answer the same
 abbrev pub LoadTheSame : Rule → Type 0 → Type 0
 LoadTheSame rule A =
-    (dialect : Dialect) (a : Ahead) (old new other : Texts) (answer another : Result (Unit {0}) (Error A)) → IsReadable a →
-    LoadsFresh rule dialect a old answer new → LoadsFresh rule dialect a old another other → HaveSameValues new other × AnswerTheSame answer another
+    (dialect : Dialect) (a : Ahead) (old new other : Texts)
+      (answer another : Result (Unit {0}) (Error A)) →
+    IsReadable a →
+    LoadsFresh rule dialect a old answer new → LoadsFresh rule dialect a old another other →
+    HaveSameValues new other × AnswerTheSame answer another
 
 -- what a source tells decides items and loads
 abbrev pub CutsDoNotMatter : Type 0 → Type 0
@@ -61,8 +72,12 @@ CutsDoNotMatter A = GiveTheSame A × LoadTheSame load_result A × LoadTheSame ov
 -- a load that was not refused memory is the load of all the entries left, and of the fault that is told
 abbrev pub LoadsAllLeft : Rule → Type 0 → Type 0
 LoadsAllLeft rule A =
-    (s : IterState) (a : Ahead) (old new : Texts) (answer : Result (Unit {0}) (Error A)) (entries : List Entry) → CanRead s a → HasLeft s.dialect a.fault (without_mark a.bytes) entries →
-    LoadsLeft rule s old answer new → ¬ (IsMemoryErr answer) → Leaves (rule (values_of old) (recalled_of s.remembered) (entries ++ told_fault a.fault)) new answer
+    (s : IterState) (a : Ahead) (old new : Texts) (answer : Result (Unit {0}) (Error A))
+      (entries : List Entry) →
+    CanRead s a → HasLeft s.dialect a.fault (without_mark a.bytes) entries →
+    LoadsLeft rule s old answer new → ¬ (IsMemoryErr answer) →
+    Leaves (rule (values_of old) (recalled_of s.remembered) (entries ++ told_fault a.fault)) new
+      answer
 
 -- of both loads
 abbrev pub LoadsTakeAll : Type 0 → Type 0
@@ -71,11 +86,17 @@ LoadsTakeAll A = LoadsAllLeft load_result A × LoadsAllLeft override_result A
 -- to `load` what a source tells a second time leaves the values as they are, and answers the same
 abbrev pub LoadsAgain : Type 0 → Type 0
 LoadsAgain A =
-    (dialect : Dialect) (a : Ahead) (old new newer : Texts) (answer another : Result (Unit {0}) (Error A)) → IsReadable a →
-    LoadsFresh load_result dialect a old answer new → LoadsFresh load_result dialect a new another newer → HaveSameValues new newer × AnswerTheSame answer another
+    (dialect : Dialect) (a : Ahead) (old new newer : Texts)
+      (answer another : Result (Unit {0}) (Error A)) →
+    IsReadable a →
+    LoadsFresh load_result dialect a old answer new →
+    LoadsFresh load_result dialect a new another newer →
+    HaveSameValues new newer × AnswerTheSame answer another
 
 -- there are no more entries than physical lines, and each entry is one item
 abbrev pub OneEntryALine : Type 0
 OneEntryALine =
-    ((dialect : Dialect) (fault : Option ErrorKind) (bytes : List ℕ) (entries : List Entry) → HasLeft dialect fault bytes entries → length entries ≤ length (physical_lines bytes))
-    × ((env remembered : LookUp) (entries : List Entry) → length (items_from env remembered entries) ≡ length entries)
+    ((dialect : Dialect) (fault : Option ErrorKind) (bytes : List ℕ) (entries : List Entry) →
+     HasLeft dialect fault bytes entries → length entries ≤ length (physical_lines bytes))
+    × ((env remembered : LookUp) (entries : List Entry) →
+       length (items_from env remembered entries) ≡ length entries)

@@ -20,7 +20,8 @@ Item A = Result (String A × String A) (Error A)
 -- calls from s on, under this environment, give these items one after another, and then `None`
 abbrev pub GivesItems : {A : Type 0} → Texts → IterState → List (Item A) → Type 0
 GivesItems {A = A} names s [] = (t : IterState) × NextItem {A = A} names s None t
-GivesItems names s (item ∷ items) = (t : IterState) × NextItem names s (Some item) t × GivesItems names t items
+GivesItems names s (item ∷ items) =
+    (t : IterState) × NextItem names s (Some item) t × GivesItems names t items
 
 -- no call was refused memory
 abbrev pub NoneRefused : {A : Type 0} → List (Item A) → Type 0
@@ -36,17 +37,20 @@ pub record IsReadable (a : Ahead) : Type 0 where
 pub record CanRead (s : IterState) (a : Ahead) : Type 0 where
   pub is_open : IsOpen s
   pub is_told : TellsLeft s a
-  pub few : length a.bytes < s.lines.input.reads + s.lines.input.unread + end_reads s.lines.input.at_end
+  pub few :
+      length a.bytes < s.lines.input.reads + s.lines.input.unread + end_reads s.lines.input.at_end
 
 -- what was given says this item, by its characters
 abbrev pub SaysItem : {A : Type 0} → Item A → Result (List ℕ × List ℕ) Failure → Type 0
-SaysItem (Ok pair) (Ok (key, value)) = (chars (string_bytes pair.0) ≡ key) × (chars (string_bytes pair.1) ≡ value)
+SaysItem (Ok pair) (Ok (key, value)) =
+    (chars (string_bytes pair.0) ≡ key) × (chars (string_bytes pair.1) ≡ value)
 SaysItem (Ok pair) (Err failure) = ⊥
 SaysItem (Err e) (Ok pair) = ⊥
 SaysItem (Err e) (Err failure) = IsFailure failure e
 
 -- what was given says these items: all, and in order
-abbrev pub SayItems : {A : Type 0} → List (Item A) → List (Result (List ℕ × List ℕ) Failure) → Type 0
+abbrev pub SayItems : {A : Type 0} → List (Item A) → List (Result (List ℕ × List ℕ) Failure) →
+    Type 0
 SayItems [] [] = Unit {0}
 SayItems [] (item ∷ items) = ⊥
 SayItems (given ∷ others) [] = ⊥
@@ -54,8 +58,11 @@ SayItems (given ∷ others) (item ∷ items) = SaysItem given item × SayItems o
 
 -- both say the same items
 abbrev pub SayTheSame : {A : Type 0} → List (Item A) → List (Item A) → Type 0
-SayTheSame given others = (items : List (Result (List ℕ × List ℕ) Failure)) × SayItems given items × SayItems others items
+SayTheSame given others =
+    (items : List (Result (List ℕ × List ℕ) Failure)) × SayItems given items × SayItems others items
 
 -- both answers say the same
-abbrev pub AnswerTheSame : {A : Type 0} → Result (Unit {0}) (Error A) → Result (Unit {0}) (Error A) → Type 0
-AnswerTheSame answer other = (said : Result (Unit {0}) Failure) × IsAnswer said answer × IsAnswer said other
+abbrev pub AnswerTheSame : {A : Type 0} → Result (Unit {0}) (Error A) →
+    Result (Unit {0}) (Error A) → Type 0
+AnswerTheSame answer other =
+    (said : Result (Unit {0}) Failure) × IsAnswer said answer × IsAnswer said other

@@ -58,7 +58,8 @@ abbrev pub AsksBetween : IterState → IterState → Type 0
 AsksBetween s t = AsksReads (IsOpen t) s.lines.input t.lines.input
 
 -- where it is open, a byte order mark that its source tells next is dropped
-abbrev pub DropsNextMark : {A : Type 0} → IterState → Result (Unit {0}) (Error A) → IterState → Type 0
+abbrev pub DropsNextMark : {A : Type 0} → IterState → Result (Unit {0}) (Error A) → IterState →
+    Type 0
 DropsNextMark s answer t = WhereOpen s.lines (λ a. DropsMark a s.lines.input answer t.lines.input)
 
 -- more than the items that can still come

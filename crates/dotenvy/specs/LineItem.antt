@@ -26,14 +26,18 @@ lines_after (Nul key) s = s
 lines_after (Memory e) s = record s { stage = Failed }
 
 -- no entry adds no item, and one entry its own; what is remembered then
-abbrev pub AddsEntries : {A : Type 0} → Texts → Remembered → List Entry → Option (Result (String A × String A) (Error A)) → Remembered → Type 0
+abbrev pub AddsEntries : {A : Type 0} → Texts → Remembered → List Entry →
+    Option (Result (String A × String A) (Error A)) → Remembered → Type 0
 AddsEntries names old [] None new = new ≡ old
 AddsEntries names old [] (Some item) new = ⊥
 AddsEntries names old (entry ∷ later) None new = ⊥
-AddsEntries names old (entry ∷ later) (Some item) new = (later ≡ []) × IsItem (names_of names old) entry item × RemembersEntry (names_of names old) (recalled_of old) (recalled_of new) entry
+AddsEntries names old (entry ∷ later) (Some item) new =
+    (later ≡ []) × IsItem (names_of names old) entry item
+    × RemembersEntry (names_of names old) (recalled_of old) (recalled_of new) entry
 
 -- memory was refused, and the logical lines have failed
-abbrev pub IsRefused : {A : Type 0} → Option (Result (String A × String A) (Error A)) → LinesState → Type 0
+abbrev pub IsRefused : {A : Type 0} → Option (Result (String A × String A) (Error A)) → LinesState →
+    Type 0
 IsRefused None t = ⊥
 IsRefused (Some item) t = IsMemoryErr item × (t.stage ≡ Failed)
 
@@ -56,8 +60,12 @@ item_lines_then None lines before = before
 item_lines_then (Some item) lines before = last_lines lines
 
 -- a text adds what it says, unless memory is refused; a fault adds itself
-abbrev pub AddsLine : {A : Type 0} → Texts → IterState → Result (Unit {0}) (Error A) → List ℕ → Option (Result (String A × String A) (Error A)) → IterState → Type 0
+abbrev pub AddsLine : {A : Type 0} → Texts → IterState → Result (Unit {0}) (Error A) → List ℕ →
+    Option (Result (String A × String A) (Error A)) → IterState → Type 0
 AddsLine names s (Ok _) text item t =
     IsRefused item t.lines
-    ⊎ ((outcome : Outcome) × Says s.dialect (chars text) outcome × AddsEntries names s.remembered (outcome_entries outcome) item t.remembered × (t.lines ≡ s.lines))
-AddsLine names s (Err e) text item t = (item ≡ Some (Err e)) × (t.remembered ≡ s.remembered) × (t.lines ≡ lines_after e s.lines)
+    ⊎ ((outcome : Outcome) × Says s.dialect (chars text) outcome
+       × AddsEntries names s.remembered (outcome_entries outcome) item t.remembered
+       × (t.lines ≡ s.lines))
+AddsLine names s (Err e) text item t =
+    (item ≡ Some (Err e)) × (t.remembered ≡ s.remembered) × (t.lines ≡ lines_after e s.lines)

@@ -24,4 +24,5 @@ abbrev pub LoadsLine : {A : Type 0} → Mode → Dialect → Remembered → List
 LoadsLine mode dialect remembered line old answer new =
     (IsMemoryErr answer × (new ≡ old))
     ⊎ ((outcome : Outcome) × Says dialect line outcome
-    × Leaves (run mode (values_of old) (recalled_of remembered) (outcome_entries outcome)) new answer)
+    × Leaves (run mode (values_of old) (recalled_of remembered) (outcome_entries outcome)) new
+        answer)

@@ -15,14 +15,16 @@ use Rattle.dotenvy.specs.NextItem.{IsFailure}
 use Rattle.dotenvy.specs.Iter.{IterState, TellsLeft}
 
 -- the answer says the same
-abbrev pub IsAnswer : {A : Type 0} → Result (Unit {0}) Failure → Result (Unit {0}) (Error A) → Type 0
+abbrev pub IsAnswer : {A : Type 0} → Result (Unit {0}) Failure → Result (Unit {0}) (Error A) →
+    Type 0
 IsAnswer (Ok done) (Ok r) = Unit {0}
 IsAnswer (Ok done) (Err e) = ⊥
 IsAnswer (Err failure) (Ok r) = ⊥
 IsAnswer (Err failure) (Err e) = IsFailure failure e
 
 -- the environment has the values that the load leaves, and the answer is its answer
-pub record Leaves {A : Type 0} (loaded : Loaded) (new : Texts) (answer : Result (Unit {0}) (Error A)) : Type 0 where
+pub record Leaves {A : Type 0} (loaded : Loaded) (new : Texts)
+    (answer : Result (Unit {0}) (Error A)) : Type 0 where
   pub values : (name : List ℕ) → values_of new name ≡ loaded.env name
   pub is_answer : IsAnswer loaded.answer answer
 
@@ -31,7 +33,8 @@ abbrev pub Rule : Type 0
 Rule = LookUp → LookUp → List Entry → Loaded
 
 -- a load by this rule of what s has left, without a byte order mark at its front
-abbrev pub LoadsLeft : {A : Type 0} → Rule → IterState → Texts → Result (Unit {0}) (Error A) → Texts → Type 0
+abbrev pub LoadsLeft : {A : Type 0} → Rule → IterState → Texts → Result (Unit {0}) (Error A) →
+    Texts → Type 0
 LoadsLeft rule s old answer new =
     (a : Ahead) → TellsLeft s a → (entries : List Entry) →
     HasLeft s.dialect a.fault (without_mark a.bytes) entries →

@@ -39,7 +39,9 @@ saturated n = min n (2 ^ 64 - 1)
 
 -- the text is a value, and means so many bytes, or more than a `usize` counts
 abbrev pub MeansBytes : (dialect : Dialect) → LookUp → List ℕ → ℕ → Type 0
-MeansBytes dialect look_up value len = MatchOption (read_value dialect value (base unquoted)) ⊥ (λ pieces. len ≡ saturated (byte_len (meaning look_up pieces)))
+MeansBytes dialect look_up value len =
+    MatchOption (read_value dialect value (base unquoted)) ⊥
+      (λ pieces. len ≡ saturated (byte_len (meaning look_up pieces)))
 
 -- the byte length of what the value means; or what is left where no value goes on
 abbrev pub Measures : (dialect : Dialect) → LookUp → List ℕ → Result ℕ (Bor (List ℕ)) → Type 0
@@ -48,8 +50,12 @@ Measures dialect look_up value (Err left) = StopsAt dialect (base unquoted) valu
 
 -- the text is a value, and what it means fits after so many bytes
 abbrev pub HasRoom : (dialect : Dialect) → LookUp → List ℕ → ℕ → ℕ → Type 0
-HasRoom dialect look_up value len capacity = MatchOption (read_value dialect value (base unquoted)) ⊥ (λ pieces. len + byte_len (meaning look_up pieces) ≤ capacity)
+HasRoom dialect look_up value len capacity =
+    MatchOption (read_value dialect value (base unquoted)) ⊥
+      (λ pieces. len + byte_len (meaning look_up pieces) ≤ capacity)
 
 -- what the value means was appended
 abbrev pub Appends : (dialect : Dialect) → LookUp → List ℕ → List ℕ → List ℕ → Type 0
-Appends dialect look_up value old new = MatchOption (read_value dialect value (base unquoted)) ⊥ (λ pieces. new ≡ old ++ encode_utf8_all (meaning look_up pieces))
+Appends dialect look_up value old new =
+    MatchOption (read_value dialect value (base unquoted)) ⊥
+      (λ pieces. new ≡ old ++ encode_utf8_all (meaning look_up pieces))

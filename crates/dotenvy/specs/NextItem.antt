@@ -30,19 +30,24 @@ IsFailure Memory e = IsMemory e
 
 -- the item is what the entry says, where names stand for these texts
 abbrev pub IsItem : {A : Type 0} → LookUp → Entry → Result (String A × String A) (Error A) → Type 0
-IsItem look_up (Declares key pieces) (Ok pair) = (chars (string_bytes pair.0) ≡ key) × (chars (string_bytes pair.1) ≡ meaning look_up pieces)
+IsItem look_up (Declares key pieces) (Ok pair) =
+    (chars (string_bytes pair.0) ≡ key) × (chars (string_bytes pair.1) ≡ meaning look_up pieces)
 IsItem look_up (Declares key pieces) (Err e) = ⊥
 IsItem look_up (Fails failure) (Ok pair) = ⊥
 IsItem look_up (Fails failure) (Err e) = IsFailure failure e
 
 -- after a declaration its key stands for the value that it was given, and the other names for what they did; after a fault all do
 abbrev pub RemembersEntry : LookUp → LookUp → LookUp → Entry → Type 0
-RemembersEntry look_up old new (Declares key pieces) = (name : List ℕ) → text_of new name ≡ text_of (with_value old key (meaning look_up pieces)) name
-RemembersEntry look_up old new (Fails failure) = (name : List ℕ) → text_of new name ≡ text_of old name
+RemembersEntry look_up old new (Declares key pieces) =
+    (name : List ℕ) → text_of new name ≡ text_of (with_value old key (meaning look_up pieces)) name
+RemembersEntry look_up old new (Fails failure) =
+    (name : List ℕ) → text_of new name ≡ text_of old name
 
 -- whatever follows the bytes, these are the first entries that are decided
 abbrev pub DecideFirst : Dialect → List ℕ → List Entry → Type 0
-DecideFirst dialect bytes entries = (more : List ℕ) (decided : List Entry) → HasDecided dialect more decided → HasDecided dialect (bytes ++ more) (entries ++ decided)
+DecideFirst dialect bytes entries =
+    (more : List ℕ) (decided : List Entry) → HasDecided dialect more decided →
+    HasDecided dialect (bytes ++ more) (entries ++ decided)
 
 -- of what is told these logical lines were used, and no more; this is left
 pub record UsesLines (a : Ahead) (lines : List Logical) (left : List ℕ) : Type 0 where
@@ -69,7 +74,8 @@ StandsOn s before used t =
     × Counts s.lines.lines_taken used t.lines.lines_taken
 
 -- of these entries, which are those of what s has left, the first was taken, and t has the later ones left; unless the end was read, the bytes that were used decide it whatever follows
-pub record TakesEntry (names : Texts) (a : Ahead) (s : IterState) (entries : List Entry) (entry : Entry) (t : IterState) : Type 0 where
+pub record TakesEntry (names : Texts) (a : Ahead) (s : IterState) (entries : List Entry)
+    (entry : Entry) (t : IterState) : Type 0 where
   pub later : List Entry
   pub first : entries ≡ entry ∷ later
   pub used : List ℕ
@@ -80,20 +86,25 @@ pub record TakesEntry (names : Texts) (a : Ahead) (s : IterState) (entries : Lis
   pub stays : IsAtEnd a.fault left t.lines.input ⊎ DecideFirst s.dialect used (entry ∷ [])
   pub has_left : HasLeft s.dialect a.fault left later
   pub goes_on : GoesOn t.lines
-  pub remembers : RemembersEntry (names_of names s.remembered) (recalled_of s.remembered) (recalled_of t.remembered) entry
+  pub remembers :
+      RemembersEntry (names_of names s.remembered) (recalled_of s.remembered)
+        (recalled_of t.remembered) entry
   pub dialect : t.dialect ≡ s.dialect
 
 -- the item under this environment: the first of the entries left; none where there is none and no fault; or a fault of reading, which stands on no line, where the bytes before it decide no entry
-abbrev pub ItemIs : {A : Type 0} → Texts → Ahead → IterState → List Entry → Option (Result (String A × String A) (Error A)) → IterState → Type 0
+abbrev pub ItemIs : {A : Type 0} → Texts → Ahead → IterState → List Entry →
+    Option (Result (String A × String A) (Error A)) → IterState → Type 0
 ItemIs names a s entries None t =
     (entries ≡ []) × (a.fault ≡ None) × (t.lines.stage ≡ Ended) × (t.item_lines ≡ s.item_lines)
 ItemIs names a s entries (Some item) t =
-    ((entry : Entry) × IsItem (names_of names s.remembered) entry item × TakesEntry names a s entries entry t)
+    ((entry : Entry) × IsItem (names_of names s.remembered) entry item
+     × TakesEntry names a s entries entry t)
     ⊎ (FailsFor a s.lines.input item (λ bytes. HasDecided s.dialect bytes []) t.lines
     × (t.item_lines ≡ no_line))
 
 -- the same of every iterator: one that has ended or failed gives none, and stays as it is
-abbrev pub NextItem : {A : Type 0} → Texts → IterState → Option (Result (String A × String A) (Error A)) → IterState → Type 0
+abbrev pub NextItem : {A : Type 0} → Texts → IterState →
+    Option (Result (String A × String A) (Error A)) → IterState → Type 0
 NextItem names s item t =
     (IsOpen s → (a : Ahead) → TellsLeft s a → (entries : List Entry) →
     HasLeft s.dialect a.fault a.bytes entries → ItemIs names a s entries item t)

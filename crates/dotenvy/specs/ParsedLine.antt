@@ -12,20 +12,27 @@ use Rattle.dotenv_format.specs.Items.{LookUp, meaning}
 use Rattle.dotenvy.specs.Remembered.{Remembered}
 
 -- the answer is what the line says, where names stand for these texts
-abbrev pub IsLineAnswer : {A : Type 0} → LookUp → Outcome → Result (Option (String A × String A)) (Error A) → Type 0
+abbrev pub IsLineAnswer : {A : Type 0} → LookUp → Outcome →
+    Result (Option (String A × String A)) (Error A) → Type 0
 IsLineAnswer look_up Nothing (Ok None) = Unit {0}
 IsLineAnswer look_up Nothing (Ok (Some pair)) = ⊥
 IsLineAnswer look_up Nothing (Err e) = ⊥
 IsLineAnswer look_up (Pair key pieces) (Ok None) = ⊥
-IsLineAnswer look_up (Pair key pieces) (Ok (Some pair)) = (chars (string_bytes pair.0) ≡ key) × (chars (string_bytes pair.1) ≡ meaning look_up pieces)
+IsLineAnswer look_up (Pair key pieces) (Ok (Some pair)) =
+    (chars (string_bytes pair.0) ≡ key) × (chars (string_bytes pair.1) ≡ meaning look_up pieces)
 IsLineAnswer look_up (Pair key pieces) (Err e) = ⊥
 IsLineAnswer look_up (Fault text index) (Ok pair) = ⊥
 IsLineAnswer look_up (Fault text index) (Err e) = IsLineParseOf text index e
 
 -- a pair is remembered, with no value where nothing or a comment is assigned; else all stays
-abbrev pub Remembers : {A : Type 0} → List ℕ → Remembered → Remembered → Result (Option (String A × String A)) (Error A) → Type 0
+abbrev pub Remembers : {A : Type 0} → List ℕ → Remembered → Remembered →
+    Result (Option (String A × String A)) (Error A) → Type 0
 Remembers line old new (Ok None) = new ≡ old
-Remembers line old new (Ok (Some pair)) = (rest : List ℕ) × IsStatement (trimmed line) (chars (string_bytes pair.0)) rest × (new ≡ fin.insert old (string_bytes pair.0) (if is_empty_or_comment rest then None else Some (string_bytes pair.1)))
+Remembers line old new (Ok (Some pair)) =
+    (rest : List ℕ) × IsStatement (trimmed line) (chars (string_bytes pair.0)) rest
+    × (new
+       ≡ fin.insert old (string_bytes pair.0)
+           (if is_empty_or_comment rest then None else Some (string_bytes pair.1)))
 Remembers line old new (Err e) = new ≡ old
 
 -- the key of a pair is one

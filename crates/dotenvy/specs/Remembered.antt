@@ -12,7 +12,8 @@ Remembered = fin.FinMap (slice_cmp nat_cmp) (Option (List ℕ))
 
 -- the entries of the map that the code keeps
 abbrev pub remembered_of : {A : Type 0} → List (String A × Option (String A)) → Remembered
-remembered_of entries = fin.from_entries (map (λ p. (string_bytes p.0, option_map string_bytes p.1)) entries)
+remembered_of entries =
+    fin.from_entries (map (λ p. (string_bytes p.0, option_map string_bytes p.1)) entries)
 
 -- the remembered text of a name
 abbrev pub recalled : Remembered → List ℕ → Option (List ℕ)

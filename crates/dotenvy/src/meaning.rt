@@ -64,6 +64,7 @@ impl<'a, A: Allocator> Names<'a, A> {
                     quoting = given.quoting;
                 }
                 NextPiece::End => return Ok(len),
+                NextPiece::Unfinished => return Err(""),
                 NextPiece::Fault(left) => return Err(left),
             }
         }

@@ -27,7 +27,8 @@ SaysUsage usage (refusal.UnknownOption text) = usage ≡ UnknownOption (string_b
 SaysUsage usage (refusal.Memory error) = Unit {0}
 
 -- what is answered says this of the words; refused memory says nothing of them
-abbrev pub SaysAnswer : {A : Type 0} → Result CommandLine Usage → Result (Line A) (Refusal A) → Type 0
+abbrev pub SaysAnswer : {A : Type 0} → Result CommandLine Usage → Result (Line A) (Refusal A) →
+    Type 0
 SaysAnswer answer (Ok line) = answer ≡ Ok (line_of line)
 SaysAnswer (Ok line) (Err (refusal.Memory error)) = Unit {0}
 SaysAnswer (Ok line) (Err usage) = ⊥
@@ -35,4 +36,5 @@ SaysAnswer (Err usage) (Err found) = SaysUsage usage found
 
 -- what is answered is the answer to these words, unless memory was refused
 abbrev pub AnswersWords : {A : Type 0} → List (List ℕ) → Result (Line A) (Refusal A) → Type 0
-AnswersWords words result = (answer : Result CommandLine Usage) × HasUsage words answer × SaysAnswer answer result
+AnswersWords words result =
+    (answer : Result CommandLine Usage) × HasUsage words answer × SaysAnswer answer result

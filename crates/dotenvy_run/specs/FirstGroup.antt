@@ -21,7 +21,9 @@ IsGroupOf group found.Next = group ≡ next
 
 -- the word is a group of its own, which means what was found
 abbrev pub IsAlone : List ℕ → Found → Type 0
-IsAlone text group = (spelled : Group) × IsGroup spelled × (group_words spelled ≡ text ∷ []) × IsGroupOf spelled group
+IsAlone text group =
+    (spelled : Group) × IsGroup spelled × (group_words spelled ≡ text ∷ [])
+    × IsGroupOf spelled group
 
 -- the word is an option that the program lacks
 abbrev pub IsUnknown : List ℕ → Type 0
@@ -46,13 +48,16 @@ AreCommand [] = Unit {0}
 AreCommand (text ∷ words) = IsTrue (not (is_option text))
 
 -- the words begin with this group, and these are the words after it; or no group comes first; or they are refused
-abbrev pub GroupBeginsWith : {A : Type 0} → List (List ℕ) → Result (Option (Found × Bor (List (String A)))) (Usage A) →
+abbrev pub GroupBeginsWith : {A : Type 0} → List (List ℕ) →
+    Result (Option (Found × Bor (List (String A)))) (Usage A) →
     Type 0
 GroupBeginsWith words (Ok (Some (group, after))) =
-    (spelled : Group) × IsGroup spelled × (words ≡ group_words spelled ++ texts after.now) × IsGroupOf spelled group
+    (spelled : Group) × IsGroup spelled × (words ≡ group_words spelled ++ texts after.now)
+    × IsGroupOf spelled group
 GroupBeginsWith words (Ok None) = AreCommand words
 GroupBeginsWith words (Err MissingCommand) = ⊥
 GroupBeginsWith words (Err MissingFile) = (form : Form) × (words ≡ file_word form ∷ [])
-GroupBeginsWith words (Err (UnknownOption text)) = (others : List (List ℕ)) × (words ≡ string_bytes text ∷ others)
+GroupBeginsWith words (Err (UnknownOption text)) =
+    (others : List (List ℕ)) × (words ≡ string_bytes text ∷ others)
     × IsUnknown (string_bytes text)
 GroupBeginsWith words (Err (Memory error)) = Unit {0}

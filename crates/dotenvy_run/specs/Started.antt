@@ -7,7 +7,8 @@ use Rattle.dotenv_base.specs.Environment.{Texts}
 
 -- the command sets each of these names to its value, and no other
 abbrev pub SetsNames : {A : Type 0} → Texts → Command A → Type 0
-SetsNames names command = (name : List ℕ) → command_var command name ≡ option_map Some (fin.get names name)
+SetsNames names command =
+    (name : List ℕ) → command_var command name ≡ option_map Some (fin.get names name)
 
 -- the status is that of the command, or 1 where it has none
 abbrev pub EndsWith : Option ℤ → ℕ → Type 0

@@ -56,5 +56,6 @@ LayersInOrder A =
 -- a layer is accepted exactly where its rule answers Ok
 abbrev pub AcceptedExactly : Type 0 → Type 0
 AcceptedExactly A =
-    (old new : Texts) (layer : Layer) (entries : List Entry) → Adds A old layer new → HasLayerEntries layer entries →
+    (old new : Texts) (layer : Layer) (entries : List Entry) → Adds A old layer new →
+    HasLayerEntries layer entries →
     layer.accepted ≡ is_ok ((layer_result layer (values_of old) entries).answer)

@@ -37,5 +37,6 @@ AnswersRequire (name ∷ absent) answer = IsErrAnd answer (TellsNames (name ∷ 
 
 -- what is printed
 abbrev pub missing_text : {A : Type 0} → Missing A → List ℕ
-missing_text (Names names) = codes "environment variables not found: " ++ join_by string_bytes (codes ", ") names.items
+missing_text (Names names) =
+    codes "environment variables not found: " ++ join_by string_bytes (codes ", ") names.items
 missing_text (Memory error) = codes "out of memory"

@@ -1,11 +1,8 @@
-use Rattle.std.proofs.Common.{lit<, subst, sym, [], refl}
+use Rattle.std.proofs.Common.{lit<, refl}
 use Rattle.std.specs.Prelude.{◌==◌}
 use Rattle.std.specs.Str.{chars}
-use Rattle.std.proofs.lemmas.Str.{chars-nil}
 use Rattle.dotenv_format.specs.Characters.{right_brace}
-use Rattle.dotenv_format.specs.ReadValue.{bracing}
 use Rattle.dotenv_format.specs.Slices.{quoting_of}
-use Rattle.dotenv_format.specs.NextPiece.{StopsAt}
 use Rattle.dotenv_format.proofs.Slices.{cut_once, characters_fail}
 use Rattle.dotenv_format.proofs.NextPiece.{gives_braced, braced_open}
 use Rattle.dotenv_format.proofs.value.braced.Goals as goal
@@ -21,6 +18,5 @@ returns-in-Some c =
 pub returns-in-None : goal.returns-in-None
 returns-in-None c =
     λ dialect.
-    subst (λ t. StopsAt dialect (bracing (quoting_of c.args.quoting) []) (chars c.args.left.now) t)
-    (sym chars-nil) (braced_open dialect (quoting_of c.args.quoting) (chars c.args.left.now)
-    (characters_fail (λ d. d == right_brace) c.args.left.now c.utf8.left c.in-None.ensures.cases))
+    braced_open dialect (quoting_of c.args.quoting) (chars c.args.left.now)
+    (characters_fail (λ d. d == right_brace) c.args.left.now c.utf8.left c.in-None.ensures.cases)

@@ -1,8 +1,5 @@
-use Rattle.std.proofs.Common.{lit<, subst, sym, []}
+use Rattle.std.proofs.Common.{lit<}
 use Rattle.std.specs.Prelude.{◌==◌}
-use Rattle.std.proofs.lemmas.Str.{chars-nil}
-use Rattle.dotenv_format.specs.ReadValue.{in_single}
-use Rattle.dotenv_format.specs.NextPiece.{StopsAt}
 use Rattle.std.specs.Str.{chars}
 use Rattle.dotenv_format.specs.Characters.{single_quote}
 use Rattle.dotenv_format.proofs.Slices.{cut_once, characters_fail}
@@ -19,6 +16,5 @@ returns-in-Some c =
 pub returns-in-None : goal.returns-in-None
 returns-in-None c =
     λ dialect.
-    subst (λ t. StopsAt dialect (in_single []) (chars c.args.left.now) t) (sym chars-nil)
-    (single_open dialect (chars c.args.left.now)
-    (characters_fail (λ d. d == single_quote) c.args.left.now c.utf8.left c.in-None.ensures.cases))
+    single_open dialect (chars c.args.left.now)
+    (characters_fail (λ d. d == single_quote) c.args.left.now c.utf8.left c.in-None.ensures.cases)

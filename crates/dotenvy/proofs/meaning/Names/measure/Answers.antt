@@ -1,8 +1,10 @@
-use Rattle.std.proofs.Common.{[], ◌++◌, refl}
+use Rattle.std.proofs.Common.{[], ◌++◌, refl, sym, subst}
+use Rattle.std.proofs.lemmas.Str.{chars-nil}
 use Rattle.std.specs.Str.{chars}
 use Rattle.dotenv_format.specs.Value.{unquoted}
 use Rattle.dotenv_format.specs.Slices.{quoting_of}
 use Rattle.dotenv_format.specs.ReadValue.{base}
+use Rattle.dotenv_format.specs.NextPiece.{StopsAt}
 use Rattle.dotenvy.specs.Meaning.{look_up_of}
 use Rattle.dotenv_format.proofs.NextPiece.{none_read, read_on, stop_after}
 use Rattle.dotenvy.proofs.Meanings.{counted, measured, all_read}
@@ -17,6 +19,13 @@ returns-in-End g c =
     measured c.args.dialect (look_up_of c.args.self.now) (chars c.args.value.now) i.0 c.loop-given.len
     (all_read c.args.dialect (base unquoted) (base (quoting_of c.loop-given.quoting)) (chars c.args.value.now)
     (chars c.loop-given.rest.now) i.0 i.1 c.in-End.ensures.next) i.2
+
+pub returns-in-Unfinished : goal.returns-in-Unfinished
+returns-in-Unfinished g c =
+    let i = c.loop-given.invariant.1 in
+    subst (StopsAt c.args.dialect (base unquoted) (chars c.args.value.now)) (sym chars-nil)
+    (stop_after c.args.dialect (base unquoted) (base (quoting_of c.loop-given.quoting)) (chars c.args.value.now)
+    (chars c.loop-given.rest.now) [] i.0 i.1 c.in-Unfinished.ensures.next)
 
 pub returns-in-Fault : goal.returns-in-Fault
 returns-in-Fault g c =
