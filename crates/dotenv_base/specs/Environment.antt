@@ -1,5 +1,25 @@
 -- What an environment is: a finite map of texts, by their bytes, and a mark.
-use Rattle.std.specs.Prelude.{ℕ, ◌≡◌, Bool, true, false, not, ◌&&◌, ◌==◌, List, [], ◌∷◌, map, Some, is_some, string_bytes, bytes_eq, IsUtf8, IsTrue, refl}
+use Rattle.std.specs.Prelude.{
+  ℕ,
+  ◌≡◌,
+  Bool,
+  true,
+  false,
+  not,
+  ◌&&◌,
+  ◌==◌,
+  List,
+  [],
+  ◌∷◌,
+  map,
+  Some,
+  is_some,
+  string_bytes,
+  bytes_eq,
+  IsUtf8,
+  IsTrue,
+  refl,
+}
 use Rattle.std.specs.List.{list_all, list_any}
 use Rattle.std.specs.Ordering.{nat_cmp}
 use Rattle.std.specs.Bool.{beq}
@@ -23,7 +43,7 @@ pub record Env : Type 0 where
 abbrev pub env_code : Coded Env
 env_code =
     code_by (Texts × Bool) (coded× (fin.code (coded_list coded_ℕ) (coded_list coded_ℕ)) coded_bool)
-      (λ e. (e.names, e.loaded)) (λ p. record { names = p.0; loaded = p.1 }) (λ _. refl)
+    (λ e. (e.names, e.loaded)) (λ p. record { names = p.0; loaded = p.1 }) (λ _. refl)
 
 -- a name is not empty and has no `=` and no NUL
 abbrev pub name_ok : List ℕ → Bool

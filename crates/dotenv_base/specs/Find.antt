@@ -20,7 +20,7 @@ Calls F = F → Path → Look → F → Type 0
 
 -- these candidates were asked for: each by one call of the look, which began where the call before had left it
 pub record AsksInTurn {F : Type 0} (step : Calls F) (before : F) (asked : List (List ℕ × Look))
-  (after : F)
+    (after : F)
     : Type 0 where
   pub calls : List (Path × Look)
   pub are_asked : asked ≡ map seen calls

@@ -6,4 +6,4 @@ pub mod Source
 pub mod Output
 pub mod Environment
 pub mod WorkedSearches
-pub mod SearchLaws
+pub mod Laws

@@ -1,5 +1,27 @@
 -- The search for a file in a directory and in those above it. Paths are texts, by their bytes.
-use Rattle.std.specs.Prelude.{◌≡◌, ◌⊎◌, ℕ, ◌+◌, IsTrue, Bool, true, false, not, ◌||◌, ◌==◌, List, [], ◌∷◌, ◌++◌, map, length, Option, Some, None, if◌then◌else◌}
+use Rattle.std.specs.Prelude.{
+  ◌≡◌,
+  ◌⊎◌,
+  ℕ,
+  ◌+◌,
+  IsTrue,
+  Bool,
+  true,
+  false,
+  not,
+  ◌||◌,
+  ◌==◌,
+  List,
+  [],
+  ◌∷◌,
+  ◌++◌,
+  map,
+  length,
+  Option,
+  Some,
+  None,
+  if◌then◌else◌,
+}
 use Rattle.std.specs.List.{list_any, before_last}
 use Rattle.std.specs.IoError.{error_kind}
 use Rattle.std.specs.declared.io.Error.{Error as IoError}
@@ -34,7 +56,7 @@ abbrev pub parent_part : List ℕ → List ℕ
 parent_part directory =
     if list_any is_slash directory
     then (if length (before_last is_slash directory) == 0 then slash ∷ [] else
-          before_last is_slash directory)
+    before_last is_slash directory)
     else []
 
 -- the directory above; the empty text and the root have none
@@ -68,7 +90,7 @@ AreAsked (path ∷ paths) [] = ⊥
 AreAsked (path ∷ paths) ((first, look) ∷ asked) =
     (first ≡ path)
     × ((IsTrue (ends_search look) × (asked ≡ []))
-       ⊎ (IsTrue (not (ends_search look)) × AreAsked paths asked))
+    ⊎ (IsTrue (not (ends_search look)) × AreAsked paths asked))
 
 -- what a search answers: the path of a file; the fault that ended it; or that there is no such file
 pub data Answer : Type 0 where

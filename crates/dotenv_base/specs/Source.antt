@@ -1,5 +1,29 @@
 -- What a source gives and a sink takes.
-use Rattle.std.specs.Prelude.{ℕ, ◌≡◌, ◌≤◌, ◌<◌, List, [], ◌∷◌, ◌++◌, length, take, drop, ◌==◌, Option, Some, None, Result, Ok, Err, IfOk, IfErr, OnErr, refl, if◌then◌else◌}
+use Rattle.std.specs.Prelude.{
+  ℕ,
+  ◌≡◌,
+  ◌≤◌,
+  ◌<◌,
+  List,
+  [],
+  ◌∷◌,
+  ◌++◌,
+  length,
+  take,
+  drop,
+  ◌==◌,
+  Option,
+  Some,
+  None,
+  Result,
+  Ok,
+  Err,
+  IfOk,
+  IfErr,
+  OnErr,
+  refl,
+  if◌then◌else◌,
+}
 use Rattle.std.specs.IoError.{error_kind}
 use Rattle.std.specs.declared.io.Error.{Error}
 use Rattle.std.specs.declared.io.ErrorKind.{ErrorKind}
@@ -17,17 +41,17 @@ pub record Ahead : Type 0 where
 abbrev pub ahead_code : Coded Ahead
 ahead_code =
     code_by (List ℕ × Option ErrorKind)
-      (coded× (coded_list coded_ℕ) (coded_option kind.the_row.coded)) (λ a. (a.bytes, a.fault))
-      (λ p. record { bytes = p.0; fault = p.1 }) (λ _. refl)
+    (coded× (coded_list coded_ℕ) (coded_option kind.the_row.coded)) (λ a. (a.bytes, a.fault))
+    (λ p. record { bytes = p.0; fault = p.1 }) (λ _. refl)
 
 -- a read that answered r took its bytes from the front of what was ahead: none only at the end, and a fault only where it stands next
 abbrev pub ReadsFront : Ahead → Option Ahead → Result ℕ Error → List ℕ → Type 0
 ReadsFront a after r buf =
     IfOk r
-      (λ n.
-         (take n buf ≡ take n a.bytes) × (n ≤ length a.bytes)
-         × (after ≡ Some (record { bytes = drop n a.bytes; fault = a.fault }))
-         × (0 < length buf → n ≡ 0 → (a.bytes ≡ []) × (a.fault ≡ None)))
+    (λ n.
+    (take n buf ≡ take n a.bytes) × (n ≤ length a.bytes)
+    × (after ≡ Some (record { bytes = drop n a.bytes; fault = a.fault }))
+    × (0 < length buf → n ≡ 0 → (a.bytes ≡ []) × (a.fault ≡ None)))
     × IfErr r (λ e. (a.bytes ≡ []) × (a.fault ≡ Some (error_kind e)))
 
 abbrev pub ReadsAhead : Option Ahead → Option Ahead → Result ℕ Error → List ℕ → Type 0

@@ -19,10 +19,10 @@ HaveSearchesOf denied missing =
     Searches (codes "/a/b") (codes ".env") (asks "/a/b/.env" Other ∷ asks "/a/.env" File ∷ [])
     (FoundAt (codes "/a/.env"))
     × Searches (codes "a") (codes ".env") (asks "a/.env" Other ∷ asks ".env" File ∷ [])
-        (FoundAt (codes ".env"))
+    (FoundAt (codes ".env"))
     -- a fault ends the search, but for one that says that nothing is there
     × Searches (codes "/a/b") (codes ".env")
-        (asks "/a/b/.env" Other ∷ asks "/a/.env" (Fault denied) ∷ [])
+    (asks "/a/b/.env" Other ∷ asks "/a/.env" (Fault denied) ∷ [])
     (EndedBy denied)
     × Searches (codes "/a/b") (codes ".env")
     (asks "/a/b/.env" Other ∷ asks "/a/.env" Other ∷ asks "/.env" (Fault missing) ∷ []) FoundNowhere

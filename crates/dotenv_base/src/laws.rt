@@ -1,6 +1,6 @@
 //! Laws of the search for a file. A law is the contract of a function that does nothing; to call one has no effect.
 
-ghost use Rattle.dotenv_base.specs.SearchLaws.{HasOneSearch};
+ghost use Rattle.dotenv_base.specs.Laws.{HasOneSearch};
 ghost use Rattle.dotenv_base.specs.WorkedSearches.{HaveSearches};
 
 /// Whatever stands at the candidates, a search asks one list of them and has one answer.

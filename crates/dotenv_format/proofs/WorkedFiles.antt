@@ -21,8 +21,8 @@ use Rattle.dotenv_format.specs.WorkedFiles.{
 }
 use Rattle.dotenv_format.specs.WorkedLoads.{HaveRepeats, HaveNuls}
 use Rattle.dotenv_format.specs.Decided.{up_to_last_line_feed, without_open_end, HasDecided}
-use Rattle.dotenv_format.proofs.EntriesOnce.{cut_line_texts}
-use Rattle.dotenv_format.proofs.NextEntries.{
+use Rattle.dotenv_format.proofs.lines.EntriesOnce.{cut_line_texts}
+use Rattle.dotenv_format.proofs.lines.NextEntries.{
   lines_of,
   logical_entries,
   all_give,

@@ -1,5 +1,20 @@
 -- The characters that the format names, and its classes of characters. A text is a list of Unicode scalar values, which are called codes here.
-use Rattle.std.specs.Prelude.{ℕ, Bool, true, false, not, ◌&&◌, ◌||◌, ◌==◌, nat_le, List, [], ◌∷◌, encode_utf8_all, length}
+use Rattle.std.specs.Prelude.{
+  ℕ,
+  Bool,
+  true,
+  false,
+  not,
+  ◌&&◌,
+  ◌||◌,
+  ◌==◌,
+  nat_le,
+  List,
+  [],
+  ◌∷◌,
+  encode_utf8_all,
+  length,
+}
 use Rattle.std.specs.Char.{is_whitespace, is_ascii_alphabetic, is_ascii_digit}
 use Rattle.unicode.specs.Binary.{is_alphabetic}
 use Rattle.unicode.specs.GeneralCategory.{general_category, general_category_number}

@@ -6,7 +6,7 @@ use Rattle.dotenv_format.specs.declared.dialect.Dialect.{Dialect}
 use Rattle.dotenv_format.specs.PhysicalLines.{line_texts}
 use Rattle.dotenv_format.specs.LogicalLine.{Logical, Skip, Text, Open, Broken, IsNext}
 use Rattle.dotenv_format.specs.Value.{Piece}
-use Rattle.dotenv_format.specs.Line.{Outcome, Nothing, Pair, Fault, Says}
+use Rattle.dotenv_format.specs.Outcome.{Outcome, Nothing, Pair, Fault, Says}
 
 -- an error, by what it says
 pub data Failure : Type 0 where

@@ -1,5 +1,20 @@
 -- Meanings of pieces, and the items of entries under one environment.
-use Rattle.std.specs.Prelude.{ℕ, List, [], ◌∷◌, ◌++◌, Option, Some, None, Result, Ok, Err, unwrap_or, bytes_eq, if◌then◌else◌}
+use Rattle.std.specs.Prelude.{
+  ℕ,
+  List,
+  [],
+  ◌∷◌,
+  ◌++◌,
+  Option,
+  Some,
+  None,
+  Result,
+  Ok,
+  Err,
+  unwrap_or,
+  bytes_eq,
+  if◌then◌else◌,
+}
 use Rattle.std.specs.Option.{option_or}
 use Rattle.dotenv_format.specs.Value.{Piece, Text, Name}
 use Rattle.dotenv_format.specs.Entries.{Failure, Entry, Declares, Fails}

@@ -1,11 +1,29 @@
 -- Laws over the definitions: what holds of every file, whatever its bytes.
-use Rattle.std.specs.Prelude.{◌≡◌, ◌≢◌, ◌<◌, ◌≤◌, ◌⊎◌, ℕ, List, [], ◌∷◌, ◌++◌, length, take, Option, Some, map, Ok, encode_utf8_all}
+use Rattle.std.specs.Prelude.{
+  ◌≡◌,
+  ◌≢◌,
+  ◌<◌,
+  ◌≤◌,
+  ◌⊎◌,
+  ℕ,
+  List,
+  [],
+  ◌∷◌,
+  ◌++◌,
+  length,
+  take,
+  Option,
+  Some,
+  map,
+  Ok,
+  encode_utf8_all,
+}
 use Rattle.dotenv_format.specs.declared.dialect.Dialect.{Dialect}
 use Rattle.dotenv_format.specs.PhysicalLines.{AreCut, line_texts}
 use Rattle.dotenv_format.specs.LogicalLine.{Logical, IsNext}
 use Rattle.dotenv_format.specs.Value.{Piece, Text, Name, IsValue}
 use Rattle.dotenv_format.specs.Places.{BeginsStatement, BeginsValue, IsPlace}
-use Rattle.dotenv_format.specs.Line.{Outcome, Says}
+use Rattle.dotenv_format.specs.Outcome.{Outcome, Says}
 use Rattle.dotenv_format.specs.Entries.{Entry, Declares, Fails, HasEntries}
 use Rattle.dotenv_format.specs.Items.{LookUp, items}
 use Rattle.dotenv_format.specs.Run.{Keep, Replace, run}

@@ -5,7 +5,7 @@ pub mod LogicalLine
 pub mod Statement
 pub mod Value
 pub mod Places
-pub mod Line
+pub mod Outcome
 pub mod Entries
 pub mod Items
 pub mod Run
@@ -16,8 +16,4 @@ pub mod Decided
 pub mod Laws
 pub mod WorkedFiles
 pub mod WorkedLoads
-pub mod Slices
-pub mod LineModes
-pub mod ParseStatement
-pub mod ReadValue
-pub mod NextPiece
+pub mod inside

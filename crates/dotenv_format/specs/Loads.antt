@@ -1,5 +1,23 @@
 -- The closed rules of both loads: over the environment before and the declarations, with no environment that changes.
-use Rattle.std.specs.Prelude.{◌≡◌, ℕ, Bool, true, ◌&&◌, List, [], ◌∷◌, ◌++◌, Some, None, Result, Ok, Err, is_none, bytes_eq, if◌then◌else◌}
+use Rattle.std.specs.Prelude.{
+  ◌≡◌,
+  ℕ,
+  Bool,
+  true,
+  ◌&&◌,
+  List,
+  [],
+  ◌∷◌,
+  ◌++◌,
+  Some,
+  None,
+  Result,
+  Ok,
+  Err,
+  is_none,
+  bytes_eq,
+  if◌then◌else◌,
+}
 use Rattle.std.specs.Option.{option_or}
 use Rattle.dotenv_format.specs.Entries.{Failure, Entry, Declares, Fails, Nul}
 use Rattle.dotenv_format.specs.Items.{LookUp, meaning, or_else, first_value}

@@ -1,9 +1,38 @@
 -- Values, and the pieces that they mean.
-use Rattle.std.specs.Prelude.{◌≡◌, ℕ, Bool, true, false, not, ◌&&◌, ◌||◌, ◌==◌, List, [], ◌∷◌, ◌++◌, IsTrue, if◌then◌else◌}
+use Rattle.std.specs.Prelude.{
+  ◌≡◌,
+  ℕ,
+  Bool,
+  true,
+  false,
+  not,
+  ◌&&◌,
+  ◌||◌,
+  ◌==◌,
+  List,
+  [],
+  ◌∷◌,
+  ◌++◌,
+  IsTrue,
+  if◌then◌else◌,
+}
 use Rattle.std.specs.List.{flat_map, list_all}
 use Rattle.dotenv_format.specs.declared.dialect.Dialect.{Dialect}
 use Rattle.dotenv_format.specs.declared.dialect.Dialect.TheVariants.{V15, Next}
-use Rattle.dotenv_format.specs.Characters.{is_space_or_tab, is_name_character, is_empty_or_comment, line_feed, letter_n, space, single_quote, double_quote, dollar, backslash, left_brace, right_brace}
+use Rattle.dotenv_format.specs.Characters.{
+  is_space_or_tab,
+  is_name_character,
+  is_empty_or_comment,
+  line_feed,
+  letter_n,
+  space,
+  single_quote,
+  double_quote,
+  dollar,
+  backslash,
+  left_brace,
+  right_brace,
+}
 
 -- what a part of a value gives: this text, or what a name stands for
 pub data Piece : Type 0 where

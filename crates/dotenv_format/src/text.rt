@@ -4,7 +4,7 @@ ghost use Rattle.std.specs.Str.{chars, IsUtf8};
 ghost use Rattle.unicode.specs.GeneralCategory.{general_category, general_category_number};
 ghost use Rattle.dotenv_format.specs.Characters.{begins_key, double_quote, is_blank, is_space_or_tab, continues_key, is_number_category, allows_underscore, is_name_character, is_empty_or_comment};
 ghost use Rattle.std.specs.List.{prefix_len, position_from};
-ghost use Rattle.dotenv_format.specs.Slices.{BeginsWith, IsSpan, PassesBytes, PassesTo, has_character, is_name_byte, is_of_kind, is_token_byte, in_run};
+ghost use Rattle.dotenv_format.specs.inside.Slices.{BeginsWith, IsSpan, PassesBytes, PassesTo, has_character, is_name_byte, is_of_kind, is_token_byte, in_run};
 ghost use Rattle.dotenv_format.specs.Value.{is_plain_outside};
 
 use crate::dialect::Dialect;
@@ -54,7 +54,7 @@ fn is_blank(c: char) -> bool
 }
 
 impl Class {
-    ghost use Rattle.dotenv_format.specs.Slices.{has_character};
+    ghost use Rattle.dotenv_format.specs.inside.Slices.{has_character};
 
     #[inline(always)]
     pub fn contains(self, c: char) -> bool
@@ -184,7 +184,7 @@ enum ByteKind {
 }
 
 impl ByteKind {
-    ghost use Rattle.dotenv_format.specs.Slices.{is_of_kind};
+    ghost use Rattle.dotenv_format.specs.inside.Slices.{is_of_kind};
 
     #[inline(always)]
     fn contains(self, byte: u8) -> bool

@@ -1,8 +1,8 @@
 // Where the characters of a line lead, from a quote to its end and from a token to the next.
 ghost use Rattle.std.specs.Prelude.{◌≡◌, None};
 ghost use Rattle.dotenv_format.specs.Tokens.{stands_for_itself};
-ghost use Rattle.dotenv_format.specs.Slices.{begins_passing};
-ghost use Rattle.dotenv_format.specs.LineModes.{leads_outside, leads, PassesRun, WalksText};
+ghost use Rattle.dotenv_format.specs.inside.Slices.{begins_passing};
+ghost use Rattle.dotenv_format.specs.inside.Walk.{leads_outside, leads, PassesRun, WalksText};
 
 use crate::text::{Class, split_first, split_while};
 

@@ -23,13 +23,13 @@ use Rattle.std.specs.declared.io.ErrorKind.{ErrorKind}
 use Rattle.dotenv_format.specs.declared.dialect.Dialect.{Dialect}
 use Rattle.dotenv_format.specs.PhysicalLines.{physical_lines, line_text, line_texts}
 use Rattle.dotenv_format.specs.LogicalLine.{Logical, Skip, Text, Open, Broken}
-use Rattle.dotenv_format.specs.Line.{Outcome, Nothing, Pair, Fault}
+use Rattle.dotenv_format.specs.Outcome.{Outcome, Nothing, Pair, Fault}
 use Rattle.dotenv_format.specs.Entries.{Entry, Declares, Fails, AreLogicalLines, outcome_entries, Gives, GiveAll}
 use Rattle.dotenv_format.specs.Items.{LookUp, meaning, or_else, with_value, items_from}
 use Rattle.dotenv_format.specs.Decided.{up_to_last_line_feed, without_open_end}
 use Rattle.dotenv_lines.specs.Reading.{HasLeft}
-use Rattle.dotenv_format.proofs.EntriesOnce.{some_length, next_positive}
-use Rattle.dotenv_format.proofs.DecidedFront.{front_is}
+use Rattle.dotenv_format.proofs.lines.EntriesOnce.{some_length, next_positive}
+use Rattle.dotenv_format.proofs.lines.DecidedFront.{front_is}
 
 -- what a line says adds one entry at most
 outcome_one : (outcome : Outcome) → length (outcome_entries outcome) ≤ 1

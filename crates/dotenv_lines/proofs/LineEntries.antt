@@ -10,9 +10,9 @@ use Rattle.dotenv_lines.specs.Input.{InputState}
 use Rattle.dotenv_lines.specs.Reading.{HasLeft}
 use Rattle.dotenv_format.specs.PhysicalLines.{line_texts}
 use Rattle.dotenv_lines.specs.Lines.{whole_lines, lines_so_far, IsNextAlways, TakesNext, IsUndecided}
-use Rattle.dotenv_format.proofs.EntriesOnce.{lines_within, cut_line_texts, entries_exist, entries_once}
-use Rattle.dotenv_format.proofs.DecidedFront.{decided_exist, decided_once}
-use Rattle.dotenv_format.proofs.NextEntries.{entries-none}
+use Rattle.dotenv_format.proofs.lines.EntriesOnce.{lines_within, cut_line_texts, entries_exist, entries_once}
+use Rattle.dotenv_format.proofs.lines.DecidedFront.{decided_exist, decided_once}
+use Rattle.dotenv_format.proofs.lines.NextEntries.{entries-none}
 
 -- there are entries of what is left
 pub left_exists : (dialect : Dialect) (fault : Option ErrorKind) (bytes : List ℕ) →

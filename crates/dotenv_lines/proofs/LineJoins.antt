@@ -80,7 +80,7 @@ use Rattle.dotenv_format.specs.LogicalLine.{
   input_end,
   IsOpenEnd,
 }
-use Rattle.dotenv_format.specs.LineModes.{walk, going, ended}
+use Rattle.dotenv_format.specs.inside.Walk.{walk, going, ended}
 use Rattle.dotenv_base.specs.Source.{Ahead}
 use Rattle.dotenv_lines.specs.Input.{InputState, IsTold, ReadsFit, IsFinal, Moves, TakesLine, end_reads}
 use Rattle.dotenv_lines.specs.Lines.{
@@ -96,19 +96,26 @@ use Rattle.dotenv_lines.specs.Lines.{
   GoesOn,
   NextTextIs,
 }
-use Rattle.dotenv_lines.specs.JoinedLines.{begun_at_end, joined_at_end, TakesJoined, is_refused, stage_after, IsOutcome}
+use Rattle.dotenv_lines.specs.inside.JoinedLines.{
+  begun_at_end,
+  joined_at_end,
+  TakesJoined,
+  is_refused,
+  stage_after,
+  IsOutcome,
+}
 use Rattle.dotenv_lines.specs.Splitter.{AdvanceIs}
 use Rattle.dotenv_lines.specs.declared.physical_line.Taken.{Taken}
-use Rattle.dotenv_lines.specs.TakenLine.{LineMakes}
-use Rattle.dotenv_format.proofs.Scans as scans
-use Rattle.dotenv_format.proofs.Scans.{stops, scan, scan-reads, Reads, Read}
+use Rattle.dotenv_lines.specs.inside.TakenLine.{LineMakes}
+use Rattle.dotenv_format.proofs.lines.Scans as scans
+use Rattle.dotenv_format.proofs.lines.Scans.{stops, scan, scan-reads, Reads, Read}
 use Rattle.dotenv_format.proofs.Basics.{and_left, and_right}
-use Rattle.dotenv_format.proofs.Cuts.{concat-lines}
-use Rattle.dotenv_format.proofs.NextLine.{whole_line, last_line, ends_line, whole_ends, ends_join, one_next}
-use Rattle.dotenv_format.proofs.EntriesOnce.{cut_line_texts, whole_chars, one_last}
-use Rattle.dotenv_format.proofs.DecidedFront.{tokens_end}
-use Rattle.dotenv_format.proofs.Splitting.{IsGoing, going_start, IsWalked, walk-is}
-use Rattle.dotenv_format.proofs.SplitLines.{
+use Rattle.dotenv_format.proofs.lines.Cuts.{concat-lines}
+use Rattle.dotenv_format.proofs.lines.NextLine.{whole_line, last_line, ends_line, whole_ends, ends_join, one_next}
+use Rattle.dotenv_format.proofs.lines.EntriesOnce.{cut_line_texts, whole_chars, one_last}
+use Rattle.dotenv_format.proofs.lines.DecidedFront.{tokens_end}
+use Rattle.dotenv_format.proofs.lines.Splitting.{IsGoing, going_start, IsWalked, walk-is}
+use Rattle.dotenv_format.proofs.lines.SplitLines.{
   left_after,
   left_after_broken,
   line_is_one,

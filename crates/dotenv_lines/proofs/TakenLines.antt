@@ -39,10 +39,10 @@ use Rattle.dotenv_lines.specs.declared.physical_line.After.TheVariants.{LineEnd,
 use Rattle.dotenv_lines.specs.declared.physical_line.Taken.TheVariants.{Broken as taken_broken}
 use Rattle.dotenv_format.specs.Characters.{begins_with, hash}
 use Rattle.dotenv_format.specs.PhysicalLines.{no_line_feed, is_whole_line}
-use Rattle.dotenv_format.specs.LineModes.{walk}
+use Rattle.dotenv_format.specs.inside.Walk.{walk}
 use Rattle.dotenv_base.specs.Source.{Ahead}
 use Rattle.dotenv_lines.specs.Input.{InputState, IsTold, IsFinal, ReadsFit, Moves, TakesLine}
-use Rattle.dotenv_lines.specs.TakenLine.{
+use Rattle.dotenv_lines.specs.inside.TakenLine.{
   Walks,
   WalksOn,
   Stands,

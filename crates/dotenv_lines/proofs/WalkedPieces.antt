@@ -41,10 +41,10 @@ use Rattle.dotenv_lines.specs.declared.physical_line.Progress.TheVariants.{Blank
 use Rattle.dotenv_format.specs.Characters.{begins_with, hash, backslash, is_blank, is_quote, line_feed}
 use Rattle.dotenv_format.specs.Tokens.{stands_for_itself}
 use Rattle.dotenv_format.specs.PhysicalLines.{no_line_feed}
-use Rattle.dotenv_format.specs.LineModes.{ended, walk, walked, leads, leads_outside}
-use Rattle.dotenv_lines.specs.TakenLine.{IsNoComment, WalksOn, WalksFrom, still_blank}
+use Rattle.dotenv_format.specs.inside.Walk.{ended, walk, walked, leads, leads_outside}
+use Rattle.dotenv_lines.specs.inside.TakenLine.{IsNoComment, WalksOn, WalksFrom, still_blank}
 use Rattle.dotenv_format.proofs.Basics.{and_right, more_some}
-use Rattle.dotenv_format.proofs.LineTexts.{same_code, walk-more}
+use Rattle.dotenv_format.proofs.lines.LineTexts.{same_code, walk-more}
 
 -- a walk stays where it ended
 pub walk-ended : (m : LineMode) (text seen xs ys : List ℕ) → walk m seen xs ≡ ended text →

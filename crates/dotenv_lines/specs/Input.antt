@@ -1,5 +1,37 @@
 -- What an input has left, and what a read gives it.
-use Rattle.std.specs.Prelude.{ℕ, ◌≡◌, ◌≢◌, ◌+◌, ◌-◌, ◌*◌, ◌≤◌, ◌<◌, ◌⊎◌, Bool, true, false, ◌&&◌, nat_eq, nat_lt, List, [], ◌∷◌, ◌++◌, length, take, drop, Option, Some, None, Result, Ok, Err, MatchBool, refl, if◌then◌else◌}
+use Rattle.std.specs.Prelude.{
+  ℕ,
+  ◌≡◌,
+  ◌≢◌,
+  ◌+◌,
+  ◌-◌,
+  ◌*◌,
+  ◌≤◌,
+  ◌<◌,
+  ◌⊎◌,
+  Bool,
+  true,
+  false,
+  ◌&&◌,
+  nat_eq,
+  nat_lt,
+  List,
+  [],
+  ◌∷◌,
+  ◌++◌,
+  length,
+  take,
+  drop,
+  Option,
+  Some,
+  None,
+  Result,
+  Ok,
+  Err,
+  MatchBool,
+  refl,
+  if◌then◌else◌,
+}
 use Rattle.std.specs.List.{starts_with}
 use Rattle.std.specs.IoError.{error_kind}
 use Rattle.std.specs.declared.io.Error.{Error as IoError}
@@ -129,7 +161,7 @@ pub record IsLinePiece (s : InputState) (piece : List ℕ) (whole : Bool) : Type
   pub within : length piece ≤ s.unread
   pub is_line :
       MatchBool whole (is_whole_line piece ≡ true)
-        ((no_line_feed piece ≡ true) × (length piece ≡ s.unread))
+      ((no_line_feed piece ≡ true) × (length piece ≡ s.unread))
   pub told : (a : Ahead) → s.left ≡ Some a → piece ≡ take (length piece) a.bytes
 
 -- something is left to use, and some of it was read; or nothing, and the end was read; or a fault came before a byte

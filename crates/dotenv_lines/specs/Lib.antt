@@ -1,7 +1,5 @@
-pub mod Buffer
+pub mod inside
 pub mod Input
 pub mod Lines
 pub mod Reading
-pub mod TakenLine
-pub mod JoinedLines
 pub mod Splitter

@@ -1,5 +1,26 @@
 -- What the splitter answers, and what it leaves.
-use Rattle.std.specs.Prelude.{ℕ, true, ◌≡◌, ◌≢◌, ◌⊎◌, ◌+◌, ◌^◌, ◌<◌, ◌++◌, List, [], drop, Option, Some, None, Result, Ok, Err, refl, string_bytes}
+use Rattle.std.specs.Prelude.{
+  ℕ,
+  true,
+  ◌≡◌,
+  ◌≢◌,
+  ◌⊎◌,
+  ◌+◌,
+  ◌^◌,
+  ◌<◌,
+  ◌++◌,
+  List,
+  [],
+  drop,
+  Option,
+  Some,
+  None,
+  Result,
+  Ok,
+  Err,
+  refl,
+  string_bytes,
+}
 use Rattle.std.specs.Str.{chars}
 use Rattle.std.specs.IoError.{error_kind}
 use Rattle.std.specs.declared.string.String.{String}

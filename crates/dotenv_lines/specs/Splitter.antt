@@ -9,7 +9,16 @@ use Rattle.dotenv_base.specs.Calls.{Call}
 use Rattle.dotenv_base.specs.Source.{Ahead}
 use Rattle.dotenv_format.specs.LogicalLine.{Skip, Text}
 use Rattle.dotenv_lines.specs.Input.{InputState}
-use Rattle.dotenv_lines.specs.Lines.{LinesState, lines_code, TakesNext, TakesFault, CountsLine, IsUndecided, GoesOn, FailsFor}
+use Rattle.dotenv_lines.specs.Lines.{
+  LinesState,
+  lines_code,
+  TakesNext,
+  TakesFault,
+  CountsLine,
+  IsUndecided,
+  GoesOn,
+  FailsFor,
+}
 
 -- the logical lines that are left, and the bytes of the last one's text
 pub record SplitterState : Type 0 where

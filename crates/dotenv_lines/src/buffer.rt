@@ -1,7 +1,7 @@
 // The bytes that were read and are not used yet, in one buffer.
 ghost use Rattle.std.specs.Prelude.{◌≡◌, ◌≤◌, ◌<◌, ◌==◌, IfErr, IfOk, [], length, drop};
 ghost use Rattle.dotenv_base.specs.Errors.{IsMemory};
-ghost use Rattle.dotenv_lines.specs.Buffer.{Fills};
+ghost use Rattle.dotenv_lines.specs.inside.Buffer.{Fills};
 
 use dotenv_base::errors::Result;
 use dotenv_base::source::Source;

@@ -5,7 +5,7 @@ ghost use Rattle.std.specs.IoError.{error_kind};
 ghost use Rattle.dotenv_base.specs.Errors.{IsIoOf, IsLineParseOf, IsMemory, IsMemoryErr};
 ghost use Rattle.dotenv_lines.specs.Input.{AsksReads, DropsMark, WhereTold};
 ghost use Rattle.dotenv_lines.specs.Lines.{fuel_of, NextTextIs, WhereOpen};
-ghost use Rattle.dotenv_lines.specs.JoinedLines.{joined_at_end, JoinsNext, UsesSome, stage_after, is_refused, IsOutcome};
+ghost use Rattle.dotenv_lines.specs.inside.JoinedLines.{joined_at_end, JoinsNext, UsesSome, stage_after, is_refused, IsOutcome};
 ghost use Rattle.dotenv_lines.specs.Splitter.{fresh_lines, last_lines, AdvanceIs};
 
 use crate::input::Input;

@@ -5,10 +5,10 @@ ghost use Rattle.dotenv_base.specs.Source.{Ahead};
 ghost use Rattle.dotenv_format.specs.Characters.{begins_with, hash};
 ghost use Rattle.dotenv_format.specs.PhysicalLines.{no_line_feed};
 ghost use Rattle.dotenv_format.specs.LogicalLine.{without_carriage_return};
-ghost use Rattle.dotenv_format.specs.LineModes.{kept_before};
+ghost use Rattle.dotenv_format.specs.inside.Walk.{kept_before};
 ghost use Rattle.dotenv_base.specs.Errors.{IsMemory};
 ghost use Rattle.dotenv_lines.specs.Input.{AsksReads, WhereTold, supply};
-ghost use Rattle.dotenv_lines.specs.TakenLine.{IsTextFront, PieceFalls, TakesLineOn, TakesPiece, WalksFrom, WalksOn, after_text, at_line_end, starting, still_blank};
+ghost use Rattle.dotenv_lines.specs.inside.TakenLine.{IsTextFront, PieceFalls, TakesLineOn, TakesPiece, WalksFrom, WalksOn, after_text, at_line_end, starting, still_blank};
 
 use crate::input::Input;
 use dotenv_base::errors::Result;

@@ -3,10 +3,10 @@ pub mod ListedLoads
 pub mod RememberedMaps
 pub mod Meanings
 pub mod LinePasses
-pub mod ItemRuns
+pub mod Iterations
 pub mod WholeLoads
-pub mod LineItems
+pub mod ItemSteps
 pub mod NextItems
 pub mod KeyLookUps
-pub mod LoadedLines
+pub mod LineLoads
 pub mod LoadSteps

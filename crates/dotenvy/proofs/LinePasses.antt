@@ -45,22 +45,22 @@ use Rattle.std.specs.FinMap as fin
 use Rattle.dotenv_base.specs.declared.errors.Error.{Error}
 use Rattle.dotenv_base.specs.Errors.{IsMemory, IsLineParseOf}
 use Rattle.dotenvy.specs.Remembered.{Remembered}
-use Rattle.dotenvy.specs.ParsedLine.{IsLineAnswer}
+use Rattle.dotenvy.specs.inside.ParsedLine.{IsLineAnswer}
 use Rattle.dotenv_format.specs.Characters.{byte_len, is_empty_or_comment}
 use Rattle.dotenv_format.specs.Value.{Piece, IsValue, unquoted}
 use Rattle.dotenv_format.specs.Places.{BeginsValue, IsPlace}
-use Rattle.dotenv_format.specs.Line.{Outcome, Pair, Fault as SaysFault, Says, is_nothing, value_index, Assigns}
+use Rattle.dotenv_format.specs.Outcome.{Outcome, Pair, Fault as SaysFault, Says, is_nothing, value_index, Assigns}
 use Rattle.dotenv_format.specs.Items.{LookUp, meaning}
-use Rattle.dotenv_format.specs.ReadValue.{base, read_value}
-use Rattle.dotenv_format.specs.NextPiece.{StopsAt}
-use Rattle.dotenvy.specs.Meaning.{saturated, MeansBytes, Appends}
+use Rattle.dotenv_format.specs.inside.ReadValue.{base, read_value}
+use Rattle.dotenv_format.specs.inside.NextPiece.{StopsAt}
+use Rattle.dotenvy.specs.inside.ValuePasses.{saturated, MeansBytes, Appends}
 use Rattle.dotenv_format.specs.Statement.{IsStatement}
 use Rattle.dotenv_format.proofs.Basics.{not_is}
-use Rattle.dotenv_format.specs.ParseStatement.{assigns, fails, parse}
-use Rattle.dotenvy.specs.ScanLine.{IsAssigned, ScansAssigned, IsDeclared, Scans, AreCopiesOf}
-use Rattle.dotenv_format.proofs.Values.{value-read, read-value, no_value}
-use Rattle.dotenv_format.proofs.ValuePlaces.{value_place}
-use Rattle.dotenv_format.proofs.ParseLine.{parse-statement, parse-fault, front_bytes}
+use Rattle.dotenv_format.specs.inside.ParseStatement.{assigns, fails, parse}
+use Rattle.dotenvy.specs.inside.FirstPass.{IsAssigned, ScansAssigned, IsDeclared, Scans, AreCopiesOf}
+use Rattle.dotenv_format.proofs.values.Values.{value-read, read-value, no_value}
+use Rattle.dotenv_format.proofs.values.ValuePlaces.{value_place}
+use Rattle.dotenv_format.proofs.statements.ParseLine.{parse-statement, parse-fault, front_bytes}
 
 -- a text has as many bytes as its front and what is left have together
 pub front_and_left : (text left front : List ℕ) → IsUtf8 text → IsUtf8 left → chars text ≡ front ++ chars left →

@@ -42,7 +42,7 @@ use Rattle.dotenv_base.specs.declared.errors.Error.TheVariants as error
 use Rattle.dotenv_lines.specs.declared.lines.Stage.TheVariants.{Open, Ended}
 use Rattle.dotenv_base.specs.Errors.{IsMemory}
 use Rattle.dotenv_format.specs.LogicalLine.{Logical, Skip, Text, Open as OpenEnd, Broken, IsOpenEnd}
-use Rattle.dotenv_format.specs.Line.{Outcome, Nothing, Says}
+use Rattle.dotenv_format.specs.Outcome.{Outcome, Nothing, Says}
 use Rattle.dotenv_format.specs.Entries.{Failure, LineParse, Io, Memory, Entry, Fails, outcome_entries, Gives}
 use Rattle.dotenv_format.specs.Decided.{HasDecided}
 use Rattle.dotenv_format.specs.Marks.{without_mark}
@@ -67,7 +67,7 @@ use Rattle.dotenv_lines.specs.Lines.{LinesState, IsAtEnd, IsNextAlways, TakesNex
 use Rattle.dotenv_lines.specs.Splitter.{AdvanceIs}
 use Rattle.dotenv_lines.specs.Reading.{HasLeft, told_fault, certain_bytes, StopsAtBound, IsReading}
 use Rattle.dotenvy.specs.LoadsLeft.{IsAnswer, Leaves, Rule, LoadsLeft}
-use Rattle.dotenvy.specs.LoadedLine.{LoadsLine}
+use Rattle.dotenvy.specs.inside.LoadStep.{LoadsLine}
 use Rattle.dotenvy.specs.Iter.{IterState}
 use Rattle.dotenv_lines.proofs.Inputs.{ahead_of, the_bytes, the_fault, moves_on}
 use Rattle.dotenv_lines.proofs.LineEntries.{
@@ -79,8 +79,8 @@ use Rattle.dotenv_lines.proofs.LineEntries.{
   decided-next,
   decided-none,
 }
-use Rattle.dotenv_format.proofs.Outcomes.{one_outcome}
-use Rattle.dotenv_format.proofs.LoadRuns.{run-goes_on, run-stops, same-then}
+use Rattle.dotenv_format.proofs.statements.Outcomes.{one_outcome}
+use Rattle.dotenv_format.proofs.loads.LoadRuns.{run-goes_on, run-stops, same-then}
 use Rattle.dotenv_lines.proofs.DroppedMarks.{mark_decides, marked}
 
 -- a load of these entries: its mode and dialect, what is told, the input at its start, and what names meant then

@@ -35,10 +35,11 @@ use Rattle.dotenv_format.specs.Value.{unquoted, Piece, Text, Name}
 use Rattle.dotenv_format.specs.Items.{LookUp, meaning}
 use Rattle.dotenv_base.specs.Environment.{Texts}
 use Rattle.dotenvy.specs.Remembered.{Remembered, recalled}
-use Rattle.dotenv_format.specs.ReadValue.{ValueMode, base, given, read_value}
-use Rattle.dotenv_format.specs.NextPiece.{IsReadTo}
-use Rattle.dotenvy.specs.Meaning.{names_of, saturated, Measures, HasRoom}
-use Rattle.dotenv_format.proofs.Values.{given-given}
+use Rattle.dotenv_format.specs.inside.ReadValue.{ValueMode, base, given, read_value}
+use Rattle.dotenv_format.specs.inside.NextPiece.{IsReadTo}
+use Rattle.dotenvy.specs.Meaning.{names_of}
+use Rattle.dotenvy.specs.inside.ValuePasses.{saturated, Measures, HasRoom}
+use Rattle.dotenv_format.proofs.values.Values.{given-given}
 
 -- two rows of pieces mean what the first means, and then what the second means
 pub meaning-append : (look : LookUp) (p q : List Piece) → meaning look (p ++ q) ≡ meaning look p ++ meaning look q

@@ -44,7 +44,7 @@ use Rattle.dotenv_base.specs.declared.errors.Error.{Error}
 use Rattle.dotenv_base.specs.declared.errors.Error.TheVariants.{LineParse, Io, EnvVar, Nul, Memory}
 use Rattle.dotenv_lines.specs.declared.lines.Stage.TheVariants.{Open, Ended, Failed}
 use Rattle.dotenv_format.specs.LogicalLine.{Logical, Skip, Text, Open as OpenEnd, Broken, IsNext, IsOpenEnd}
-use Rattle.dotenv_format.specs.Line.{Outcome, Nothing, Says}
+use Rattle.dotenv_format.specs.Outcome.{Outcome, Nothing, Says}
 use Rattle.dotenv_format.specs.Entries.{
   Entry,
   Fails,
@@ -79,7 +79,7 @@ use Rattle.dotenvy.specs.Meaning.{recalled_of}
 use Rattle.dotenvy.specs.Iter.{IterState}
 use Rattle.dotenvy.specs.NextItem.{DecideFirst, UsesLines, StandsOn, ItemIs}
 use Rattle.dotenv_format.specs.Items.{text_of}
-use Rattle.dotenvy.specs.LineItem.{
+use Rattle.dotenvy.specs.inside.ItemStep.{
   lines_after,
   AddsEntries,
   IsRefused,
@@ -91,8 +91,8 @@ use Rattle.dotenvy.specs.LineItem.{
 use Rattle.dotenvy.specs.Remembered.{Remembered}
 use Rattle.dotenv_lines.proofs.Inputs.{ahead_of, moves_none, moves_on, final_before}
 use Rattle.dotenv_lines.proofs.LineEntries.{left_once, left-none, took, no_lines, decided-next, decided-none}
-use Rattle.dotenv_format.proofs.Outcomes.{one_outcome}
-use Rattle.dotenv_format.proofs.FirstLines.{first_lines_more, give_more}
+use Rattle.dotenv_format.proofs.statements.Outcomes.{one_outcome}
+use Rattle.dotenv_format.proofs.lines.FirstLines.{first_lines_more, give_more}
 use Rattle.std.proofs.lemmas.List.{drop-drop}
 
 -- from s, where these entries are left, lines that add nothing were passed

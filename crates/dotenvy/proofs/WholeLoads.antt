@@ -53,11 +53,11 @@ use Rattle.dotenv_base.specs.Source.{Ahead}
 use Rattle.dotenv_lines.specs.Reading.{HasLeft, told_fault}
 use Rattle.dotenvy.specs.Iter.{fresh}
 use Rattle.dotenvy.specs.LoadsLeft.{IsAnswer, Leaves, Rule}
-use Rattle.dotenvy.specs.ItemRuns.{IsReadable}
-use Rattle.dotenvy.specs.ItemLaws.{LoadsFresh, LoadsAllLeft, LoadTheSame, LoadsAgain}
+use Rattle.dotenvy.specs.Iteration.{IsReadable}
+use Rattle.dotenvy.specs.Laws.{LoadsFresh, LoadsAllLeft, LoadTheSame, LoadsAgain}
 use Rattle.dotenv_lines.proofs.LineEntries.{left_exists}
-use Rattle.dotenv_format.proofs.LoadsTwice as twice
-use Rattle.dotenvy.proofs.ItemRuns.{can_read_fresh}
+use Rattle.dotenv_format.proofs.loads.LoadsTwice as twice
+use Rattle.dotenvy.proofs.Iterations.{can_read_fresh}
 
 -- declarations stop at this failure, or before it, and then what follows does not count
 stops : (look : List (List ℕ × List ℕ) → LookUp) (matters : List (List ℕ × List ℕ) → List ℕ → Bool)

@@ -31,8 +31,8 @@ use Rattle.std.proofs.lemmas.List.{append-nil}
 use Rattle.std.proofs.lemmas.Str.{encodes-chars, encodes-append, chars_past_char}
 use Rattle.dotenv_format.specs.Characters.{double_quote, backslash, equals_sign, line_feed, byte_len}
 use Rattle.std.proofs.lemmas.Bool.Decides.{nat_tests}
-use Rattle.dotenvy.specs.Meaning.{saturated}
-use Rattle.dotenv_format.specs.Slices.{IsSpan}
+use Rattle.dotenvy.specs.inside.ValuePasses.{saturated}
+use Rattle.dotenv_format.specs.inside.Slices.{IsSpan}
 use Rattle.dotenv_format.specs.Value.{is_plain_inside}
 use Rattle.dotenv_format.proofs.Basics.{and_left, and_right, not_is}
 use Rattle.dotenv_format.specs.Written.{needs_backslash, written_character, written_pair, written_text, written_bytes}

@@ -1,13 +1,10 @@
 pub mod Remembered
-pub mod ParsedLine
+pub mod inside
 pub mod Iter
 pub mod Meaning
 pub mod NextItem
-pub mod LineItem
 pub mod LoadsLeft
 pub mod Listed
 pub mod FirstUse
-pub mod ItemRuns
-pub mod ItemLaws
-pub mod ScanLine
-pub mod LoadedLine
+pub mod Iteration
+pub mod Laws

@@ -1,5 +1,25 @@
 -- What the next item is, and what it leaves.
-use Rattle.std.specs.Prelude.{ℕ, ◌≡◌, ◌⊎◌, ◌+◌, List, [], ◌∷◌, ◌++◌, Option, Some, None, Result, Ok, Err, IfSome, IfOk, IsTrue, drop, string_bytes}
+use Rattle.std.specs.Prelude.{
+  ℕ,
+  ◌≡◌,
+  ◌⊎◌,
+  ◌+◌,
+  List,
+  [],
+  ◌∷◌,
+  ◌++◌,
+  Option,
+  Some,
+  None,
+  Result,
+  Ok,
+  Err,
+  IfSome,
+  IfOk,
+  IsTrue,
+  drop,
+  string_bytes,
+}
 use Rattle.std.specs.Str.{chars}
 use Rattle.std.specs.IoError.{error_kind}
 use Rattle.std.specs.declared.string.String.{String}
@@ -8,7 +28,19 @@ use Rattle.dotenv_lines.specs.declared.lines.Stage.TheVariants.{Ended}
 use Rattle.dotenv_base.specs.Errors.{IsMemory, IsNulOf, IsIoOf, IsLineParseOf}
 use Rattle.dotenv_format.specs.PhysicalLines.{physical_lines}
 use Rattle.dotenv_format.specs.LogicalLine.{Logical}
-use Rattle.dotenv_format.specs.Entries.{Failure, LineParse, Io, Nul, Memory, Entry, Declares, Fails, AreFirstLines, Gives, GiveAll}
+use Rattle.dotenv_format.specs.Entries.{
+  Failure,
+  LineParse,
+  Io,
+  Nul,
+  Memory,
+  Entry,
+  Declares,
+  Fails,
+  AreFirstLines,
+  Gives,
+  GiveAll,
+}
 use Rattle.dotenv_format.specs.declared.dialect.Dialect.{Dialect}
 use Rattle.dotenv_format.specs.Decided.{HasDecided}
 use Rattle.dotenv_format.specs.Items.{LookUp, text_of, meaning, with_value}
@@ -88,7 +120,7 @@ pub record TakesEntry (names : Texts) (a : Ahead) (s : IterState) (entries : Lis
   pub goes_on : GoesOn t.lines
   pub remembers :
       RemembersEntry (names_of names s.remembered) (recalled_of s.remembered)
-        (recalled_of t.remembered) entry
+      (recalled_of t.remembered) entry
   pub dialect : t.dialect ≡ s.dialect
 
 -- the item under this environment: the first of the entries left; none where there is none and no fault; or a fault of reading, which stands on no line, where the bytes before it decide no entry
@@ -98,7 +130,7 @@ ItemIs names a s entries None t =
     (entries ≡ []) × (a.fault ≡ None) × (t.lines.stage ≡ Ended) × (t.item_lines ≡ s.item_lines)
 ItemIs names a s entries (Some item) t =
     ((entry : Entry) × IsItem (names_of names s.remembered) entry item
-     × TakesEntry names a s entries entry t)
+    × TakesEntry names a s entries entry t)
     ⊎ (FailsFor a s.lines.input item (λ bytes. HasDecided s.dialect bytes []) t.lines
     × (t.item_lines ≡ no_line))
 

@@ -10,15 +10,15 @@ ghost use Rattle.dotenv_base.specs.Environment.{KeepsNames};
 ghost use Rattle.dotenv_format.specs.Statement.{is_key};
 ghost use Rattle.dotenv_format.specs.Run.{Keep, Replace, run};
 ghost use Rattle.dotenv_format.specs.Loads.{load_result, override_result};
-ghost use Rattle.dotenv_format.specs.Line.{Outcome, Says};
+ghost use Rattle.dotenv_format.specs.Outcome.{Outcome, Says};
 ghost use Rattle.dotenvy.specs.Meaning.{names_of};
-ghost use Rattle.dotenvy.specs.ParsedLine.{IsLineAnswer, Remembers, HasKey};
+ghost use Rattle.dotenvy.specs.inside.ParsedLine.{IsLineAnswer, Remembers, HasKey};
 ghost use Rattle.dotenv_lines.specs.Lines.{fuel_of};
 ghost use Rattle.dotenvy.specs.Remembered.{remembered_of};
-ghost use Rattle.dotenvy.specs.LineItem.{AddsLine, item_lines_then, reading_of, state_of};
+ghost use Rattle.dotenvy.specs.inside.ItemStep.{AddsLine, item_lines_then, reading_of, state_of};
 ghost use Rattle.dotenvy.specs.NextItem.{GivesName, NextItem};
 ghost use Rattle.dotenvy.specs.LoadsLeft.{ChangesKeys, LoadsLeft};
-ghost use Rattle.dotenvy.specs.LoadedLine.{mode_of};
+ghost use Rattle.dotenvy.specs.inside.LoadStep.{mode_of};
 
 use crate::loads::{Mode, load_line};
 use crate::parse::{Pair, ParsedLine, parse_line};
@@ -55,7 +55,7 @@ pub struct Iter<R: Source, A: Allocator = Global> {
 
 impl<R: Source, A: Allocator> Model for Iter<R, A> {
     ghost use Rattle.dotenvy.specs.Iter.{IterState, iter_code};
-    ghost use Rattle.dotenvy.specs.LineItem.{state_of};
+    ghost use Rattle.dotenvy.specs.inside.ItemStep.{state_of};
     ghost use Rattle.dotenvy.specs.Remembered.{remembered_of};
 
     ghost Value = { IterState };

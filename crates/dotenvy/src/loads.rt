@@ -6,7 +6,7 @@ ghost use Rattle.dotenvy.specs.Meaning.{values_of};
 ghost use Rattle.dotenv_base.specs.Environment.{KeepsNames};
 ghost use Rattle.dotenv_format.specs.Run.{Keep, sets};
 ghost use Rattle.dotenvy.specs.LoadsLeft.{ChangesKeys};
-ghost use Rattle.dotenvy.specs.LoadedLine.{mode_of, LoadsLine};
+ghost use Rattle.dotenvy.specs.inside.LoadStep.{mode_of, LoadsLine};
 
 use crate::meaning::Names;
 use crate::parse::{pair_of, scan_line};

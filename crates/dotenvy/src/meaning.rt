@@ -3,8 +3,9 @@ ghost use Rattle.std.specs.Prelude.{◌≡◌, ◌≤◌, ◌+◌, ◌++◌, [],
 ghost use Rattle.dotenv_base.specs.Errors.{IsMemory};
 ghost use Rattle.std.specs.String.{string_capacity};
 ghost use Rattle.std.specs.Str.{chars, encode_utf8_all};
-ghost use Rattle.dotenv_format.specs.NextPiece.{piece_bytes};
-ghost use Rattle.dotenvy.specs.Meaning.{look_up_of, saturated, Measures, MeansBytes, HasRoom, Appends};
+ghost use Rattle.dotenv_format.specs.inside.NextPiece.{piece_bytes};
+ghost use Rattle.dotenvy.specs.Meaning.{look_up_of};
+ghost use Rattle.dotenvy.specs.inside.ValuePasses.{saturated, Measures, MeansBytes, HasRoom, Appends};
 
 use crate::remembered::{Remembered, recall};
 use dotenv_base::environment::Environment;

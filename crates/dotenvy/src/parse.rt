@@ -2,13 +2,13 @@
 ghost use Rattle.std.specs.Prelude.{◌≡◌, ◌⊎◌, ◌<◌, ◌++◌, not, length, List, ℕ, IfOk, IfErr};
 ghost use Rattle.std.specs.Str.{chars};
 ghost use Rattle.dotenv_format.specs.Characters.{byte_len};
-ghost use Rattle.dotenv_format.specs.Line.{Outcome, Says, value_index};
+ghost use Rattle.dotenv_format.specs.Outcome.{Outcome, Says, value_index};
 ghost use Rattle.dotenv_base.specs.Errors.{IsMemory, IsMemoryErr};
 ghost use Rattle.dotenvy.specs.Remembered.{remembered_of};
 ghost use Rattle.dotenvy.specs.Meaning.{look_up_of, names_of};
 ghost use Rattle.dotenv_format.specs.Value.{Piece};
-ghost use Rattle.dotenvy.specs.ScanLine.{IsAssigned, ScansAssigned, Scans, IsPairOf, AreCopiesOf};
-ghost use Rattle.dotenvy.specs.ParsedLine.{IsLineAnswer, Remembers, HasKey};
+ghost use Rattle.dotenvy.specs.inside.FirstPass.{IsAssigned, ScansAssigned, Scans, IsPairOf, AreCopiesOf};
+ghost use Rattle.dotenvy.specs.inside.ParsedLine.{IsLineAnswer, Remembers, HasKey};
 
 use crate::meaning::Names;
 use crate::remembered::{Remembered, remember};

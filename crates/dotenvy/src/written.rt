@@ -4,7 +4,7 @@ ghost use Rattle.std.specs.Prelude.{◌≡◌, ◌≤◌, ◌+◌, ◌++◌, ◌
 ghost use Rattle.std.specs.String.{string_capacity};
 ghost use Rattle.dotenv_format.specs.Statement.{is_key};
 ghost use Rattle.dotenv_format.specs.Characters.{byte_len};
-ghost use Rattle.dotenvy.specs.Meaning.{saturated};
+ghost use Rattle.dotenvy.specs.inside.ValuePasses.{saturated};
 ghost use Rattle.dotenv_base.specs.Errors.{IsIoOf};
 ghost use Rattle.dotenv_format.specs.Written.{needs_backslash, written_character, written_text, written_bytes};
 ghost use Rattle.dotenv_base.specs.Output.{Sends, Writes};

@@ -1,5 +1,26 @@
 -- What the code finds at the front of words: a group, a command, or neither.
-use Rattle.std.specs.Prelude.{ℕ, ◌≡◌, ◌≢◌, false, not, ◌&&◌, nat_eq, List, [], ◌∷◌, ◌++◌, Option, Some, None, Result, Ok, Err, IsTrue, codes, string_bytes}
+use Rattle.std.specs.Prelude.{
+  ℕ,
+  ◌≡◌,
+  ◌≢◌,
+  false,
+  not,
+  ◌&&◌,
+  nat_eq,
+  List,
+  [],
+  ◌∷◌,
+  ◌++◌,
+  Option,
+  Some,
+  None,
+  Result,
+  Ok,
+  Err,
+  IsTrue,
+  codes,
+  string_bytes,
+}
 use Rattle.std.specs.List.{starts_with}
 use Rattle.std.specs.declared.string.String.{String}
 use denote.Ref.{Bor}
@@ -10,7 +31,20 @@ use Rattle.dotenvy_run.specs.declared.command_line.Word.TheVariants as word
 use Rattle.dotenvy_run.specs.declared.failure.Usage.{Usage}
 use Rattle.dotenvy_run.specs.declared.failure.Usage.TheVariants.{MissingCommand, MissingFile, UnknownOption, Memory}
 use Rattle.dotenvy_run.specs.Answers.{texts}
-use Rattle.dotenvy_run.specs.Words.{Form, Group, list, next, file_word, group_words, is_option, begins_group, IsGroup, group_files, is_list, is_next}
+use Rattle.dotenvy_run.specs.Words.{
+  Form,
+  Group,
+  list,
+  next,
+  file_word,
+  group_words,
+  is_option,
+  begins_group,
+  IsGroup,
+  group_files,
+  is_list,
+  is_next,
+}
 
 -- the group that was found means what this one does
 abbrev pub IsGroupOf : Group → Found → Type 0

@@ -14,18 +14,22 @@ HaveUsages =
     -- files in order, and a command with options of its own
     HasUsage (words ("-fa" ∷ "--file=b" ∷ "sh" ∷ "-c" ∷ "-x" ∷ []))
     (Ok (record {
-       list = false; dialect = V15; files = words ("a" ∷ "b" ∷ []);
-       command = words ("sh" ∷ "-c" ∷ "-x" ∷ [])
-     }))
+      list = false;
+      dialect = V15;
+      files = words ("a" ∷ "b" ∷ []);
+      command = words ("sh" ∷ "-c" ∷ "-x" ∷ []);
+    }))
     -- flags may stand anywhere before the command, and twice
     × HasUsage (words ("--next" ∷ "-f=a" ∷ "--next" ∷ "--list" ∷ []))
     (Ok (record { list = true; dialect = Next; files = words ("a" ∷ []); command = [] }))
     -- the word after `-f` or `--file` is a file, whatever it is
     × HasUsage (words ("-f" ∷ "--list" ∷ "--file" ∷ "-x" ∷ "sh" ∷ []))
     (Ok (record {
-       list = false; dialect = V15; files = words ("--list" ∷ "-x" ∷ []);
-       command = words ("sh" ∷ [])
-     }))
+      list = false;
+      dialect = V15;
+      files = words ("--list" ∷ "-x" ∷ []);
+      command = words ("sh" ∷ []);
+    }))
     × HasUsage (words ("-f" ∷ "x" ∷ [])) (Err MissingCommand)
     × HasUsage [] (Err MissingCommand)
     × HasUsage (words ("--list" ∷ "--file" ∷ [])) (Err MissingFile)

@@ -33,8 +33,8 @@ use Rattle.dotenv_format.specs.declared.dialect.Dialect.TheVariants.{V15}
 use Rattle.dotenv_base.specs.declared.errors.Error.{Error}
 use Rattle.dotenv_format.specs.Entries.{Failure, Entry}
 use Rattle.dotenv_base.specs.Environment.{Texts}
-use Rattle.dotenvy.specs.ItemLaws.{LoadsAllLeft, LoadsTakeAll}
-use Rattle.dotenvy.specs.ItemRuns.{CanRead}
+use Rattle.dotenvy.specs.Laws.{LoadsAllLeft, LoadsTakeAll}
+use Rattle.dotenvy.specs.Iteration.{CanRead}
 use Rattle.dotenv_format.specs.Items.{no_values}
 use Rattle.dotenvy.specs.Iter.{fresh}
 use Rattle.dotenv_format.specs.Laws.{HasOneReading}

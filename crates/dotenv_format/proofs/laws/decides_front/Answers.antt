@@ -1,4 +1,4 @@
-use Rattle.dotenv_format.proofs.DecidedFront as front
+use Rattle.dotenv_format.proofs.lines.DecidedFront as front
 use Rattle.dotenv_format.proofs.laws.decides_front.Goals as goal
 
 pub returns : goal.returns

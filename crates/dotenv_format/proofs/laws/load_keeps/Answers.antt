@@ -1,4 +1,4 @@
-use Rattle.dotenv_format.proofs.LoadsTwice as loads
+use Rattle.dotenv_format.proofs.loads.LoadsTwice as loads
 use Rattle.dotenv_format.proofs.laws.load_keeps.Goals as goal
 
 pub returns : goal.returns

@@ -1,4 +1,4 @@
-use Rattle.dotenv_format.proofs.LoadLaws.{run-keep, run-replace}
+use Rattle.dotenv_format.proofs.loads.LoadLaws.{run-keep, run-replace}
 use Rattle.dotenv_format.proofs.laws.loads_in_turn.Goals as goal
 
 pub returns : goal.returns

@@ -1,4 +1,4 @@
-use Rattle.dotenv_format.proofs.DecidedFront.{decided_exist, decided_once}
+use Rattle.dotenv_format.proofs.lines.DecidedFront.{decided_exist, decided_once}
 use Rattle.dotenv_format.proofs.laws.one_decision.Goals as goal
 
 pub returns : goal.returns

@@ -1,4 +1,4 @@
-use Rattle.dotenv_format.proofs.Values.{one_list_of_pieces}
+use Rattle.dotenv_format.proofs.values.Values.{one_list_of_pieces}
 use Rattle.dotenv_format.proofs.laws.one_meaning.Goals as goal
 
 pub returns : goal.returns

@@ -1,4 +1,4 @@
-use Rattle.dotenv_format.proofs.NextLine.{next_exists, one_next}
+use Rattle.dotenv_format.proofs.lines.NextLine.{next_exists, one_next}
 use Rattle.dotenv_format.proofs.laws.one_next.Goals as goal
 
 pub returns : goal.returns

@@ -1,4 +1,4 @@
-use Rattle.dotenv_format.proofs.Outcomes.{outcome_of, outcome_of-is, one_outcome}
+use Rattle.dotenv_format.proofs.statements.Outcomes.{outcome_of, outcome_of-is, one_outcome}
 use Rattle.dotenv_format.proofs.laws.one_outcome.Goals as goal
 
 pub returns : goal.returns

@@ -1,4 +1,4 @@
-use Rattle.dotenv_format.proofs.EntriesOnce.{entries_exist, entries_once}
+use Rattle.dotenv_format.proofs.lines.EntriesOnce.{entries_exist, entries_once}
 use Rattle.dotenv_format.proofs.laws.one_reading.Goals as goal
 
 pub returns : goal.returns

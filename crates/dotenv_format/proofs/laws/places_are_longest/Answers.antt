@@ -1,4 +1,4 @@
-use Rattle.dotenv_format.proofs.LongestFronts.{places_are_longest}
+use Rattle.dotenv_format.proofs.values.LongestFronts.{places_are_longest}
 use Rattle.dotenv_format.proofs.laws.places_are_longest.Goals as goal
 
 pub returns : goal.returns

@@ -1,4 +1,4 @@
-use Rattle.dotenv_format.proofs.EntriesOnce.{reads_back_once}
+use Rattle.dotenv_format.proofs.lines.EntriesOnce.{reads_back_once}
 use Rattle.dotenv_format.proofs.laws.reads_back.Goals as goal
 
 pub returns : goal.returns

@@ -1,8 +1,8 @@
 use Rattle.std.proofs.Common.{◌≡◌, sym, ◌∙◌, true, false}
 use Rattle.std.specs.Prelude.{bytes_eq}
 use Rattle.std.specs.Str.{chars}
-use Rattle.dotenv_format.specs.ParseStatement.{second_key, export, fails}
-use Rattle.dotenv_format.proofs.StatementParts.{eq_export, choose_true, choose_false}
+use Rattle.dotenv_format.specs.inside.ParseStatement.{second_key, export, fails}
+use Rattle.dotenv_format.proofs.statements.StatementParts.{eq_export, choose_true, choose_false}
 use Rattle.dotenv_format.proofs.statement.after_first_key.Goals as goal
 
 pub returns-then-eq : goal.returns-then-eq

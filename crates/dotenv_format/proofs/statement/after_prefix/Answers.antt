@@ -1,5 +1,5 @@
 use Rattle.std.proofs.Common.{◌∙◌}
-use Rattle.dotenv_format.specs.ParseStatement.{after_plain_key}
+use Rattle.dotenv_format.specs.inside.ParseStatement.{after_plain_key}
 use Rattle.dotenv_format.proofs.statement.after_prefix.Goals as goal
 
 pub returns : goal.returns

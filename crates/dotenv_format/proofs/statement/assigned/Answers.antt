@@ -1,8 +1,8 @@
 use Rattle.std.proofs.Common.{ap, ◌∙◌}
 use Rattle.std.specs.Str.{chars}
-use Rattle.dotenv_format.specs.ParseStatement.{after_equals, assigned_of, assigns}
-use Rattle.dotenv_format.proofs.Slices.{no_characters}
-use Rattle.dotenv_format.proofs.StatementParts.{equals_then-none, equals_then-equals, chars-trim_start}
+use Rattle.dotenv_format.specs.inside.ParseStatement.{after_equals, assigned_of, assigns}
+use Rattle.dotenv_format.proofs.bytes.Slices.{no_characters}
+use Rattle.dotenv_format.proofs.statements.StatementParts.{equals_then-none, equals_then-equals, chars-trim_start}
 use Rattle.dotenv_format.proofs.statement.assigned.Goals as goal
 
 pub returns-in_err-first : goal.returns-in_err-first

@@ -1,7 +1,7 @@
 use Rattle.std.proofs.Common.{sym, ap, ◌∙◌}
 use Rattle.std.specs.Str.{chars}
-use Rattle.dotenv_format.specs.ParseStatement.{skipping}
-use Rattle.dotenv_format.proofs.StatementParts.{key_then-span, key_then-fails, chars-trim_start}
+use Rattle.dotenv_format.specs.inside.ParseStatement.{skipping}
+use Rattle.dotenv_format.proofs.statements.StatementParts.{key_then-span, key_then-fails, chars-trim_start}
 use Rattle.dotenv_format.proofs.statement.split_key.Goals as goal
 
 pub returns-then-begins_with_key : goal.returns-then-begins_with_key

@@ -1,6 +1,6 @@
 use Rattle.std.proofs.Common.{ap, ◌∙◌}
-use Rattle.dotenv_format.specs.ParseStatement.{after_first_key, key_then, skipping}
-use Rattle.dotenv_format.proofs.StatementParts.{chars-trim_start}
+use Rattle.dotenv_format.specs.inside.ParseStatement.{after_first_key, key_then, skipping}
+use Rattle.dotenv_format.proofs.statements.StatementParts.{chars-trim_start}
 use Rattle.dotenv_format.proofs.statement.split_statement.Goals as goal
 
 pub returns : goal.returns

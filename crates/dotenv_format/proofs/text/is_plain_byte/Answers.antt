@@ -1,7 +1,7 @@
 use Rattle.std.proofs.Common.{refl, arith}
 use Rattle.dotenv_format.specs.declared.text.TheConstants.{KINDS}
 use Rattle.dotenv_format.specs.Value.{is_plain_outside}
-use Rattle.dotenv_format.proofs.ByteTables.{all_below, from_table}
+use Rattle.dotenv_format.proofs.bytes.ByteTables.{all_below, from_table}
 use Rattle.dotenv_format.proofs.text.is_plain_byte.Goals as goal
 
 pub returns : goal.returns

@@ -1,7 +1,7 @@
 use Rattle.std.proofs.Common.{rules, ◌∙◌, ◌+◌, ◌-◌, ap, length, Fits, w64, arith}
 use Rattle.std.proofs.lemmas.List.Sums.{prefix_len-le-length}
-use Rattle.dotenv_format.specs.Slices.{is_of_kind}
-use Rattle.dotenv_format.proofs.ByteRuns.{run_behind}
+use Rattle.dotenv_format.specs.inside.Slices.{is_of_kind}
+use Rattle.dotenv_format.proofs.bytes.ByteRuns.{run_behind}
 use Rattle.dotenv_format.proofs.text.kind_run.Goals as goal
 
 pub overflow_add-result : goal.overflow_add-result

@@ -1,6 +1,6 @@
 use Rattle.std.proofs.Common.{rules, ◌≡◌, ◌++◌, ◌∙◌, sym, None}
-use Rattle.dotenv_format.specs.Slices.{is_of_kind}
-use Rattle.dotenv_format.proofs.ByteRuns.{passes_block}
+use Rattle.dotenv_format.specs.inside.Slices.{is_of_kind}
+use Rattle.dotenv_format.proofs.bytes.ByteRuns.{passes_block}
 use Rattle.dotenv_format.proofs.text.pass_blocks.Goals as goal
 
 pub blocks-2-preserved : goal.blocks-2-preserved

@@ -1,5 +1,5 @@
 use Rattle.std.proofs.Common.{length}
-use Rattle.dotenv_format.specs.Slices.{PassesBytes, is_of_kind}
+use Rattle.dotenv_format.specs.inside.Slices.{PassesBytes, is_of_kind}
 use Rattle.dotenv_format.proofs.text.pass_blocks.Given as goal
 
 -- the bytes before the rest are of the kind

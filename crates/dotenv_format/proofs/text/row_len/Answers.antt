@@ -1,7 +1,7 @@
 use Rattle.std.proofs.Common.{◌∙◌, ap}
 use Rattle.std.specs.Prelude.{◌==◌}
 use Rattle.std.specs.List.{prefix_len}
-use Rattle.dotenv_format.proofs.ByteRuns.{run_to_position}
+use Rattle.dotenv_format.proofs.bytes.ByteRuns.{run_to_position}
 use Rattle.dotenv_format.proofs.text.row_len.Goals as goal
 
 pub returns : goal.returns

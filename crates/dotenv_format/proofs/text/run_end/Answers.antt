@@ -5,8 +5,8 @@ use Rattle.memchr.specs.Find.{IsFirstByte, is_byte2}
 use Rattle.dotenv_format.specs.Characters.{double_quote, backslash, is_space_or_tab}
 use Rattle.dotenv_format.specs.declared.text.Class.TheVariants.{Plain}
 use Rattle.dotenv_format.specs.declared.text.Quoting.TheVariants.{Unquoted, DoubleQuoted}
-use Rattle.dotenv_format.specs.Slices.{is_name_byte, in_run}
-use Rattle.dotenv_format.proofs.ByteRuns.{run_to_position, run_inside, run_quoted, no_quoted_run}
+use Rattle.dotenv_format.specs.inside.Slices.{is_name_byte, in_run}
+use Rattle.dotenv_format.proofs.bytes.ByteRuns.{run_to_position, run_inside, run_quoted, no_quoted_run}
 use Rattle.dotenv_format.proofs.text.run_end.Goals as goal
 
 pub returns-in-Key : goal.returns-in-Key

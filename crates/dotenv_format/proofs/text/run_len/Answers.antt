@@ -1,8 +1,8 @@
 use Rattle.std.proofs.Common.{sym, ap, ◌∙◌, subst}
 use Rattle.std.specs.List.{prefix_len}
-use Rattle.dotenv_format.specs.Slices.{PassesTo, has_character, in_run}
-use Rattle.dotenv_format.proofs.ByteRuns.{run_passes}
-use Rattle.dotenv_format.proofs.ByteClasses.{tells}
+use Rattle.dotenv_format.specs.inside.Slices.{PassesTo, has_character, in_run}
+use Rattle.dotenv_format.proofs.bytes.ByteRuns.{run_passes}
+use Rattle.dotenv_format.proofs.bytes.ByteClasses.{tells}
 use Rattle.dotenv_format.proofs.text.run_len.Goals as goal
 
 pub returns : goal.returns

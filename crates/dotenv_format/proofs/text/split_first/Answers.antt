@@ -1,6 +1,6 @@
 use Rattle.std.proofs.Common.{ap, sym, ◌∙◌, ◌++◌}
 use Rattle.std.specs.Char.{encode_utf8}
-use Rattle.dotenv_format.proofs.Slices.{begins_with_first}
+use Rattle.dotenv_format.proofs.bytes.Slices.{begins_with_first}
 use Rattle.dotenv_format.proofs.text.split_first.Goals as goal
 
 pub returns : goal.returns

@@ -1,8 +1,8 @@
 use Rattle.std.proofs.Common.{refl, sym, subst, ◌∙◌}
 use Rattle.std.specs.Str.{IsUtf8}
 use Rattle.std.proofs.lemmas.Str.{IsUtf8-drop}
-use Rattle.dotenv_format.specs.Slices.{has_character}
-use Rattle.dotenv_format.proofs.ByteRuns.{
+use Rattle.dotenv_format.specs.inside.Slices.{has_character}
+use Rattle.dotenv_format.proofs.bytes.ByteRuns.{
   passed_none,
   passed_run,
   passed_first,

@@ -1,6 +1,6 @@
 use Rattle.std.proofs.Common.{length}
-use Rattle.dotenv_format.specs.Slices.{has_character}
-use Rattle.dotenv_format.proofs.ByteRuns.{Passed}
+use Rattle.dotenv_format.specs.inside.Slices.{has_character}
+use Rattle.dotenv_format.proofs.bytes.ByteRuns.{Passed}
 use denote.Text.{Utf8}
 use denote.Shadow.{shadow}
 use Rattle.dotenv_format.proofs.text.split_while.Given as goal

@@ -1,7 +1,7 @@
 use Rattle.std.proofs.Common.{sym, refl, subst, ◌∙◌, ap, take}
 use Rattle.std.specs.Str.{chars, IsCharBoundary}
-use Rattle.dotenv_format.proofs.Slices.{past_first, take_first}
-use Rattle.dotenv_format.proofs.NextPiece.{name_ends, name_open, name_left, name_then}
+use Rattle.dotenv_format.proofs.bytes.Slices.{past_first, take_first}
+use Rattle.dotenv_format.proofs.values.NextPiece.{name_ends, name_open, name_left, name_then}
 use Rattle.dotenv_format.proofs.value.after_name.Goals as goal
 
 pub split_at-requires : goal.split_at-requires

@@ -1,4 +1,4 @@
-use Rattle.dotenv_format.proofs.NextPiece.{ends_unquoted, open_double, escape_ends, escape_open}
+use Rattle.dotenv_format.proofs.values.NextPiece.{ends_unquoted, open_double, escape_ends, escape_open}
 use Rattle.dotenv_format.proofs.value.at_end.Goals as goal
 
 pub returns-in-Unquoted-clause-after_part : goal.returns-in-Unquoted-clause-after_part

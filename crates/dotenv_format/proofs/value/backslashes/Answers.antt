@@ -1,5 +1,5 @@
 use Rattle.std.proofs.Common.{◌+◌, ◌-◌, ◌*◌, ◌/◌, ◌%◌, ap, ◌∙◌, take, drop, arith}
-use Rattle.dotenv_format.proofs.BackslashRows.{row_boundary, gives_backslashes}
+use Rattle.dotenv_format.proofs.values.BackslashRows.{row_boundary, gives_backslashes}
 use Rattle.dotenv_format.proofs.value.backslashes.Goals as goal
 
 pub split_at-requires : goal.split_at-requires

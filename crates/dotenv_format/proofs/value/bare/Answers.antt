@@ -1,8 +1,8 @@
 use Rattle.std.proofs.Common.{[]}
 use Rattle.std.specs.Str.{chars}
-use Rattle.dotenv_format.specs.Slices.{quoting_of}
-use Rattle.dotenv_format.specs.ReadValue.{naming}
-use Rattle.dotenv_format.proofs.NextPiece.{next_after, name_run, no_brace_after}
+use Rattle.dotenv_format.specs.inside.Slices.{quoting_of}
+use Rattle.dotenv_format.specs.inside.ReadValue.{naming}
+use Rattle.dotenv_format.proofs.values.NextPiece.{next_after, name_run, no_brace_after}
 use Rattle.dotenv_format.proofs.value.bare.Goals as goal
 
 pub after_name-requires-clause-no_brace : goal.after_name-requires-clause-no_brace

@@ -1,8 +1,8 @@
 use Rattle.std.proofs.Common.{◌≡◌, ◌∙◌, ap, sym, refl}
 use Rattle.std.specs.Str.{chars}
-use Rattle.dotenv_format.specs.Slices.{quoting_of}
-use Rattle.dotenv_format.specs.NextPiece.{other_quoting}
-use Rattle.dotenv_format.proofs.NextPiece.{after_quotes, even_quotes, odd_quotes, gives_quotes}
+use Rattle.dotenv_format.specs.inside.Slices.{quoting_of}
+use Rattle.dotenv_format.specs.inside.NextPiece.{other_quoting}
+use Rattle.dotenv_format.proofs.values.NextPiece.{after_quotes, even_quotes, odd_quotes, gives_quotes}
 use Rattle.dotenv_format.proofs.value.double_quote.Goals as goal
 use Rattle.dotenv_format.proofs.value.double_quote.Goals.{then-more-eq0, else-more-eq0}
 

@@ -1,6 +1,6 @@
 use Rattle.std.specs.Str.{chars}
-use Rattle.dotenv_format.specs.Slices.{quoting_of}
-use Rattle.dotenv_format.proofs.NextPiece.{gives_escape, no_escape}
+use Rattle.dotenv_format.specs.inside.Slices.{quoting_of}
+use Rattle.dotenv_format.proofs.values.NextPiece.{gives_escape, no_escape}
 use Rattle.dotenv_format.proofs.value.escape_one.Goals as goal
 
 pub returns-in-None : goal.returns-in-None

@@ -1,10 +1,10 @@
 use Rattle.std.proofs.Common.{[]}
 use Rattle.std.specs.Str.{chars}
-use Rattle.dotenv_format.specs.Slices.{quoting_of}
+use Rattle.dotenv_format.specs.inside.Slices.{quoting_of}
 use Rattle.dotenv_format.specs.declared.value.Kind.TheVariants.{Backslash, SingleQuote, DoubleQuote, Dollar, SpaceOrTab}
-use Rattle.dotenv_format.specs.ReadValue.{base, escaping, in_single, naming, in_tail}
-use Rattle.dotenv_format.specs.NextPiece.{other_quoting}
-use Rattle.dotenv_format.proofs.NextPiece.{goes_as, next_after, first_read, first_shorter, begins_plain}
+use Rattle.dotenv_format.specs.inside.ReadValue.{base, escaping, in_single, naming, in_tail}
+use Rattle.dotenv_format.specs.inside.NextPiece.{other_quoting}
+use Rattle.dotenv_format.proofs.values.NextPiece.{goes_as, next_after, first_read, first_shorter, begins_plain}
 use Rattle.dotenv_format.proofs.value.next_piece.Goals as goal
 
 pub returns-in-None-clause-next : goal.returns-in-None-clause-next

@@ -1,4 +1,4 @@
-use Rattle.dotenv_format.proofs.NextPiece.{gives_plain}
+use Rattle.dotenv_format.proofs.values.NextPiece.{gives_plain}
 use Rattle.dotenv_format.proofs.value.plain.Goals as goal
 
 pub returns-clause-next : goal.returns-clause-next

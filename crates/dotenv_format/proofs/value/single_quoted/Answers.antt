@@ -2,8 +2,8 @@ use Rattle.std.proofs.Common.{lit<}
 use Rattle.std.specs.Prelude.{◌==◌}
 use Rattle.std.specs.Str.{chars}
 use Rattle.dotenv_format.specs.Characters.{single_quote}
-use Rattle.dotenv_format.proofs.Slices.{cut_once, characters_fail}
-use Rattle.dotenv_format.proofs.NextPiece.{gives_single, single_open}
+use Rattle.dotenv_format.proofs.bytes.Slices.{cut_once, characters_fail}
+use Rattle.dotenv_format.proofs.values.NextPiece.{gives_single, single_open}
 use Rattle.dotenv_format.proofs.value.single_quoted.Goals as goal
 
 pub returns-in-Some : goal.returns-in-Some

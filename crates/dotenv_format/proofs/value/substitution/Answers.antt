@@ -2,11 +2,11 @@ use Rattle.std.proofs.Common.{[], ◌∙◌, ◌++◌, ap, sym}
 use Rattle.std.specs.Char.{encode_utf8}
 use Rattle.std.specs.Str.{chars}
 use Rattle.dotenv_format.specs.Characters.{left_brace}
-use Rattle.dotenv_format.specs.Slices.{quoting_of}
-use Rattle.dotenv_format.specs.ReadValue.{naming, bracing}
+use Rattle.dotenv_format.specs.inside.Slices.{quoting_of}
+use Rattle.dotenv_format.specs.inside.ReadValue.{naming, bracing}
 use Rattle.std.proofs.lemmas.Str.{chars_past_char}
-use Rattle.dotenv_format.proofs.Slices.{not_first}
-use Rattle.dotenv_format.proofs.NextPiece.{next_after, brace_read}
+use Rattle.dotenv_format.proofs.bytes.Slices.{not_first}
+use Rattle.dotenv_format.proofs.values.NextPiece.{next_after, brace_read}
 use Rattle.dotenv_format.proofs.value.substitution.Goals as goal
 
 pub bare-requires : goal.bare-requires

@@ -1,6 +1,6 @@
 use Rattle.std.proofs.Common.{sym}
 use Rattle.std.specs.Str.{chars}
-use Rattle.dotenv_format.proofs.NextPiece.{tail_ends, tail_fault}
+use Rattle.dotenv_format.proofs.values.NextPiece.{tail_ends, tail_fault}
 use Rattle.dotenv_format.proofs.value.tail.Goals as goal
 
 pub returns-then-is_empty_or_comment : goal.returns-then-is_empty_or_comment

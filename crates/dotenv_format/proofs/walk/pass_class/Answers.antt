@@ -2,8 +2,8 @@ use Rattle.std.proofs.Common.{subst, sym}
 use Rattle.dotenv_format.specs.declared.walk.LineMode.{LineMode}
 use Rattle.dotenv_format.specs.declared.walk.LineMode.TheVariants.{Outside, Inside}
 use Rattle.dotenv_format.specs.declared.text.Class.TheVariants.{Token, Quoted}
-use Rattle.dotenv_format.specs.LineModes.{PassesRun}
-use Rattle.dotenv_format.proofs.LineTexts.{run-passes, run-none, token_stays, quoted_stays}
+use Rattle.dotenv_format.specs.inside.Walk.{PassesRun}
+use Rattle.dotenv_format.proofs.lines.LineTexts.{run-passes, run-none, token_stays, quoted_stays}
 use Rattle.dotenv_format.proofs.walk.pass_class.Goals as goal
 
 pub returns-in-Outside : goal.returns-in-Outside

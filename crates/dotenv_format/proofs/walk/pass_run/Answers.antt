@@ -1,4 +1,4 @@
-use Rattle.dotenv_format.proofs.LineTexts.{run-none}
+use Rattle.dotenv_format.proofs.lines.LineTexts.{run-none}
 use Rattle.dotenv_format.proofs.walk.pass_run.Goals as goal
 
 pub returns-then-next_stands_for_itself : goal.returns-then-next_stands_for_itself

@@ -1,4 +1,4 @@
-use Rattle.dotenv_format.proofs.LineTexts.{
+use Rattle.dotenv_format.proofs.lines.LineTexts.{
   walking_start,
   walking_run,
   walking_step,

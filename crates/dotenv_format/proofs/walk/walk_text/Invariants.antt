@@ -1,7 +1,7 @@
 use Rattle.std.proofs.Common.{length}
 use denote.Shadow.{shadow}
 use denote.Text.{Utf8}
-use Rattle.dotenv_format.proofs.LineTexts.{Walking}
+use Rattle.dotenv_format.proofs.lines.LineTexts.{Walking}
 use Rattle.dotenv_format.proofs.walk.walk_text.Given as goal
 
 abbrev pub invariant-walking : goal.invariant-walking

@@ -5,7 +5,7 @@ use Rattle.std.proofs.lemmas.Result.{err_from_is_err_and}
 use Rattle.dotenv_base.specs.Source.{Ahead}
 use Rattle.dotenv_lines.specs.Input.{supply}
 use Rattle.dotenv_lines.specs.declared.lines.Joined.{Joined}
-use Rattle.dotenv_lines.specs.JoinedLines.{TakesJoined, joined_at_end}
+use Rattle.dotenv_lines.specs.inside.JoinedLines.{TakesJoined, joined_at_end}
 use Rattle.dotenv_lines.specs.declared.physical_line.Taken.TheVariants.{
   Going as taken_going,
   Ended as taken_ended,

@@ -2,7 +2,7 @@ use Rattle.std.proofs.Common.{rules, lit<, ◌≡◌, ◌∙◌, sym, true, leng
 use Rattle.std.specs.Prelude.{string_len}
 use Rattle.std.proofs.lemmas.Str.{IsUtf8-string_bytes}
 use Rattle.std.proofs.lemmas.Str.Pattern.{ends_char}
-use Rattle.dotenv_format.proofs.LineTexts.{chars_popped, chars_no_return}
+use Rattle.dotenv_format.proofs.lines.LineTexts.{chars_popped, chars_no_return}
 use Rattle.dotenv_lines.proofs.physical_line.drop_carriage_return.Goals as goal
 
 pub returns-then-ends_with : goal.returns-then-ends_with

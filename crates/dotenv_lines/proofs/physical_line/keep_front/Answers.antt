@@ -2,8 +2,8 @@ use Rattle.std.proofs.Common.{◌≡◌, ◌∙◌, ap, ◌++◌, string_bytes}
 use Rattle.std.specs.Prelude.{◌==◌}
 use Rattle.std.specs.Str.{chars}
 use Rattle.std.proofs.lemmas.Str.{IsUtf8-string_bytes, chars-append}
-use Rattle.dotenv_format.specs.LineModes.{kept_before}
-use Rattle.dotenv_format.proofs.LineTexts.{kept_at_line_feed, kept_elsewhere}
+use Rattle.dotenv_format.specs.inside.Walk.{kept_before}
+use Rattle.dotenv_format.proofs.lines.LineTexts.{kept_at_line_feed, kept_elsewhere}
 use Rattle.dotenv_lines.proofs.physical_line.keep_front.Goals as goal
 use Rattle.dotenv_lines.proofs.physical_line.keep_front.Goals.{then-end-eq10, else-end-eq10}
 

@@ -1,7 +1,7 @@
 use Rattle.std.proofs.Common.{ap, refl, subst, sym}
 use Rattle.dotenv_lines.specs.declared.physical_line.After.{After}
 use Rattle.dotenv_lines.specs.Input.{InputState}
-use Rattle.dotenv_lines.specs.TakenLine.{PieceFalls, TakesPiece}
+use Rattle.dotenv_lines.specs.inside.TakenLine.{PieceFalls, TakesPiece}
 use Rattle.dotenv_lines.proofs.LinePieces.{piece-taken, piece-falls}
 use Rattle.dotenv_lines.proofs.AskedReads.{asks_none}
 use Rattle.dotenv_lines.proofs.physical_line.take_piece.Goals as goal

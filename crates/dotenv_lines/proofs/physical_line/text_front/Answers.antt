@@ -1,6 +1,6 @@
 use Rattle.std.proofs.Common.{◌≡◌, ◌∙◌, ap, subst, sym, take}
 use Rattle.std.specs.Str.{IsValidUpTo}
-use Rattle.dotenv_lines.specs.TakenLine.{IsTextFront}
+use Rattle.dotenv_lines.specs.inside.TakenLine.{IsTextFront}
 use Rattle.dotenv_lines.proofs.LinePieces.{front-valid, read-text}
 use Rattle.dotenv_lines.proofs.physical_line.text_front.Goals as goal
 

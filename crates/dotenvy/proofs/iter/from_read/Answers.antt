@@ -6,7 +6,7 @@ use Rattle.dotenv_format.specs.Run.{Keep, run}
 use Rattle.dotenv_format.specs.Loads.{load_result}
 use Rattle.dotenvy.specs.Iter.{fresh}
 use Rattle.dotenvy.specs.LoadsLeft.{LoadsLeft}
-use Rattle.dotenv_format.proofs.LoadLaws.{run-keep}
+use Rattle.dotenv_format.proofs.loads.LoadLaws.{run-keep}
 use Rattle.dotenvy.proofs.LoadSteps.{loads_refused, loads_by, same-back}
 use Rattle.dotenvy.proofs.iter.from_read.Goals as goal
 

@@ -6,7 +6,7 @@ use Rattle.dotenv_format.specs.Run.{Replace, run}
 use Rattle.dotenv_format.specs.Loads.{override_result}
 use Rattle.dotenvy.specs.Iter.{fresh}
 use Rattle.dotenvy.specs.LoadsLeft.{LoadsLeft}
-use Rattle.dotenv_format.proofs.LoadLaws.{run-replace}
+use Rattle.dotenv_format.proofs.loads.LoadLaws.{run-replace}
 use Rattle.dotenvy.proofs.LoadSteps.{loads_refused, loads_by, same-back}
 use Rattle.dotenvy.proofs.iter.from_read_override.Goals as goal
 

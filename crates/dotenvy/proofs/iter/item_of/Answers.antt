@@ -1,8 +1,8 @@
 use Rattle.std.proofs.Common.{rules, ◌≡◌, sym, ◌∙◌}
 use Rattle.std.proofs.lemmas.Bool.{false≢true}
 use Rattle.dotenvy.specs.Remembered.{remembered_of}
-use Rattle.dotenvy.specs.LineItem.{reading_of}
-use Rattle.dotenvy.proofs.LineItems.{line_added, lines_said, refused_lines, kept_lines}
+use Rattle.dotenvy.specs.inside.ItemStep.{reading_of}
+use Rattle.dotenvy.proofs.ItemSteps.{line_added, lines_said, refused_lines, kept_lines}
 use Rattle.dotenvy.proofs.iter.item_of.Goals as goal
 use Rattle.dotenvy.proofs.iter.item_of.Goals.{then-is_refused, else-is_refused}
 

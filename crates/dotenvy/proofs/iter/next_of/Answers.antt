@@ -4,7 +4,7 @@ use Rattle.dotenv_base.specs.Source.{Ahead}
 use Rattle.dotenv_lines.specs.Lines.{LinesState}
 use Rattle.dotenvy.specs.Remembered.{remembered_of}
 use Rattle.dotenv_lines.specs.Splitter.{SplitterState}
-use Rattle.dotenvy.specs.LineItem.{item_lines_then, reading_of, state_of}
+use Rattle.dotenvy.specs.inside.ItemStep.{item_lines_then, reading_of, state_of}
 use Rattle.dotenv_lines.specs.declared.lines.Stage.TheVariants.{Open}
 use Rattle.dotenv_lines.specs.Input.{InputState, AsksReads}
 use Rattle.dotenv_lines.proofs.AskedReads.{asks_none, asks_line, asks_weaker}

@@ -4,7 +4,7 @@ use Rattle.dotenv_format.specs.Entries.{Entry}
 use Rattle.dotenv_base.specs.Source.{Ahead}
 use Rattle.dotenv_lines.specs.Input.{AsksReads, IsTold}
 use Rattle.dotenv_lines.specs.Lines.{fuel_of}
-use Rattle.dotenvy.specs.LineItem.{state_of}
+use Rattle.dotenvy.specs.inside.ItemStep.{state_of}
 use Rattle.dotenv_lines.specs.Reading.{HasLeft}
 use Rattle.dotenvy.specs.Remembered.{remembered_of}
 use Rattle.dotenvy.proofs.NextItems.{Passed}

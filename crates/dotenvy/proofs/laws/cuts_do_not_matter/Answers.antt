@@ -1,4 +1,4 @@
-use Rattle.dotenvy.proofs.ItemRuns.{give_the_same}
+use Rattle.dotenvy.proofs.Iterations.{give_the_same}
 use Rattle.dotenvy.proofs.WholeLoads.{loads_the_same, overrides_the_same}
 use Rattle.dotenvy.proofs.laws.cuts_do_not_matter.Goals as goal
 

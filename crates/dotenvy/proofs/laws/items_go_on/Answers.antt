@@ -1,4 +1,4 @@
-use Rattle.dotenvy.proofs.ItemRuns as runs
+use Rattle.dotenvy.proofs.Iterations as runs
 use Rattle.dotenvy.proofs.laws.items_go_on.Goals as goal
 
 pub returns : goal.returns

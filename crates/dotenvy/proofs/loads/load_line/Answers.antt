@@ -5,10 +5,10 @@ use Rattle.dotenv_format.specs.Statement.{is_key}
 use Rattle.dotenvy.specs.Remembered.{remembered_of}
 use Rattle.dotenvy.specs.Meaning.{values_of, names_of}
 use Rattle.dotenv_format.specs.Run.{sets}
-use Rattle.dotenvy.specs.LoadedLine.{mode_of}
-use Rattle.dotenvy.specs.ScanLine.{IsDeclared, Scans}
+use Rattle.dotenvy.specs.inside.LoadStep.{mode_of}
+use Rattle.dotenvy.specs.inside.FirstPass.{IsDeclared, Scans}
 use Rattle.dotenv_base.proofs.Keys.{name_ok-key}
-use Rattle.dotenvy.proofs.LoadedLines.{fault_loaded, passed_loaded, set_loaded, set_keeps, set_changes_keys}
+use Rattle.dotenvy.proofs.LineLoads.{fault_loaded, passed_loaded, set_loaded, set_keeps, set_changes_keys}
 use Rattle.dotenvy.proofs.loads.load_line.Goals as goal
 
 pub returns-in-Err-clause-loads : goal.returns-in-Err-clause-loads

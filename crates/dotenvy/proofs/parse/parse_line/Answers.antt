@@ -2,7 +2,7 @@ use Rattle.std.proofs.Common.{subst, Ok, inr}
 use Rattle.std.specs.Str.{chars}
 use Rattle.dotenvy.specs.Remembered.{remembered_of}
 use Rattle.dotenvy.specs.Meaning.{names_of}
-use Rattle.dotenvy.specs.ScanLine.{IsDeclared, Scans}
+use Rattle.dotenvy.specs.inside.FirstPass.{IsDeclared, Scans}
 use Rattle.dotenvy.proofs.LinePasses.{pair_answer, pair_statement, pair_remembered, fault_answer}
 use Rattle.dotenvy.proofs.parse.parse_line.Goals as goal
 

@@ -1,10 +1,10 @@
 use Rattle.std.proofs.Common.{◌∙◌, ap, sym}
 use Rattle.std.specs.Str.{chars}
 use Rattle.dotenv_format.specs.Characters.{is_empty_or_comment}
-use Rattle.dotenv_format.specs.Line.{is_nothing}
+use Rattle.dotenv_format.specs.Outcome.{is_nothing}
 use Rattle.dotenvy.specs.Meaning.{look_up_of}
-use Rattle.dotenv_format.specs.ParseStatement.{parse}
-use Rattle.dotenv_format.proofs.StatementParts.{chars-trim_start, chars-trim_end}
+use Rattle.dotenv_format.specs.inside.ParseStatement.{parse}
+use Rattle.dotenv_format.proofs.statements.StatementParts.{chars-trim_start, chars-trim_end}
 use Rattle.dotenvy.proofs.LinePasses.{declared, value_fault, left_of_statement, statement_fault}
 use Rattle.dotenvy.proofs.parse.scan_line.Goals as goal
 

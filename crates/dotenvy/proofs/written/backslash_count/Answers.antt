@@ -2,8 +2,8 @@ use Rattle.std.proofs.Common.{◌∙◌, ap, length, refl}
 use Rattle.std.proofs.lemmas.Iterator.Consumers.{YieldsList-from_first, count_from_yields_List}
 use Rattle.memchr.specs.Find.{places}
 use Rattle.dotenv_format.specs.Written.{needs_backslash}
-use Rattle.dotenv_format.proofs.BytePlaces.{places_count}
-use Rattle.dotenv_format.proofs.ByteRuns.{characters_kept}
+use Rattle.dotenv_format.proofs.bytes.BytePlaces.{places_count}
+use Rattle.dotenv_format.proofs.bytes.ByteRuns.{characters_kept}
 use Rattle.dotenvy.proofs.WrittenBytes.{ascii_backslash}
 use Rattle.dotenvy.proofs.written.backslash_count.Goals as goal
 

@@ -2,7 +2,7 @@ use Rattle.std.proofs.Common.{◌≡◌, ◌+◌, ◌-◌, ◌≤◌}
 use Rattle.std.specs.Prelude.{◌^◌}
 use Rattle.dotenv_format.specs.Characters.{byte_len}
 use Rattle.dotenv_format.specs.Written.{written_text}
-use Rattle.dotenvy.specs.Meaning.{saturated}
+use Rattle.dotenvy.specs.inside.ValuePasses.{saturated}
 use Rattle.dotenvy.specs.Listed.{pairs_of}
 use Rattle.dotenvy.proofs.WrittenBytes.{texts}
 use Rattle.dotenvy.proofs.written.listing_len.Given as goal

@@ -2,7 +2,7 @@ use Rattle.std.proofs.Common.{rules, ◌≡◌, ◌+◌, ◌-◌, ◌≤◌, len
 use Rattle.std.specs.List.{copy_within}
 use Rattle.std.proofs.lemmas.List.{with_items_is}
 use borrow.Rule.Slice.PartMut.{put_mid, mid_of, same_len_mid}
-use Rattle.dotenv_format.proofs.Buffers.{unread-moved, unread-more, unread-len}
+use Rattle.dotenv_format.proofs.bytes.Buffers.{unread-moved, unread-more, unread-len}
 use Rattle.dotenv_lines.proofs.buffer.Buffer.read_from.Goals as goal
 
 pub returns : goal.returns

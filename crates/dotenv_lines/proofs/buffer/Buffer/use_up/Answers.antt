@@ -1,5 +1,5 @@
 use Rattle.std.proofs.Common.{rules, ◌≡◌, length, drop, ap, ◌∙◌, arith, vec_len}
-use Rattle.dotenv_format.proofs.Buffers.{unread-used, unread-len}
+use Rattle.dotenv_format.proofs.bytes.Buffers.{unread-used, unread-len}
 use Rattle.dotenv_lines.proofs.buffer.Buffer.use_up.Goals as goal
 
 pub returns : goal.returns

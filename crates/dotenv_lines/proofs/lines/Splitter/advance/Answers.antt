@@ -1,7 +1,7 @@
 use Rattle.std.proofs.Common.{◌∙◌, ap, refl, subst, inr, List, ℕ, string_bytes}
 use Rattle.dotenv_lines.specs.Input.{InputState, IsFinal}
 use Rattle.dotenv_lines.specs.Lines.{LinesState, IsUndecided}
-use Rattle.dotenv_lines.specs.JoinedLines.{IsOutcome, stage_after}
+use Rattle.dotenv_lines.specs.inside.JoinedLines.{IsOutcome, stage_after}
 use Rattle.dotenv_lines.specs.Splitter.{SplitterState, AdvanceIs}
 use Rattle.dotenv_lines.proofs.AskedReads.{asks_none}
 use Rattle.dotenv_lines.proofs.NumberedLines.{counts_none, counts_one}

@@ -1,6 +1,6 @@
 use Rattle.dotenv_format.specs.Run.{Keep, run}
 use Rattle.dotenv_format.specs.Loads.{load_result}
-use Rattle.dotenv_format.proofs.LoadLaws.{run-keep}
+use Rattle.dotenv_format.proofs.loads.LoadLaws.{run-keep}
 use Rattle.dotenvy.proofs.LoadSteps.{loads_by}
 use Rattle.dotenvy.proofs.iter.Iter.load.Goals as goal
 

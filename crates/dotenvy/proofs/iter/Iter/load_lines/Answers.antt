@@ -5,9 +5,9 @@ use Rattle.std.proofs.lemmas.Result.{err_from_is_err_and}
 use Rattle.dotenv_format.specs.Run.{run}
 use Rattle.dotenvy.specs.Iter.{IterState}
 use Rattle.dotenvy.specs.LoadsLeft.{LoadsLeft}
-use Rattle.dotenvy.specs.LoadedLine.{mode_of, LoadsLine}
+use Rattle.dotenvy.specs.inside.LoadStep.{mode_of, LoadsLine}
 use Rattle.dotenvy.specs.Remembered.{remembered_of}
-use Rattle.dotenvy.specs.LineItem.{state_of}
+use Rattle.dotenvy.specs.inside.ItemStep.{state_of}
 use Rattle.dotenvy.proofs.LoadSteps.{CameTo, came_start, came_line, loads_line, loads_none, loads_fault, loads_mark}
 use Rattle.dotenvy.proofs.iter.Iter.load_lines.Goals as goal
 

@@ -4,9 +4,9 @@ use Rattle.dotenv_lines.specs.declared.lines.Stage.TheVariants.{Open}
 use Rattle.dotenv_lines.specs.Lines.{fuel_of}
 use Rattle.dotenv_format.specs.Run.{Keep}
 use Rattle.dotenvy.specs.LoadsLeft.{ChangesKeys}
-use Rattle.dotenvy.specs.LoadedLine.{mode_of}
+use Rattle.dotenvy.specs.inside.LoadStep.{mode_of}
 use Rattle.dotenvy.specs.Remembered.{remembered_of}
-use Rattle.dotenvy.specs.LineItem.{state_of}
+use Rattle.dotenvy.specs.inside.ItemStep.{state_of}
 use Rattle.dotenvy.proofs.LoadSteps.{CameTo}
 use Rattle.dotenvy.proofs.iter.Iter.load_lines.Given as goal
 

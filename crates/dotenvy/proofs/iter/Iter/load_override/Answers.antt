@@ -1,6 +1,6 @@
 use Rattle.dotenv_format.specs.Run.{Replace, run}
 use Rattle.dotenv_format.specs.Loads.{override_result}
-use Rattle.dotenv_format.proofs.LoadLaws.{run-replace}
+use Rattle.dotenv_format.proofs.loads.LoadLaws.{run-replace}
 use Rattle.dotenvy.proofs.LoadSteps.{loads_by}
 use Rattle.dotenvy.proofs.iter.Iter.load_override.Goals as goal
 

@@ -4,11 +4,11 @@ use Rattle.std.specs.String.{string_capacity}
 use Rattle.std.proofs.lemmas.List.{append-nil}
 use Rattle.std.specs.Str.{chars}
 use Rattle.dotenv_format.specs.Value.{unquoted}
-use Rattle.dotenv_format.specs.Slices.{quoting_of}
-use Rattle.dotenv_format.specs.ReadValue.{base}
-use Rattle.dotenv_format.specs.NextPiece.{piece_bytes}
+use Rattle.dotenv_format.specs.inside.Slices.{quoting_of}
+use Rattle.dotenv_format.specs.inside.ReadValue.{base}
+use Rattle.dotenv_format.specs.inside.NextPiece.{piece_bytes}
 use Rattle.dotenvy.specs.Meaning.{look_up_of}
-use Rattle.dotenv_format.proofs.NextPiece.{none_read, read_on}
+use Rattle.dotenv_format.proofs.values.NextPiece.{none_read, read_on}
 use Rattle.dotenvy.proofs.Meanings.{room_left, appended_more}
 use Rattle.dotenvy.proofs.meaning.Names.append_meaning.Goals as goal
 

@@ -6,9 +6,9 @@ use Rattle.std.specs.String.{string_capacity}
 use Rattle.std.specs.Str.{chars, encode_utf8_all}
 use Rattle.dotenv_format.specs.Value.{unquoted}
 use Rattle.dotenv_format.specs.Items.{meaning}
-use Rattle.dotenv_format.specs.Slices.{quoting_of}
-use Rattle.dotenv_format.specs.ReadValue.{base}
-use Rattle.dotenv_format.specs.NextPiece.{IsReadTo}
+use Rattle.dotenv_format.specs.inside.Slices.{quoting_of}
+use Rattle.dotenv_format.specs.inside.ReadValue.{base}
+use Rattle.dotenv_format.specs.inside.NextPiece.{IsReadTo}
 use Rattle.dotenvy.specs.Meaning.{look_up_of}
 use Rattle.dotenvy.proofs.meaning.Names.append_meaning.Given as goal
 

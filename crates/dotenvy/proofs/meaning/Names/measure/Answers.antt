@@ -2,11 +2,11 @@ use Rattle.std.proofs.Common.{[], ◌++◌, refl, sym, subst}
 use Rattle.std.proofs.lemmas.Str.{chars-nil}
 use Rattle.std.specs.Str.{chars}
 use Rattle.dotenv_format.specs.Value.{unquoted}
-use Rattle.dotenv_format.specs.Slices.{quoting_of}
-use Rattle.dotenv_format.specs.ReadValue.{base}
-use Rattle.dotenv_format.specs.NextPiece.{StopsAt}
+use Rattle.dotenv_format.specs.inside.Slices.{quoting_of}
+use Rattle.dotenv_format.specs.inside.ReadValue.{base}
+use Rattle.dotenv_format.specs.inside.NextPiece.{StopsAt}
 use Rattle.dotenvy.specs.Meaning.{look_up_of}
-use Rattle.dotenv_format.proofs.NextPiece.{none_read, read_on, stop_after}
+use Rattle.dotenv_format.proofs.values.NextPiece.{none_read, read_on, stop_after}
 use Rattle.dotenvy.proofs.Meanings.{counted, measured, all_read}
 use Rattle.dotenvy.proofs.meaning.Names.measure.Goals as goal
 

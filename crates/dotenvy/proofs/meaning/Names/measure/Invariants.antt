@@ -5,10 +5,11 @@ use Rattle.std.specs.Str.{chars}
 use Rattle.dotenv_format.specs.Characters.{byte_len}
 use Rattle.dotenv_format.specs.Value.{unquoted}
 use Rattle.dotenv_format.specs.Items.{meaning}
-use Rattle.dotenv_format.specs.Slices.{quoting_of}
-use Rattle.dotenv_format.specs.ReadValue.{base}
-use Rattle.dotenv_format.specs.NextPiece.{IsReadTo}
-use Rattle.dotenvy.specs.Meaning.{look_up_of, saturated}
+use Rattle.dotenv_format.specs.inside.Slices.{quoting_of}
+use Rattle.dotenv_format.specs.inside.ReadValue.{base}
+use Rattle.dotenv_format.specs.inside.NextPiece.{IsReadTo}
+use Rattle.dotenvy.specs.Meaning.{look_up_of}
+use Rattle.dotenvy.specs.inside.ValuePasses.{saturated}
 use Rattle.dotenvy.proofs.meaning.Names.measure.Given as goal
 
 -- the pieces so far lead to the rest, and their meaning was counted

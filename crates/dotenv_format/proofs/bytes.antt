@@ -1,0 +1,7 @@
+pub mod Buffers
+pub mod NameCharacters
+pub mod Slices
+pub mod BytePlaces
+pub mod ByteRuns
+pub mod ByteTables
+pub mod ByteClasses

@@ -1,0 +1,5 @@
+pub mod Statements
+pub mod StatementPlaces
+pub mod Outcomes
+pub mod ParseLine
+pub mod StatementParts

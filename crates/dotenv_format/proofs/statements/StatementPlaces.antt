@@ -1,0 +1,153 @@
+-- Which fronts begin a statement, and the place of a fault before the value.
+use Rattle.std.proofs.Common.{
+  ◌≡◌,
+  ℕ,
+  suc,
+  ◌≤◌,
+  ◌<◌,
+  List,
+  [],
+  ◌∷◌,
+  ◌++◌,
+  Option,
+  Some,
+  None,
+  refl,
+  sym,
+  ◌∙◌,
+  ap,
+  arith,
+  append_assoc,
+  subst,
+  length,
+  take,
+}
+use Rattle.dotenv_format.specs.Characters.{equals_sign}
+use Rattle.dotenv_format.specs.Statement.{IsStatement}
+use Rattle.dotenv_format.specs.Places.{BeginsStatement, IsPlace}
+use Rattle.dotenv_format.proofs.statements.Statements.{
+  StatementMode,
+  start,
+  in_key,
+  after_key,
+  after_export,
+  assigned,
+  StatementReading,
+  statement_goes,
+  rest_of,
+  read_on,
+  read_statement,
+  read-statement,
+  statement-read,
+}
+
+-- the number of characters up to the first that no statement goes on with
+abbrev pub statement_reach_after : Option StatementMode → (StatementMode → ℕ) → ℕ
+statement_reach_after None next = 0
+statement_reach_after (Some m) next = suc (next m)
+
+-- the number of characters up to the first that no statement goes on with, in a text read from this mode
+abbrev pub statement_reach : List ℕ → StatementMode → ℕ
+statement_reach [] m = 0
+statement_reach (c ∷ cs) m = statement_reach_after (statement_goes m c) (λ n. statement_reach cs n)
+
+-- with some text behind it the text, read from this mode, gives a key and what is assigned
+abbrev Completes : List ℕ → StatementMode → Type 0
+Completes text m = (more : List ℕ) × (key rest : List ℕ) × (read_statement (text ++ more) m ≡ Some (key, rest))
+
+-- from each mode there is a text that completes a statement
+completes : (m : StatementMode) → Completes [] m
+completes start = (65 ∷ equals_sign ∷ [], 65 ∷ [], [], refl)
+completes (in_key first acc) = (equals_sign ∷ [], acc, [], refl)
+completes (after_key acc) = (equals_sign ∷ [], acc, [], refl)
+completes after_export = (equals_sign ∷ [], _, [], refl)
+completes (assigned acc) = ([], acc, [], refl)
+
+-- where a character leads to a mode from which a text can be completed, both can be from the mode before it
+goes_on : (m : StatementMode) (c : ℕ) (cs : List ℕ) (n : StatementMode) → statement_goes m c ≡ Some n → Completes cs n →
+    Completes (c ∷ cs) m
+goes_on start c cs n g (more, key, rest, h) =
+    (more, key, rest, ap (λ o. read_on o (λ m. read_statement (cs ++ more) m)) g ∙ h)
+goes_on (in_key first acc) c cs n g (more, key, rest, h) =
+    (more, key, rest, ap (λ o. read_on o (λ m. read_statement (cs ++ more) m)) g ∙ h)
+goes_on (after_key acc) c cs n g (more, key, rest, h) =
+    (more, key, rest, ap (λ o. read_on o (λ m. read_statement (cs ++ more) m)) g ∙ h)
+goes_on after_export c cs n g (more, key, rest, h) =
+    (more, key, rest, ap (λ o. read_on o (λ m. read_statement (cs ++ more) m)) g ∙ h)
+goes_on (assigned acc) c cs n g (more, key, rest, h) = ([], acc, rest_of (c ∷ (cs ++ [])), refl)
+
+-- where a text can be completed and its first character leads to a mode, the rest can be from that mode
+goes_back : (m : StatementMode) (c : ℕ) (cs : List ℕ) (n : StatementMode) → statement_goes m c ≡ Some n →
+    Completes (c ∷ cs) m → Completes cs n
+goes_back start c cs n g (more, key, rest, h) =
+    (more, key, rest, sym (ap (λ o. read_on o (λ m. read_statement (cs ++ more) m)) g) ∙ h)
+goes_back (in_key first acc) c cs n g (more, key, rest, h) =
+    (more, key, rest, sym (ap (λ o. read_on o (λ m. read_statement (cs ++ more) m)) g) ∙ h)
+goes_back (after_key acc) c cs n g (more, key, rest, h) =
+    (more, key, rest, sym (ap (λ o. read_on o (λ m. read_statement (cs ++ more) m)) g) ∙ h)
+goes_back after_export c cs n g (more, key, rest, h) =
+    (more, key, rest, sym (ap (λ o. read_on o (λ m. read_statement (cs ++ more) m)) g) ∙ h)
+goes_back (assigned acc) c cs n g (more, key, rest, h) =
+    let e : assigned acc ≡ n = (let f : Some (assigned acc) ≡ Some n = g in cc) in
+    subst (λ m. Completes cs m) e ([], acc, rest_of (cs ++ []), refl)
+
+-- what is read as no statement is not read as a key and what is assigned
+pub none_some : (p : List ℕ × List ℕ) → ◌≡◌ {A = StatementReading} None (Some p) → ⊥
+none_some p h = cc
+
+-- a text whose first character leads nowhere can't be completed
+goes_nowhere : (m : StatementMode) (c : ℕ) (cs : List ℕ) → statement_goes m c ≡ None → ¬ (Completes (c ∷ cs) m)
+goes_nowhere start c cs g (more, key, rest, h) =
+    none_some (key, rest) (sym (ap (λ o. read_on o (λ m. read_statement (cs ++ more) m)) g) ∙ h)
+goes_nowhere (in_key first acc) c cs g (more, key, rest, h) =
+    none_some (key, rest) (sym (ap (λ o. read_on o (λ m. read_statement (cs ++ more) m)) g) ∙ h)
+goes_nowhere (after_key acc) c cs g (more, key, rest, h) =
+    none_some (key, rest) (sym (ap (λ o. read_on o (λ m. read_statement (cs ++ more) m)) g) ∙ h)
+goes_nowhere after_export c cs g (more, key, rest, h) =
+    none_some (key, rest) (sym (ap (λ o. read_on o (λ m. read_statement (cs ++ more) m)) g) ∙ h)
+goes_nowhere (assigned acc) c cs g done = cc
+
+-- the first n characters are the longest front of the text that can be completed from this mode
+record Placed (text : List ℕ) (m : StatementMode) (n : ℕ) : Type 0 where
+  within : n ≤ length text
+  completed : Completes (take n text) m
+  longest : n < length text → ¬ (Completes (take (suc n) text) m)
+
+-- where the place is right for the rest of a text from each mode, it is for the text with its first character
+placed_step : (c : ℕ) (cs : List ℕ) (m : StatementMode) (g : Option StatementMode) → statement_goes m c ≡ g →
+    ((n : StatementMode) → Placed cs n (statement_reach cs n)) →
+    Placed (c ∷ cs) m (statement_reach_after g (λ n. statement_reach cs n))
+placed_step c cs m None h later =
+    record { within = omega arith; completed = completes m; longest = λ _. goes_nowhere m c [] h }
+placed_step c cs m (Some n) h later = let p = later n in record {
+  within = let w = p.within in omega arith;
+  completed = goes_on m c (take (statement_reach cs n) cs) n h p.completed;
+  longest = λ below done. p.longest (omega (arith, below))
+      (goes_back m c (take (suc (statement_reach cs n)) cs) n h done);
+}
+
+-- from each mode the place is the length of the longest front that can be completed
+placed : (text : List ℕ) (m : StatementMode) → Placed text m (statement_reach text m)
+placed [] m = record { within = omega arith; completed = completes m; longest = λ below. absurd (omega (arith, below)) }
+placed (c ∷ cs) m = placed_step c cs m (statement_goes m c) refl (λ n. placed cs n)
+
+-- the place from the start of a line is that of the longest front that begins a statement
+pub statement_place : (text : List ℕ) → IsPlace BeginsStatement text (statement_reach text start)
+statement_place text = let p = placed text start in record {
+  within = p.within;
+  completed = let d = p.completed in
+      (d.0, d.1, d.2, statement-read (take (statement_reach text start) text ++ d.0) d.1 d.2 d.3);
+  longest =
+      λ below begins.
+      p.longest below (
+        begins.0,
+        begins.1,
+        begins.2,
+        read-statement (take (suc (statement_reach text start)) text ++ begins.0) begins.1 begins.2 begins.3,
+      );
+}
+
+-- each front of a text that begins a statement begins one
+pub statement_fronts : (text more : List ℕ) → BeginsStatement (text ++ more) → BeginsStatement text
+statement_fronts text more (others, key, rest, h) =
+    (more ++ others, key, rest, subst (λ t. IsStatement t key rest) (append_assoc text more others) h)

@@ -1,0 +1,5 @@
+pub mod Values
+pub mod ValuePlaces
+pub mod NextPiece
+pub mod BackslashRows
+pub mod LongestFronts

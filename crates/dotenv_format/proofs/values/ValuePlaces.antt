@@ -1,0 +1,204 @@
+-- Which fronts begin a value, and the place of a fault in one.
+use Rattle.std.proofs.Common.{
+  ◌≡◌,
+  ℕ,
+  suc,
+  ◌≤◌,
+  ◌<◌,
+  true,
+  false,
+  List,
+  [],
+  ◌∷◌,
+  ◌++◌,
+  Some,
+  None,
+  refl,
+  sym,
+  ◌∙◌,
+  ap,
+  arith,
+  append_assoc,
+  subst,
+  length,
+  take,
+  drop,
+}
+use Rattle.std.proofs.lemmas.List.{take-append-drop, take-take}
+use Rattle.dotenv_format.specs.declared.dialect.Dialect.{Dialect}
+use Rattle.dotenv_format.specs.declared.dialect.Dialect.TheVariants.{V15, Next}
+use Rattle.dotenv_format.specs.Characters.{single_quote, double_quote, right_brace}
+use Rattle.dotenv_format.specs.Value.{
+  Quoting,
+  unquoted,
+  double_quoted,
+  Piece,
+  Text,
+  Name,
+  is_left_by_name,
+  ends_name,
+  IsValue,
+}
+use Rattle.dotenv_format.proofs.bytes.NameCharacters.{space_no_name}
+use Rattle.dotenv_format.specs.Places.{BeginsValue, IsPlace}
+use Rattle.dotenv_format.proofs.values.Values.{stepped, read-value, value-read, read_bare_end}
+use Rattle.dotenv_format.specs.inside.ReadValue.{
+  ValueMode,
+  base,
+  escaping,
+  in_single,
+  naming,
+  bracing,
+  in_tail,
+  in_comment,
+  ValueReading,
+  ValueStep,
+  given,
+  read_value,
+}
+use Rattle.dotenv_format.specs.inside.ReadValue.{value_goes, value_reach_after, value_reach}
+
+-- read from this mode, the text can be completed to one that gives pieces
+abbrev Completes : (dialect : Dialect) → List ℕ → ValueMode → Type 0
+Completes dialect text m = (more : List ℕ) × (pieces : List Piece) × (read_value dialect (text ++ more) m ≡ Some pieces)
+
+-- a bare name leaves no space to what follows
+space_not_left : (dialect : Dialect) (q : Quoting) → is_left_by_name dialect q 32 ≡ false
+space_not_left V15 q = refl
+space_not_left Next double_quoted = refl
+space_not_left Next unquoted = refl
+
+-- a space ends each bare name, and means itself
+space_ends : (dialect : Dialect) (q : Quoting) (name : List ℕ) → ends_name dialect q name 32 ≡ true
+space_ends dialect q [] = rw (space_no_name dialect, space_not_left dialect q) refl
+space_ends dialect q (c ∷ name) = rw (space_no_name dialect, space_not_left dialect q) refl
+
+-- from each mode the empty text can be completed
+completes : (dialect : Dialect) (m : ValueMode) → Completes dialect [] m
+completes dialect (base unquoted) = ([], [], refl)
+completes dialect (base double_quoted) = (double_quote ∷ [], [], refl)
+completes dialect (escaping unquoted) = ([], [], refl)
+completes dialect (escaping double_quoted) = (110 ∷ double_quote ∷ [], Text (10 ∷ []) ∷ [], refl)
+completes dialect (in_single inner) = (single_quote ∷ [], Text inner ∷ [], refl)
+completes dialect (naming unquoted name) = ([], Name name ∷ [], refl)
+completes dialect (naming double_quoted name) = (
+  32 ∷ double_quote ∷ [],
+  Name name ∷ Text (32 ∷ []) ∷ [],
+  read_bare_end dialect double_quoted name 32 (double_quote ∷ []) (space_ends dialect double_quoted name),
+)
+completes dialect (bracing unquoted name) = (right_brace ∷ [], Name name ∷ [], refl)
+completes dialect (bracing double_quoted name) = (right_brace ∷ double_quote ∷ [], Name name ∷ [], refl)
+completes dialect in_tail = ([], [], refl)
+completes dialect in_comment = ([], [], refl)
+
+-- the first n characters can be completed, and no more
+record Placed (dialect : Dialect) (text : List ℕ) (m : ValueMode) (n : ℕ) : Type 0 where
+  within : n ≤ length text
+  completed : Completes dialect (take n text) m
+  longest : n < length text → ¬ (Completes dialect (take (suc n) text) m)
+
+-- what can be completed from where a character leads can be completed with that character before it
+goes_on : (dialect : Dialect) (m : ValueMode) (c : ℕ) (cs : List ℕ) (n : ValueMode) (ps : List Piece) →
+    value_goes dialect m c ≡ Some (n, ps) → Completes dialect cs n → Completes dialect (c ∷ cs) m
+goes_on dialect m c cs n ps g (more, qs, h) = (
+  more,
+  ps ++ qs,
+  stepped dialect m c (cs ++ more) (Some (n, ps)) g ∙ ap (given ps) h,
+)
+
+-- where something is read with pieces before it, something is read without them
+given_some : (ps qs : List Piece) (r : ValueReading) → given ps r ≡ Some qs → (rs : List Piece) × (r ≡ Some rs)
+given_some ps qs None h = cc
+given_some ps qs (Some rs) h = (rs, refl)
+
+-- what can be completed with a character before it can be completed from where that character leads
+goes_back : (dialect : Dialect) (m : ValueMode) (c : ℕ) (cs : List ℕ) (n : ValueMode) (ps : List Piece) →
+    value_goes dialect m c ≡ Some (n, ps) → Completes dialect (c ∷ cs) m → Completes dialect cs n
+goes_back dialect m c cs n ps g (more, qs, h) =
+    let r =
+    given_some ps qs (read_value dialect (cs ++ more) n)
+    (sym (stepped dialect m c (cs ++ more) (Some (n, ps)) g) ∙ h) in
+    (more, r.0, r.1)
+
+-- a text whose first character leads nowhere can't be completed
+goes_nowhere : (dialect : Dialect) (m : ValueMode) (c : ℕ) (cs : List ℕ) → value_goes dialect m c ≡ None →
+    ¬ (Completes dialect (c ∷ cs) m)
+goes_nowhere dialect m c cs g (more, qs, h) =
+    let e : None ≡ Some qs = sym (stepped dialect m c (cs ++ more) None g) ∙ h in
+    cc
+
+-- the place in a text is one more than in what follows its first character, or 0 if that leads nowhere
+placed_step : (dialect : Dialect) (c : ℕ) (cs : List ℕ) (m : ValueMode) (g : ValueStep) →
+    value_goes dialect m c ≡ g → ((n : ValueMode) → Placed dialect cs n (value_reach dialect cs n)) →
+    Placed dialect (c ∷ cs) m (value_reach_after g (λ n. value_reach dialect cs n))
+placed_step dialect c cs m None h later =
+    record { within = omega arith; completed = completes dialect m; longest = λ _. goes_nowhere dialect m c [] h }
+placed_step dialect c cs m (Some (n, ps)) h later = let p = later n in record {
+  within = let w = p.within in omega arith;
+  completed = goes_on dialect m c (take (value_reach dialect cs n) cs) n ps h p.completed;
+  longest =
+      λ below done.
+      p.longest (omega (arith, below)) (goes_back dialect m c (take (suc (value_reach dialect cs n)) cs) n ps h done);
+}
+
+-- from each mode, the place that is computed is the length of the longest front that can be completed
+placed : (dialect : Dialect) (text : List ℕ) (m : ValueMode) → Placed dialect text m (value_reach dialect text m)
+placed dialect [] m =
+    record {
+      within = omega arith;
+      completed = completes dialect m;
+      longest = λ below. absurd (omega (arith, below));
+    }
+placed dialect (c ∷ cs) m = placed_step dialect c cs m (value_goes dialect m c) refl (λ n. placed dialect cs n)
+
+-- what can be completed, read from where a value begins, is the front of a value
+to_begins : (dialect : Dialect) (text : List ℕ) → Completes dialect text (base unquoted) → BeginsValue dialect text
+to_begins dialect text (more, ps, h) = (more, ps, value-read dialect (text ++ more) ps h)
+
+-- the front of a value can be completed, read from where a value begins
+from_begins : (dialect : Dialect) (text : List ℕ) → BeginsValue dialect text → Completes dialect text (base unquoted)
+from_begins dialect text (more, ps, h) = (more, ps, read-value dialect (text ++ more) ps h)
+
+-- the place that is computed of a text is that of its longest front that begins a value
+pub value_place : (dialect : Dialect) (text : List ℕ) →
+    IsPlace (BeginsValue dialect) text (value_reach dialect text (base unquoted))
+value_place dialect text =
+    let p = placed dialect text (base unquoted) in
+    record {
+      within = p.within;
+      completed = to_begins dialect (take (value_reach dialect text (base unquoted)) text) p.completed;
+      longest =
+          λ below begins.
+          p.longest below (from_begins dialect (take (suc (value_reach dialect text (base unquoted))) text) begins);
+    }
+
+-- where a text begins what is to come, so does each front of it
+abbrev pub AreFronts : (List ℕ → Type 0) → Type 0
+AreFronts Begins = (text more : List ℕ) → Begins (text ++ more) → Begins text
+
+-- a front of the front of a value is the front of a value
+pub value_fronts : (dialect : Dialect) (text more : List ℕ) → BeginsValue dialect (text ++ more) →
+    BeginsValue dialect text
+value_fronts dialect text more (rest, ps, h) =
+    (more ++ rest, ps, subst (λ t. IsValue dialect t ps) (append_assoc text more rest) h)
+
+-- the first n characters of a text are a front of its first m, where n is at most m
+take-front : (n m : ℕ) (text : List ℕ) → n ≤ m → (more : List ℕ) × (take m text ≡ take n text ++ more)
+take-front n m text h = (
+  drop n (take m text),
+  sym (take-append-drop n (take m text)) ∙ ap (λ t. t ++ drop n (take m text)) (take-take n m text h),
+)
+
+-- where each front of a front is one, of two places in a text none is before the other
+not_below : (Begins : List ℕ → Type 0) → AreFronts Begins → (text : List ℕ) (n m : ℕ) → IsPlace Begins text n →
+    IsPlace Begins text m → ¬ (n < m)
+not_below Begins fronts text n m p q h =
+    let f = take-front (suc n) m text (omega arith) in
+    p.longest (let w = q.within in omega arith) (fronts (take (suc n) text) f.0 (subst Begins f.1 q.completed))
+
+-- where each front of a front is one, a text has one place alone
+pub one_place : (Begins : List ℕ → Type 0) → AreFronts Begins → (text : List ℕ) (n m : ℕ) → IsPlace Begins text n →
+    IsPlace Begins text m → n ≡ m
+one_place Begins fronts text n m p q =
+    let a : ¬ (n < m) = not_below Begins fronts text n m p q in
+    let b : ¬ (m < n) = not_below Begins fronts text m n q p in omega (arith, a, b)

@@ -1,0 +1,3 @@
+pub mod ReadBack
+pub mod ReadBackLines
+pub mod WrittenTexts

@@ -1,0 +1,5 @@
+pub mod Slices
+pub mod Walk
+pub mod ParseStatement
+pub mod ReadValue
+pub mod NextPiece

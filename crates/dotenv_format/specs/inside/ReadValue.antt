@@ -1,0 +1,165 @@
+-- A value read from left to right, character by character. The tests are `elim`, since `if` would read on from both answers.
+use Rattle.std.specs.Prelude.{ℕ, suc, Bool, true, false, ◌==◌, List, [], ◌∷◌, ◌++◌, Option, Some, None}
+use Rattle.dotenv_format.specs.declared.dialect.Dialect.{Dialect}
+use Rattle.dotenv_format.specs.Characters.{
+  is_space_or_tab,
+  is_name_character,
+  single_quote,
+  double_quote,
+  dollar,
+  backslash,
+  left_brace,
+  right_brace,
+  hash,
+}
+use Rattle.dotenv_format.specs.Value.{
+  Quoting,
+  unquoted,
+  double_quoted,
+  Piece,
+  Text,
+  Name,
+  escape_meaning,
+  is_escape,
+  is_left_by_name,
+}
+
+-- what the reader is in the middle of
+pub data ValueMode : Type 0 where
+  base : Quoting → ValueMode
+  escaping : Quoting → ValueMode
+  in_single : List ℕ → ValueMode
+  naming : Quoting → List ℕ → ValueMode
+  bracing : Quoting → List ℕ → ValueMode
+  in_tail : ValueMode
+  in_comment : ValueMode
+
+-- the pieces that were read, or `None` where the text is no value
+abbrev pub ValueReading : Type 0
+ValueReading = Option (List Piece)
+
+-- the mode that a character leads to, and the pieces that it completes; `None` where no value goes on with it
+abbrev pub ValueStep : Type 0
+ValueStep = Option (ValueMode × List Piece)
+
+-- pieces before those that are still read
+abbrev pub given : List Piece → ValueReading → ValueReading
+given pieces None = None
+given pieces (Some more) = Some (pieces ++ more)
+
+-- a brace right after the dollar
+abbrev pub is_brace_first : List ℕ → ℕ → Bool
+is_brace_first [] c = c == left_brace
+is_brace_first (d ∷ name) c = false
+
+-- what the end of the text gives
+abbrev pub value_at_end : ValueMode → ValueReading
+value_at_end (base unquoted) = Some []
+value_at_end (escaping unquoted) = Some []
+value_at_end (naming unquoted name) = Some (Name name ∷ [])
+value_at_end in_tail = Some []
+value_at_end in_comment = Some []
+value_at_end (base double_quoted) = None
+value_at_end (escaping double_quoted) = None
+value_at_end (naming double_quoted name) = None
+value_at_end (bracing q name) = None
+value_at_end (in_single inner) = None
+
+-- where a character leads where a part may begin, and the pieces that it completes
+abbrev pub goes_base : Quoting → ℕ → ValueStep
+goes_base unquoted c =
+    elim (c == backslash) [
+      | true ↦ Some (escaping unquoted, [])
+      | false ↦
+          elim (c == single_quote) [
+            | true ↦ Some (in_single [], [])
+            | false ↦
+                elim (c == double_quote) [
+                  | true ↦ Some (base double_quoted, [])
+                  | false ↦
+                      elim (c == dollar) [
+                        | true ↦ Some (naming unquoted [], [])
+                        | false ↦
+                            elim (is_space_or_tab c) [
+                              | true ↦ Some (in_tail, [])
+                              | false ↦ Some (base unquoted, Text (c ∷ []) ∷ [])
+                            ]
+                      ]
+                ]
+          ]
+    ]
+goes_base double_quoted c =
+    elim (c == backslash) [
+      | true ↦ Some (escaping double_quoted, [])
+      | false ↦
+          elim (c == double_quote) [
+            | true ↦ Some (base unquoted, [])
+            | false ↦
+                elim (c == dollar) [
+                  | true ↦ Some (naming double_quoted [], [])
+                  | false ↦ Some (base double_quoted, Text (c ∷ []) ∷ [])
+                ]
+          ]
+    ]
+
+-- pieces before those that a step completes
+abbrev pub with_pieces : List Piece → ValueStep → ValueStep
+with_pieces pieces None = None
+with_pieces pieces (Some (m, more)) = Some (m, pieces ++ more)
+
+-- where a character leads from each mode
+abbrev pub value_goes : (dialect : Dialect) → ValueMode → ℕ → ValueStep
+value_goes dialect (base q) c = goes_base q c
+value_goes dialect (escaping q) c =
+    elim (is_escape c) [ true ↦ Some (base q, Text (escape_meaning c ∷ []) ∷ []) | false ↦ None ]
+value_goes dialect (in_single inner) c =
+    elim (c == single_quote) [
+      | true ↦ Some (base unquoted, Text inner ∷ [])
+      | false ↦ Some (in_single (inner ++ c ∷ []), [])
+    ]
+value_goes dialect (naming q name) c =
+    elim (is_name_character dialect c) [
+      | true ↦ Some (naming q (name ++ c ∷ []), [])
+      | false ↦
+          elim (is_left_by_name dialect q c) [
+            | true ↦ with_pieces (Name name ∷ []) (goes_base q c)
+            | false ↦
+                elim (is_brace_first name c) [
+                  | true ↦ Some (bracing q [], [])
+                  | false ↦ Some (base q, Name name ∷ Text (c ∷ []) ∷ [])
+                ]
+          ]
+    ]
+value_goes dialect (bracing q name) c =
+    elim (c == right_brace) [
+      | true ↦ Some (base q, Name name ∷ [])
+      | false ↦ Some (bracing q (name ++ c ∷ []), [])
+    ]
+value_goes dialect in_tail c =
+    elim (is_space_or_tab c) [
+      | true ↦ Some (in_tail, [])
+      | false ↦ elim (c == hash) [ true ↦ Some (in_comment, []) | false ↦ None ]
+    ]
+value_goes dialect in_comment c = Some (in_comment, [])
+
+-- what is read behind a character, with the pieces that it completes before it
+abbrev pub read_after : ValueStep → (ValueMode → ValueReading) → ValueReading
+read_after None next = None
+read_after (Some (m, pieces)) next = given pieces (next m)
+
+-- what the text gives, read from this mode
+abbrev pub read_value : (dialect : Dialect) → List ℕ → ValueMode → ValueReading
+read_value dialect [] mode = value_at_end mode
+read_value dialect (c ∷ cs) mode =
+    read_after (value_goes dialect mode c) (λ m. read_value dialect cs m)
+
+-- one character more, unless no value goes on with it
+abbrev pub value_reach_after : ValueStep → (ValueMode → ℕ) → ℕ
+value_reach_after None next = 0
+value_reach_after (Some (m, pieces)) next = suc (next m)
+
+-- the number of characters up to the first that no value goes on with
+abbrev pub value_reach : (dialect : Dialect) → List ℕ → ValueMode → ℕ
+value_reach dialect [] m = 0
+value_reach dialect (c ∷ cs) m =
+    value_reach_after (value_goes dialect m c) (λ n. value_reach dialect cs n)

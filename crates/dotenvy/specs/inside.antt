@@ -1,0 +1,5 @@
+pub mod ParsedLine
+pub mod ItemStep
+pub mod FirstPass
+pub mod LoadStep
+pub mod ValuePasses
