@@ -1,5 +1,5 @@
 -- The pairs of an environment are good ones, each by itself.
-use Rattle.std.proofs.Common.{◌≡◌, ℕ, Bool, true, false, cond, List, [], ◌∷◌, T, refl, sym, ◌∙◌, ap}
+use Rattle.std.proofs.Common.{◌≡◌, ℕ, cond, List, [], ◌∷◌, T, refl, sym, ◌∙◌, ap}
 use Rattle.std.proofs.lemmas.Option.{none-some}
 use Rattle.std.proofs.lemmas.Cmp.{nat_list_cmp_total}
 use Rattle.std.specs.Prelude.{Some, None, ◌&&◌, IsTrue}
@@ -18,17 +18,7 @@ use Rattle.std.specs.FinMap.{
 use Rattle.std.specs.FinMap.Entries.{below_all}
 use Rattle.std.specs.declared.cmp.Ordering.TheVariants.{Less, Equal, Greater}
 use Rattle.dotenv_base.specs.Environment.{Env, IsEnvironment, AreGood, name_ok, value_ok, pair_ok}
-use Rattle.dotenv_format.proofs.Basics.{and_left, and_right}
-
--- where both halves of a test hold, the left one does
-first_half : (a b : Bool) → T (a && b) → T a
-first_half true b h = tt
-first_half false b h = absurd h
-
--- where both halves of a test hold, the right one does
-second_half : (a b : Bool) → T (a && b) → T b
-second_half true b h = h
-second_half false b h = absurd h
+use Rattle.dotenv_format.proofs.Basics.{and_left, and_right, left_holds, right_holds}
 
 -- a name ties with itself
 ties_itself : (name : List ℕ) → slice_cmp nat_cmp name name ≡ Equal
@@ -44,8 +34,8 @@ below_none name [] h = refl
 below_none name (pair ∷ pairs) h =
     elim (slice_cmp nat_cmp name pair.0) as (λ r. T (is_lt r) →
     cond (is_eq r) (Some pair.1) (find (slice_cmp nat_cmp) name pairs) ≡ None)
-    [ Less ↦ λ l. below_none name pairs (second_half _ _ h) | Equal ↦ λ l. absurd l | Greater ↦ λ l. absurd l ]
-    (first_half _ _ h)
+    [ Less ↦ λ l. below_none name pairs (right_holds _ _ h) | Equal ↦ λ l. absurd l | Greater ↦ λ l. absurd l ]
+    (left_holds _ _ h)
 
 -- a value found behind a pair whose name is below all others is found with that pair in front, too
 found_later : (first : List ℕ × List ℕ) (pairs : List (List ℕ × List ℕ)) (name value : List ℕ) →
@@ -69,11 +59,11 @@ all_good : (pairs : List (List ℕ × List ℕ)) → T (is_sorted (slice_cmp nat
     AreGood pairs
 all_good [] sorted good = refl
 all_good (pair ∷ pairs) sorted good =
-    let below = first_half _ _ sorted in
+    let below = left_holds _ _ sorted in
     let found = ap (λ r. cond (is_eq r) (Some pair.1) (find (slice_cmp nat_cmp) pair.0 pairs)) (ties_itself pair.0) in
     let own = good pair.0 pair.1 found in
     let later =
-    all_good pairs (second_half _ _ sorted) (λ name value is. good name value
+    all_good pairs (right_holds _ _ sorted) (λ name value is. good name value
     (found_later pair pairs name value below is)) in
     ap (λ b. (b && value_ok pair.1) && list_all pair_ok pairs) own.0
     ∙ ap (λ b. b && list_all pair_ok pairs) own.1 ∙ later

@@ -6,13 +6,10 @@ use Rattle.std.specs.Str.{chars, IsUtf8}
 use Rattle.std.proofs.lemmas.Bool.{and_parts, and_from}
 use Rattle.std.proofs.lemmas.Bool.Decides.{nat_tests}
 use Rattle.std.proofs.lemmas.Str.{encodes-chars, encode_ascii}
-use Rattle.dotenv_format.specs.Characters.{begins_key, continues_key, equals_sign}
+use Rattle.dotenv_format.specs.Characters.{continues_key, equals_sign}
 use Rattle.dotenv_format.specs.Statement.{is_key}
 use Rattle.dotenv_base.specs.Environment.{name_ok}
-
--- a character that begins a key may also stand later in one
-begins-continues : (c : ℕ) → begins_key c ≡ true → continues_key c ≡ true
-begins-continues c h = grind (arith, nat_tests, h)
+use Rattle.dotenv_format.proofs.statements.Statements.{key_continues}
 
 -- a character of a key is an ASCII one
 continues-ascii : (c : ℕ) → continues_key c ≡ true → c < 128
@@ -42,16 +39,9 @@ none-continuing b other (c ∷ cs) h =
     let parts = and_parts (continues_key c) (list_all continues_key cs) h in
     ap (λ t. t || list_any (λ c. c == b) cs) (other c parts.0) ∙ none-continuing b other cs parts.1
 
--- each character of a key, the first one too, may stand later in a key
-key-continues : (cs : List ℕ) → is_key cs ≡ true → list_all continues_key cs ≡ true
-key-continues [] h = refl
-key-continues (c ∷ cs) h =
-    let parts = and_parts (begins_key c) (list_all continues_key cs) h in
-    and_from (continues_key c) (list_all continues_key cs) (begins-continues c parts.0) parts.1
-
 -- a key is its own bytes
 pub encodes-key : (cs : List ℕ) → is_key cs ≡ true → encode_utf8_all cs ≡ cs
-encodes-key cs h = encodes-continuing cs (key-continues cs h)
+encodes-key cs h = encodes-continuing cs (key_continues cs h)
 
 -- a key's bytes are its characters
 pub chars-key : (bs : List ℕ) → IsUtf8 bs → is_key (chars bs) ≡ true → chars bs ≡ bs
@@ -61,7 +51,7 @@ chars-key bs utf8 h = sym (encodes-key (chars bs) h) ∙ encodes-chars bs utf8
 name_from_key : (cs : List ℕ) → is_key cs ≡ true → name_ok cs ≡ true
 name_from_key [] h = h
 name_from_key (c ∷ cs) h =
-    let continues = key-continues (c ∷ cs) h in
+    let continues = key_continues (c ∷ cs) h in
     and_from (not (list_any (λ b. b == equals_sign) (c ∷ cs))) (not (list_any (λ b. b == 0) (c ∷ cs)))
     (ap not (none-continuing equals_sign continues-no_equals (c ∷ cs) continues))
     (ap not (none-continuing 0 continues-no_nul (c ∷ cs) continues))

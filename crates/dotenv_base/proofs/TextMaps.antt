@@ -22,21 +22,7 @@ use Rattle.std.proofs.lemmas.List.{map-append, append-nil}
 use Rattle.std.proofs.lemmas.List.Elements.{filter-append}
 use Rattle.std.specs.Option.{option_or}
 use Rattle.std.proofs.lemmas.Option.{none-some}
-use Rattle.std.specs.Prelude.{
-  unwrap_or,
-  string_bytes,
-  Option,
-  Some,
-  None,
-  option_map,
-  ◌&&◌,
-  IsTrue,
-  is_some,
-  Result,
-  Ok,
-  Err,
-  IfOk,
-}
+use Rattle.std.specs.Prelude.{unwrap_or, string_bytes, Option, Some, None, option_map, IsTrue, is_some, Result, Ok, Err, IfOk}
 use Rattle.std.specs.List.{AllByRecursion, AllZip}
 use Rattle.std.specs.List.Sorted.{IsStrictlySortedBy}
 use Rattle.std.specs.Map.{lookup, keys_of}
@@ -69,7 +55,7 @@ use Rattle.std.specs.FinMap.Entries.{by_order, below_all, find-put}
 use Rattle.std.specs.declared.string.String.{String}
 use Rattle.std.specs.declared.cmp.Ordering.{Ordering}
 use Rattle.std.specs.declared.cmp.Ordering.TheVariants.{Less, Equal, Greater}
-use Rattle.dotenv_format.proofs.Basics.{and_left, and_right}
+use Rattle.dotenv_format.proofs.Basics.{and_left, and_right, both_hold}
 use Rattle.dotenv_base.specs.Environment.{
   text_entries,
   Texts,
@@ -140,24 +126,19 @@ insert-strings k v es = same_texts _ _ (λ q.
     (sym (get-from_entries nat_list_cmp_total (text_entries es) q))
     ∙ sym (get-insert nat_list_cmp_total (of_strings es) (string_bytes k) (string_bytes v) q))
 
--- where two tests hold, they hold together
-both : (a b : Bool) → T a → T b → T (a && b)
-both true b p q = q
-both false b p q = p
-
 -- a name that comes before those of all the pairs does so by its bytes
 below-texts : {A : Type 0} (k : String A) (es : List (String A × String A)) →
     AllByRecursion (λ y. string_cmp k y ≡ Less) (keys_of es) →
     T (below_all bytes_cmp (string_bytes k) (text_entries es))
 below-texts k [] h = tt
-below-texts k (e ∷ es) h = both _ _ (subst (λ r. T (is_lt r)) (sym h.0) tt) (below-texts k es h.1)
+below-texts k (e ∷ es) h = both_hold _ _ (subst (λ r. T (is_lt r)) (sym h.0) tt) (below-texts k es h.1)
 
 -- pairs whose names strictly ascend are in the byte order of their names
 sorted-texts : {A : Type 0} (es : List (String A × String A)) → IsStrictlySortedBy string_cmp (keys_of es) →
     T (is_sorted bytes_cmp (text_entries es))
 unfolding IsStrictlySortedBy
 sorted-texts [] h = tt
-sorted-texts (e ∷ es) h = both _ _ (below-texts e.0 es h.0) (sorted-texts es h.1)
+sorted-texts (e ∷ es) h = both_hold _ _ (below-texts e.0 es h.0) (sorted-texts es h.1)
 
 -- the entries in order are those of the map of bytes
 pub entries-strings : {A : Type 0} (es : List (String A × String A)) → IsStrictlySortedBy string_cmp (keys_of es) →

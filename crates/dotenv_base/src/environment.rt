@@ -1,6 +1,6 @@
 // The names and values that a program is given.
 ghost use Rattle.std.specs.Prelude.{◌≡◌, IsTrue, filter, true, false, option_copied, string_bytes, IfOk, OnOk, OnErr, IfErr, IfSome, MatchResult, ◌==◌};
-ghost use Rattle.std.specs.FinMap as map;
+ghost use Rattle.std.specs.FinMap as fin;
 ghost use Rattle.std.specs.Iterator.{YieldsFirstBy, item_count};
 ghost use Rattle.std.specs.Str.{chars};
 ghost use Rattle.dotenv_format.specs.Statement.{is_key};
@@ -92,7 +92,7 @@ impl<A: Allocator> Environment<A> {
     /// assert_eq!(rt; Environment::new(alloc).len(), 0);
     /// ```
     pub fn new(alloc: A) -> Environment<A>
-        ensures empty { result.names ≡ map.empty }
+        ensures empty { result.names ≡ fin.empty }
         ensures mark { result.loaded ≡ false }
     {
         Environment {
@@ -115,7 +115,7 @@ impl<A: Allocator> Environment<A> {
         A: Clone,
         // Where a name stands several times, `from_entries` keeps its first value.
         ensures names { IfOk result
-            (λ e. e.names ≡ map.from_entries (filter pair_ok (text_entries list.items))) }
+            (λ e. e.names ≡ fin.from_entries (filter pair_ok (text_entries list.items))) }
         ensures mark { IfOk result (λ e. e.loaded ≡ false) }
         ensures memory { IfErr result IsMemory }
     {
@@ -169,7 +169,7 @@ impl<A: Allocator> Environment<A> {
     /// assert_eq!(rt; environment.len(), environment.iter().count());
     /// ```
     pub fn len(&self) -> usize
-        ensures { result ≡ map.len self.now.names }
+        ensures { result ≡ fin.len self.now.names }
     {
         self.entries.len()
     }
@@ -180,7 +180,7 @@ impl<A: Allocator> Environment<A> {
     /// assert!(rt; Environment::new(alloc).is_empty());
     /// ```
     pub fn is_empty(&self) -> bool
-        ensures { result ≡ (map.len self.now.names == 0) }
+        ensures { result ≡ (fin.len self.now.names == 0) }
     {
         self.len() == 0
     }
@@ -202,7 +202,7 @@ impl<A: Allocator> Environment<A> {
     /// let host = environment.get("HOST").unwrap_or("localhost");
     /// ```
     pub fn get(&self, name: &str) -> Option<&str>
-        ensures { option_copied result ≡ map.get self.now.names name.now }
+        ensures { option_copied result ≡ fin.get self.now.names name.now }
     {
         match self.entries.get(name) {
             Some(value) => Some(value.as_str()),
@@ -216,7 +216,7 @@ impl<A: Allocator> Environment<A> {
     /// if !environment.contains("HOST") { .. }
     /// ```
     pub fn contains(&self, name: &str) -> bool
-        ensures { result ≡ map.contains_key self.now.names name.now }
+        ensures { result ≡ fin.contains_key self.now.names name.now }
     {
         self.entries.contains_key(name)
     }
@@ -229,7 +229,7 @@ impl<A: Allocator> Environment<A> {
     /// }
     /// ```
     pub fn iter(&self) -> Pairs<'_, A>
-        ensures pairs { result ≡ map.entries self.now.names }
+        ensures pairs { result ≡ fin.entries self.now.names }
         ensures good { IsEnvironment self.now }
         ensures texts { AreTexts self.now.names }
     {
@@ -251,7 +251,7 @@ impl<A: Allocator> Environment<A> {
         requires { IsTrue (name_ok (string_bytes key)) }
         ensures ok { OnOk result (self.new
             ≡ record self.old {
-              names = map.insert self.old.names (string_bytes key) (string_bytes value);
+              names = fin.insert self.old.names (string_bytes key) (string_bytes value);
             }) }
         ensures same { OnErr result (self.new ≡ self.old) }
 
@@ -277,7 +277,7 @@ pub fn mark_loaded<A: Allocator>(environment: &mut Environment<A>)
 
 /// The names of an environment with their values as they are now, on their own. The error is `Memory`.
 pub fn snapshot<A: Allocator + Clone>(environment: &Environment<A>) -> Result<Vars<A>, A>
-    ensures pairs { IfOk result (λ pairs. pairs ≡ map.entries environment.now.names) }
+    ensures pairs { IfOk result (λ pairs. pairs ≡ fin.entries environment.now.names) }
     ensures memory { IfErr result IsMemory }
 {
     Ok(Vars {
@@ -335,9 +335,9 @@ impl<'a, A: Allocator> IntoIterator for &'a Environment<A> {
     type IntoIter = Pairs<'a, A>;
 
     ghost use Rattle.std.specs.Prelude.{◌≡◌};
-    ghost use Rattle.std.specs.FinMap as map;
+    ghost use Rattle.std.specs.FinMap as fin;
 
-    ghost into_iter_gives = { λ environment pairs. pairs ≡ map.entries environment.now.names };
+    ghost into_iter_gives = { λ environment pairs. pairs ≡ fin.entries environment.now.names };
 
     fn into_iter(self) -> Pairs<'a, A> {
         self.iter()

@@ -21,6 +21,7 @@ use Rattle.std.proofs.Common.{
   not,
   Option,
   Some,
+  T,
   refl,
   arith,
 }
@@ -41,6 +42,21 @@ and_right false b h = cc
 pub both : (a b : Bool) → a ≡ true → b ≡ true → (a && b) ≡ true
 both true b h k = k
 both false b h k = cc
+
+-- of two things that hold together, the first holds
+pub left_holds : (a b : Bool) → T (a && b) → T a
+left_holds true b h = tt
+left_holds false b h = absurd h
+
+-- of two things that hold together, the second holds
+pub right_holds : (a b : Bool) → T (a && b) → T b
+right_holds true b h = h
+right_holds false b h = absurd h
+
+-- two things that hold do so together
+pub both_hold : (a b : Bool) → T a → T b → T (a && b)
+both_hold true b p q = q
+both_hold false b p q = p
 
 -- a test whose negation holds is false
 pub not_is : (a : Bool) → not a ≡ true → a ≡ false

@@ -1,4 +1,5 @@
 pub mod Basics
+pub mod Fronts
 pub mod bytes
 pub mod lines
 pub mod loads

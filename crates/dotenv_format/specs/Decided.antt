@@ -20,7 +20,7 @@ up_to_last_line_feed (c ∷ cs) =
 -- the logical lines before an open end
 abbrev pub without_open_end : List Logical → List Logical
 without_open_end [] = []
-without_open_end (Open text n ∷ lines) = []
+without_open_end (Open text index ∷ lines) = []
 without_open_end (Skip ∷ lines) = Skip ∷ without_open_end lines
 without_open_end (Text text ∷ lines) = Text text ∷ without_open_end lines
 without_open_end (Broken ∷ lines) = Broken ∷ without_open_end lines

@@ -25,14 +25,14 @@ abbrev pub AreLogicalLines : List (Option (List ℕ)) → List Logical → Type 
 AreLogicalLines lines [] = lines ≡ []
 AreLogicalLines lines (first ∷ others) =
     (lines ≢ [])
-    × (k : ℕ) × IsNext lines k first × AreLogicalLines (drop k lines) others
+    × (count : ℕ) × IsNext lines count first × AreLogicalLines (drop count lines) others
 
 -- the first physical lines, so many, are these logical lines
 abbrev pub AreFirstLines : List (Option (List ℕ)) → ℕ → List Logical → Type 0
 AreFirstLines lines count [] = count ≡ 0
 AreFirstLines lines count (first ∷ others) =
-    (k later : ℕ) × IsNext lines k first × AreFirstLines (drop k lines) later others
-    × (count ≡ k + later)
+    (these later : ℕ) × IsNext lines these first × AreFirstLines (drop these lines) later others
+    × (count ≡ these + later)
 
 -- what an outcome adds to the entries
 abbrev pub outcome_entries : Outcome → List Entry
@@ -45,7 +45,7 @@ abbrev pub Gives : Dialect → Logical → List Entry → Type 0
 Gives dialect Skip entries = entries ≡ []
 Gives dialect (Text text) entries =
     (outcome : Outcome) × Says dialect text outcome × (entries ≡ outcome_entries outcome)
-Gives dialect (Open text n) entries = entries ≡ Fails (LineParse text n) ∷ []
+Gives dialect (Open text index) entries = entries ≡ Fails (LineParse text index) ∷ []
 Gives dialect Broken entries = entries ≡ Fails (Io InvalidData) ∷ []
 
 -- these are the entries of these logical lines, in order

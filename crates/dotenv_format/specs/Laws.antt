@@ -39,14 +39,16 @@ LinesAreCut = (bytes : List ℕ) → AreCut (line_texts bytes)
 abbrev pub HasOneNext : Type 0
 HasOneNext =
     (lines : List (Option (List ℕ))) → lines ≢ [] → AreCut lines →
-    (k : ℕ) × (next : Logical) × IsNext lines k next
-    × ((j : ℕ) (other : Logical) → IsNext lines j other → (j ≡ k) × (other ≡ next))
+    (count : ℕ) × (next : Logical) × IsNext lines count next
+    × ((number : ℕ) (other : Logical) → IsNext lines number other →
+    (number ≡ count) × (other ≡ next))
 
 -- a value means one list of pieces
 abbrev pub HasOneMeaning : Type 0
 HasOneMeaning =
-    (dialect : Dialect) (value : List ℕ) (p q : List Piece) → IsValue dialect value p →
-    IsValue dialect value q → p ≡ q
+    (dialect : Dialect) (value : List ℕ) (pieces others : List Piece) →
+    IsValue dialect value pieces →
+    IsValue dialect value others → pieces ≡ others
 
 -- a line says one thing
 abbrev pub HasOneOutcome : Type 0
@@ -54,17 +56,18 @@ HasOneOutcome =
     (dialect : Dialect) (line : List ℕ) → (outcome : Outcome) × Says dialect line outcome
     × ((other : Outcome) → Says dialect line other → other ≡ outcome)
 
--- no front of the text that is longer than n begins what may begin
+-- no front of the text that is longer than this place begins what may begin
 abbrev pub NoLongerBegins : (List ℕ → Type 0) → List ℕ → ℕ → Type 0
-NoLongerBegins Begins text n = (m : ℕ) → n < m → m ≤ length text → ¬ (Begins (take m text))
+NoLongerBegins Begins text place =
+    (longer : ℕ) → place < longer → longer ≤ length text → ¬ (Begins (take longer text))
 
 -- the place of a fault is that of the longest front: no longer one begins a statement, or a value
 abbrev pub PlacesAreLongest : Type 0
 PlacesAreLongest =
-    ((text : List ℕ) (n : ℕ) → IsPlace BeginsStatement text n →
-    NoLongerBegins BeginsStatement text n)
-    × ((dialect : Dialect) (text : List ℕ) (n : ℕ) → IsPlace (BeginsValue dialect) text n →
-    NoLongerBegins (BeginsValue dialect) text n)
+    ((text : List ℕ) (place : ℕ) → IsPlace BeginsStatement text place →
+    NoLongerBegins BeginsStatement text place)
+    × ((dialect : Dialect) (text : List ℕ) (place : ℕ) → IsPlace (BeginsValue dialect) text place →
+    NoLongerBegins (BeginsValue dialect) text place)
 
 -- bytes have one list of entries
 abbrev pub HasOneReading : Type 0
@@ -129,17 +132,19 @@ OverridesDeclared =
 
 -- two environments have the same value for each name in the pieces
 abbrev pub AgreeOn : LookUp → LookUp → List Piece → Type 0
-AgreeOn a b [] = Unit {0}
-AgreeOn a b (Text text ∷ pieces) = AgreeOn a b pieces
-AgreeOn a b (Name name ∷ pieces) = (a name ≡ b name) × AgreeOn a b pieces
+AgreeOn env other [] = Unit {0}
+AgreeOn env other (Text text ∷ pieces) = AgreeOn env other pieces
+AgreeOn env other (Name name ∷ pieces) = (env name ≡ other name) × AgreeOn env other pieces
 
 -- two environments have the same value for each name in the entries
 abbrev pub AgreeIn : LookUp → LookUp → List Entry → Type 0
-AgreeIn a b [] = Unit {0}
-AgreeIn a b (Declares key pieces ∷ entries) = AgreeOn a b pieces × AgreeIn a b entries
-AgreeIn a b (Fails failure ∷ entries) = AgreeIn a b entries
+AgreeIn env other [] = Unit {0}
+AgreeIn env other (Declares key pieces ∷ entries) =
+    AgreeOn env other pieces × AgreeIn env other entries
+AgreeIn env other (Fails failure ∷ entries) = AgreeIn env other entries
 
 -- environments that agree on every name in the entries give the same items
 abbrev pub NamesDecideItems : Type 0
 NamesDecideItems =
-    (a b : LookUp) (entries : List Entry) → AgreeIn a b entries → items a entries ≡ items b entries
+    (env other : LookUp) (entries : List Entry) → AgreeIn env other entries →
+    items env entries ≡ items other entries

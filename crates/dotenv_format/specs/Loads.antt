@@ -73,6 +73,6 @@ override_result env remembered entries =
     record { env = or_else (last_value declared.pairs) env; answer = declared.stop }
 
 -- the same answer, and the same value of each name
-pub record SameLoad (a b : Loaded) : Type 0 where
-  pub env : (name : List ℕ) → a.env name ≡ b.env name
-  pub answer : a.answer ≡ b.answer
+pub record SameLoad (load other : Loaded) : Type 0 where
+  pub env : (name : List ℕ) → load.env name ≡ other.env name
+  pub answer : load.answer ≡ other.answer

@@ -89,11 +89,12 @@ IsSkipped [] = ⊥
 IsSkipped (None ∷ lines) = ⊥
 IsSkipped (Some text ∷ lines) = IsTrue (begins_with hash (skip_leading_whitespace text))
 
--- line k, counted from 1, is broken, and those before it are texts
+-- the line of this number, counted from 1, is broken, and those before it are texts
 abbrev pub IsFirstBroken : ℕ → List (Option (List ℕ)) → Type 0
-IsFirstBroken k [] = ⊥
-IsFirstBroken k (None ∷ lines) = k ≡ 1
-IsFirstBroken k (Some text ∷ lines) = (j : ℕ) × (k ≡ suc j) × IsFirstBroken j lines
+IsFirstBroken number [] = ⊥
+IsFirstBroken number (None ∷ lines) = number ≡ 1
+IsFirstBroken number (Some text ∷ lines) =
+    (earlier : ℕ) × (number ≡ suc earlier) × IsFirstBroken earlier lines
 
 -- a skipped line; a text; a text that stays open to the end of the input, with its length in bytes; or a broken line
 pub data Logical : Type 0 where
@@ -102,28 +103,28 @@ pub data Logical : Type 0 where
   Open : List ℕ → ℕ → Logical
   Broken : Logical
 
--- the first k lines are a logical line that keeps this text
-pub record IsText (lines : List (Option (List ℕ))) (k : ℕ) (kept : List ℕ) : Type 0 where
+-- the first lines, so many, are a logical line that keeps this text
+pub record IsText (lines : List (Option (List ℕ))) (count : ℕ) (kept : List ℕ) : Type 0 where
   pub text : List ℕ
-  pub within : k ≤ length lines
-  pub joins : joined_text (take k lines) ≡ Some text
-  pub whole : IsWhole text kept (k ≡ length lines)
+  pub within : count ≤ length lines
+  pub joins : joined_text (take count lines) ≡ Some text
+  pub whole : IsWhole text kept (count ≡ length lines)
 
--- the first k lines make the next logical line, with this outcome
+-- the first lines, so many, make the next logical line, with this outcome
 abbrev pub IsNext : List (Option (List ℕ)) → ℕ → Logical → Type 0
-IsNext lines k Skip = IsSkipped lines × (k ≡ 1)
-IsNext lines k (Text kept) = ¬ (IsSkipped lines) × IsText lines k kept
-IsNext lines k (Open text n) =
-    ¬ (IsSkipped lines) × (k ≡ length lines) × (joined_text lines ≡ Some text)
-    × ((j : ℕ) (kept : List ℕ) → ¬ (IsText lines j kept))
-    × (n ≡ byte_len text)
-IsNext lines k Broken =
-    ¬ (IsSkipped lines) × IsFirstBroken k lines
-    × ((j : ℕ) (kept : List ℕ) → j < k → ¬ (IsText lines j kept))
+IsNext lines count Skip = IsSkipped lines × (count ≡ 1)
+IsNext lines count (Text kept) = ¬ (IsSkipped lines) × IsText lines count kept
+IsNext lines count (Open text index) =
+    ¬ (IsSkipped lines) × (count ≡ length lines) × (joined_text lines ≡ Some text)
+    × ((other : ℕ) (kept : List ℕ) → ¬ (IsText lines other kept))
+    × (index ≡ byte_len text)
+IsNext lines count Broken =
+    ¬ (IsSkipped lines) × IsFirstBroken count lines
+    × ((fewer : ℕ) (kept : List ℕ) → fewer < count → ¬ (IsText lines fewer kept))
 
 -- an open end
 abbrev pub IsOpenEnd : Logical → Type 0
 IsOpenEnd Skip = ⊥
 IsOpenEnd (Text kept) = ⊥
-IsOpenEnd (Open text n) = Unit {0}
+IsOpenEnd (Open text index) = Unit {0}
 IsOpenEnd Broken = ⊥

@@ -29,7 +29,7 @@ Assigns dialect rest pieces =
 
 -- a place in a value counts its characters; where the value only lacks its end, it is the number of its bytes less one
 abbrev pub value_index : List ℕ → ℕ → ℕ
-value_index rest n = if n == length rest then byte_len rest - 1 else n
+value_index rest place = if place == length rest then byte_len rest - 1 else place
 
 -- the line is no statement: this is the line, and the index in bytes after the longest front that begins one
 pub record HasNoStatement (line text : List ℕ) (index : ℕ) : Type 0 where

@@ -13,8 +13,8 @@ abbrev pub BeginsValue : Dialect → List ℕ → Type 0
 BeginsValue dialect front =
     (more : List ℕ) × (pieces : List Piece) × IsValue dialect (front ++ more) pieces
 
--- the first n characters are the longest front of the text that can be completed
-pub record IsPlace (Begins : List ℕ → Type 0) (text : List ℕ) (n : ℕ) : Type 0 where
-  pub within : n ≤ length text
-  pub completed : Begins (take n text)
-  pub longest : n < length text → ¬ (Begins (take (suc n) text))
+-- the first characters, so many, are the longest front of the text that can be completed
+pub record IsPlace (Begins : List ℕ → Type 0) (text : List ℕ) (place : ℕ) : Type 0 where
+  pub within : place ≤ length text
+  pub completed : Begins (take place text)
+  pub longest : place < length text → ¬ (Begins (take (suc place) text))

@@ -106,6 +106,13 @@ use Rattle.dotenv_lines.specs.inside.JoinedLines.{
 }
 use Rattle.dotenv_lines.specs.Splitter.{AdvanceIs}
 use Rattle.dotenv_lines.specs.declared.physical_line.Taken.{Taken}
+use Rattle.dotenv_lines.specs.declared.physical_line.Taken.TheVariants.{
+  Going as taken_going,
+  Ended as taken_ended,
+  Comment as taken_comment,
+  Broken as taken_broken,
+}
+use Rattle.dotenv_lines.proofs.NumberedLines.{counts_one}
 use Rattle.dotenv_lines.specs.inside.TakenLine.{LineMakes}
 use Rattle.dotenv_format.proofs.lines.Scans as scans
 use Rattle.dotenv_format.proofs.lines.Scans.{stops, scan, scan-reads, Reads, Read}
@@ -516,7 +523,7 @@ joining_counts a s t v seen line m n before now after some u comment walks j tak
 )
 
 -- where a line ends the logical line, that is taken as the next one, with the text that is kept
-pub joining_ends : (a : Ahead) (s t v : InputState) (seen line text : List ℕ) (m : LineMode) → line ≢ [] →
+joining_ends : (a : Ahead) (s t v : InputState) (seen line text : List ℕ) (m : LineMode) → line ≢ [] →
     IsUtf8 line → (seen ≡ [] → begins_with hash (skip_leading_whitespace (chars line)) ≡ false) →
     walk m seen (chars line) ≡ ended text → (j : Joining a s seen m t) →
     TakesLine (record { bytes = j.left; fault = a.fault }) t line v →
@@ -561,7 +568,7 @@ joining_ends a s t v seen line text m some u comment walks j k =
     })
 
 -- where the first line is a comment, it is taken as the next logical line, and skipped
-pub joining_skips : (a : Ahead) (s t v : InputState) (seen line : List ℕ) (m : LineMode) → line ≢ [] → IsUtf8 line →
+joining_skips : (a : Ahead) (s t v : InputState) (seen line : List ℕ) (m : LineMode) → line ≢ [] → IsUtf8 line →
     seen ≡ [] → begins_with hash (skip_leading_whitespace (chars line)) ≡ true → (j : Joining a s seen m t) →
     TakesLine (record { bytes = j.left; fault = a.fault }) t line v → TakesNext a s Skip 1 v
 joining_skips a s t v seen line m some u empty comment j k =
@@ -591,7 +598,7 @@ joining_skips a s t v seen line m some u empty comment j k =
     }
 
 -- where a line isn't UTF-8, the next logical line that is taken is broken
-pub joining_breaks : (a : Ahead) (s t v : InputState) (seen line : List ℕ) (m : LineMode) → line ≢ [] →
+joining_breaks : (a : Ahead) (s t v : InputState) (seen line : List ℕ) (m : LineMode) → line ≢ [] →
     ¬ (IsUtf8 line) → (j : Joining a s seen m t) → TakesLine (record { bytes = j.left; fault = a.fault }) t line v →
     TakesNext a s Broken (suc (length j.taken)) v
 joining_breaks a s t v seen line m some broken j k =
@@ -820,6 +827,54 @@ line_was_taken a s t v u seen m taken now told j same finds makes =
       count = refl;
       makes = makes (ahead_of w.left a.fault) (joining_told a s v seen m told w);
     }
+
+-- the next logical line, where the line that was taken ends it, and its physical lines, counted
+abbrev pub EndsNext : Ahead → InputState → Taken → List ℕ → InputState → ℕ → ℕ → Type 0
+EndsNext a s (taken_going next) now u before after = Unit {0}
+EndsNext a s taken_ended now u before after =
+    (count : ℕ) × TakesNext a s (Text now) count u × Counts before count after
+EndsNext a s taken_comment now u before after =
+    (count : ℕ) × TakesNext a s Skip count u × Counts before count after
+EndsNext a s taken_broken now u before after =
+    (count : ℕ) × TakesNext a s Broken count u × Counts before count after
+
+-- a line that was taken behind texts, and that ends the logical line, ends the one that these began
+taken_ends : (a : Ahead) (s v u : InputState) (seen : List ℕ) (m : LineMode) (taken : Taken) (now : List ℕ)
+    (count before lines after : ℕ) → LineWasTaken a s v u seen m count taken now → Counts before count lines →
+    after ≡ min (lines + 1) (2 ^ 64 - 1) → EndsNext a s taken now u before after
+taken_ends a s v u seen m (taken_going next) now count before lines after l counts one = tt
+taken_ends a s v u seen m taken_ended now count before lines after l counts one =
+    let k = l.makes in
+    let w = l.joining in (
+      suc (length w.taken),
+      joining_ends a s v u seen k.0 now m k.1.some k.1.text k.2 k.3 w k.1.takes,
+      counts_one before count lines after (suc (length w.taken)) counts one (ap suc l.count),
+    )
+taken_ends a s v u seen m taken_comment now count before lines after l counts one =
+    let k = l.makes in
+    let w = l.joining in (
+      1,
+      joining_skips a s v u seen k.0 m k.1.some k.1.text k.2 k.3 w k.1.takes,
+      counts_one before count lines after 1 counts one (ap (λ ts. suc (length ts)) (sym (w.first k.2)) ∙ ap suc l.count),
+    )
+taken_ends a s v u seen m taken_broken now count before lines after l counts one =
+    let k = l.makes in
+    let w = l.joining in (
+      suc (length w.taken),
+      joining_breaks a s v u seen k.0 m k.1 k.2 w k.3,
+      counts_one before count lines after (suc (length w.taken)) counts one (ap suc l.count),
+    )
+
+-- where more was found behind the texts taken, and the line that was taken ends the logical line, it is known
+pub line_ends_next : {X : Ahead → Type 0} (a : Ahead) (s t v u : InputState) (seen : List ℕ) (m : LineMode)
+    (taken : Taken) (now : List ℕ) (before lines after : ℕ) → IsTold s.left a → (j : Joining a s seen m t) →
+    (t.at_end ≡ true → v ≡ t) →
+    ((b : Ahead) → IsTold t.left b → (v.left ≡ Some b) × ReadsFit b t b v × X b) →
+    ((b : Ahead) → IsTold v.left b → LineMakes m seen b v taken now u) → Counts before (length j.taken) lines →
+    after ≡ min (lines + 1) (2 ^ 64 - 1) → EndsNext a s taken now u before after
+line_ends_next a s t v u seen m taken now before lines after told j same finds makes =
+    taken_ends a s v u seen m taken now (length j.taken) before lines after
+    (line_was_taken a s t v u seen m taken now told j same finds makes)
 
 -- a fault before any byte is one before a line feed
 pub none-feeds : {A : Type 0} (a : Ahead) (s v : InputState) (e : Error A) →

@@ -84,15 +84,6 @@ front-valid bytes n valid =
       longest = λ m more within. valid.longest m (omega (arith, more, long));
     }
 
--- bytes that are text are themselves their longest front that is text
-pub front-whole : (bytes : List ℕ) → IsUtf8 bytes → IsTextFront bytes bytes
-front-whole bytes text = record {
-  text = text;
-  within = omega arith;
-  is_front = sym (take_all (length bytes) bytes (omega arith));
-  longest = λ m more within. absurd (omega (arith, more, within));
-}
-
 -- bytes that are text are read as that text
 pub read-text : {E : Type 0} (P : E → Type 0) (r : Result (Bor (List ℕ)) E) (other : Bor (List ℕ)) (bytes : List ℕ) →
     MatchResult r (λ s. (s.now ≡ bytes) × IsUtf8 bytes) (λ e. ¬ (IsUtf8 bytes) × P e) → IsUtf8 bytes →

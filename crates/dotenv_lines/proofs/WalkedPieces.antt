@@ -43,8 +43,8 @@ use Rattle.dotenv_format.specs.Tokens.{stands_for_itself}
 use Rattle.dotenv_format.specs.PhysicalLines.{no_line_feed}
 use Rattle.dotenv_format.specs.inside.Walk.{ended, walk, walked, leads, leads_outside}
 use Rattle.dotenv_lines.specs.inside.TakenLine.{IsNoComment, WalksOn, WalksFrom, still_blank}
-use Rattle.dotenv_format.proofs.Basics.{and_right, more_some}
-use Rattle.dotenv_format.proofs.lines.LineTexts.{same_code, walk-more}
+use Rattle.dotenv_format.proofs.Basics.{and_right, more_some, same_from}
+use Rattle.dotenv_format.proofs.lines.LineTexts.{walk-more}
 
 -- a walk stays where it ended
 pub walk-ended : (m : LineMode) (text seen xs ys : List ℕ) → walk m seen xs ≡ ended text →
@@ -150,7 +150,7 @@ blank_leads m c white other = at m
       where
         test : (b : Bool) → (c == hash) ≡ b → b ≡ false
         test true e =
-            let f : is_whitespace hash ≡ true = subst (λ d. is_whitespace d ≡ true) (same_code c hash e) white in cc
+            let f : is_whitespace hash ≡ true = subst (λ d. is_whitespace d ≡ true) (same_from c hash e) white in cc
         test false e = refl
 
     outside : leads_outside c ≢ None

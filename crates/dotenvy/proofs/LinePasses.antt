@@ -55,7 +55,7 @@ use Rattle.dotenv_format.specs.inside.ReadValue.{base, read_value}
 use Rattle.dotenv_format.specs.inside.NextPiece.{StopsAt}
 use Rattle.dotenvy.specs.inside.ValuePasses.{saturated, MeansBytes, Appends}
 use Rattle.dotenv_format.specs.Statement.{IsStatement}
-use Rattle.dotenv_format.proofs.Basics.{not_is}
+use Rattle.dotenv_format.proofs.Basics.{not_is, nil_of}
 use Rattle.dotenv_format.specs.inside.ParseStatement.{assigns, fails, parse}
 use Rattle.dotenvy.specs.inside.FirstPass.{IsAssigned, ScansAssigned, IsDeclared, Scans, AreCopiesOf}
 use Rattle.dotenv_format.proofs.values.Values.{value-read, read-value, no_value}
@@ -73,11 +73,6 @@ front_and_left text left front u v h =
 -- a text without characters has no bytes
 no_bytes : (text : List ℕ) → IsUtf8 text → chars text ≡ [] → length text ≡ 0
 no_bytes text u h = ap length (sym (encodes-chars text u) ∙ ap encode_utf8_all h)
-
--- bytes whose number is zero are none
-no_length : (text : List ℕ) → length text ≡ 0 → text ≡ []
-no_length [] h = refl
-no_length (b ∷ text) h = absurd (omega (arith, h))
 
 -- where a place is the length itself, the index is the other number
 same_length : (n k : ℕ) → cond (n == n) k n ≡ k
@@ -98,7 +93,7 @@ pub index_open : (value left front : List ℕ) → IsUtf8 value → IsUtf8 left 
     chars value ≡ front ++ chars left → length value - 1 ≡ value_index (chars value) (length front)
 index_open value left front u v none h =
     let whole : chars value ≡ front =
-    h ∙ ap (λ t. front ++ t) (ap chars (no_length left none) ∙ chars-nil) ∙ append-nil front in
+    h ∙ ap (λ t. front ++ t) (ap chars (nil_of left none) ∙ chars-nil) ∙ append-nil front in
     sym (ap (λ n. cond (n == length (chars value)) (byte_len (chars value) - 1) n) (sym (ap length whole))
     ∙ same_length (length (chars value)) (byte_len (chars value) - 1)
     ∙ ap (λ t. length t - 1) (encodes-chars value u))

@@ -1,6 +1,6 @@
 // The values of an environment, into which the first use loads `.env`.
 ghost use Rattle.std.specs.Prelude.{◌≡◌, ◌⊎◌, Err, IfErr, IfOk, None, OnErr, OnOk, false, true};
-ghost use Rattle.std.specs.FinMap as map;
+ghost use Rattle.std.specs.FinMap as fin;
 ghost use Rattle.dotenv_base.specs.Environment.{KeepsNames};
 ghost use Rattle.dotenv_base.specs.Errors.{IsMemory, IsMemoryErr};
 ghost use Rattle.dotenvy.specs.FirstUse.{AnswersVar};
@@ -34,8 +34,8 @@ pub fn var<A: Allocator + Clone, R: Files + Env + Alloc<A = A>>(
     ensures mark { (env.new.loaded ≡ true) ⊎ IsMemoryErr result }
 
     // Of the environment as it stands now. Where the mark is set, only a copy of a value takes memory.
-    ensures answer { IsMemoryErr result ⊎ AnswersVar (map.get env.new.names key.now) result }
-    ensures absent { env.new.loaded ≡ true → map.get env.new.names key.now ≡ None →
+    ensures answer { IsMemoryErr result ⊎ AnswersVar (fin.get env.new.names key.now) result }
+    ensures absent { env.new.loaded ≡ true → fin.get env.new.names key.now ≡ None →
         result ≡ Err (Error.EnvVar VarError.NotPresent) }
 {
     load_once(rt, env)?;
@@ -60,7 +60,7 @@ pub fn vars<A: Allocator + Clone, R: Files + Env + Alloc<A = A>>(
     ensures keeps { KeepsNames env.old.names env.new.names }
     ensures keys { ChangesKeys env.old.names env.new.names }
     ensures mark { (env.new.loaded ≡ true) ⊎ IsMemoryErr result }
-    ensures pairs { IfOk result (λ pairs. pairs ≡ map.entries env.new.names) }
+    ensures pairs { IfOk result (λ pairs. pairs ≡ fin.entries env.new.names) }
     ensures memory { IfErr result IsMemory }
 {
     load_once(rt, env).and_then(|()| snapshot(env))

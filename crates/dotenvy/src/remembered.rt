@@ -1,6 +1,6 @@
 // The values that an iterator remembers.
 ghost use Rattle.std.specs.Prelude.{◌≡◌, OnOk, OnErr, option_copied, option_map, string_bytes};
-ghost use Rattle.std.specs.FinMap as map;
+ghost use Rattle.std.specs.FinMap as fin;
 ghost use Rattle.dotenvy.specs.Remembered.{remembered_of, recalled};
 
 use std::alloc::{AllocError, Allocator};
@@ -33,7 +33,7 @@ pub(crate) fn remember<A: Allocator + Clone>(
     value: Option<String<A>>,
 ) -> Result<(), AllocError>
     ensures ok { OnOk result (remembered_of remembered.new.entries
-        ≡ map.insert (remembered_of remembered.old.entries) (string_bytes key)
+        ≡ fin.insert (remembered_of remembered.old.entries) (string_bytes key)
         (option_map string_bytes value)) }
     ensures same { OnErr result (remembered.new.entries ≡ remembered.old.entries) }
 {

@@ -32,6 +32,7 @@ use Rattle.std.specs.declared.cmp.Ordering.TheVariants.{Less, Equal, Greater}
 use Rattle.std.specs.declared.process.command.Command.{Command}
 use Rattle.std.proofs.lemmas.Map.Text.{is_eq-slice_cmp}
 use Rattle.dotenv_base.specs.Environment.{Texts}
+use Rattle.dotenv_format.proofs.Basics.{left_holds, right_holds}
 
 -- the order of two names by their bytes
 abbrev bytes_cmp : List ℕ → List ℕ → Ordering
@@ -82,22 +83,12 @@ differs : (name other : List ℕ) → is_eq (bytes_cmp name other) ≡ false →
 differs name other is same = let both : true ≡ false = sym ((bytes_decides name other).1 same)
     ∙ sym (is_eq-slice_cmp name other) ∙ is in cc
 
--- of two things that hold, the second
-second : (a b : Bool) → T (a && b) → T b
-second true b both = both
-second false b both = absurd both
-
--- of two things that hold, the first
-first : (a b : Bool) → T (a && b) → T a
-first true b both = tt
-first false b both = absurd both
-
 -- one name more is set
 pub one_set : {A : Type 0} (names : Texts) (name value : List ℕ) (left : List (List ℕ × List ℕ)) (old new : Command A) →
     SetsWithLeft names ((name, value) ∷ left) old → command_var new name ≡ Some (Some value) →
     SameOtherVars old new name → SetsWithLeft names left new
 one_set names name value left old new before set others = record {
-  sorted = second (below_all bytes_cmp name left) (is_sorted bytes_cmp left) before.sorted;
+  sorted = right_holds (below_all bytes_cmp name left) (is_sorted bytes_cmp left) before.sorted;
   says = λ other. at other (is_eq (bytes_cmp other name)) refl (before.says other);
 }
   where
@@ -109,7 +100,7 @@ one_set names name value left old new before set others = record {
     at other true is says =
         let same = ties other name is in
         let later = none_later name left
-        (first (below_all bytes_cmp name left) (is_sorted bytes_cmp left) before.sorted) in
+        (left_holds (below_all bytes_cmp name left) (is_sorted bytes_cmp left) before.sorted) in
         ap (λ n. option_or (option_map Some (find bytes_cmp n left)) (command_var new n)) same
         ∙ ap (λ found. option_or (option_map Some found) (command_var new name)) later ∙ set ∙ says
     at other false is says =

@@ -45,7 +45,7 @@ use Rattle.std.proofs.lemmas.Str.{
 use Rattle.std.proofs.lemmas.List.{take-append-drop, append-nil}
 use Rattle.std.proofs.Common.{length-drop}
 use Rattle.dotenv_format.specs.Characters.{begins_with}
-use Rattle.dotenv_format.proofs.Basics.{both, same_from}
+use Rattle.dotenv_format.proofs.Basics.{both, same_from, not_false}
 use Rattle.dotenv_format.specs.inside.Slices.{BeginsWith, IsSpan, begins_passing}
 
 -- a text that begins with a character's bytes begins with that character, and a text follows
@@ -58,15 +58,10 @@ begins_with_first text rest c u h =
 pub no_characters : (text : List ℕ) → text ≡ [] → chars text ≡ []
 no_characters text h = ap chars h ∙ chars-nil
 
--- a truth value whose denial is false is true
-not_not : (b : Bool) → not b ≡ false → b ≡ true
-not_not true h = refl
-not_not false h = cc
-
 -- where no character fails, all pass
 all_pass : (passes : ℕ → Bool) (cs : List ℕ) → NonePass (λ c. not (passes c)) cs → list_all passes cs ≡ true
 all_pass passes [] h = refl
-all_pass passes (c ∷ cs) h = both (passes c) (list_all passes cs) (not_not (passes c) h.0) (all_pass passes cs h.1)
+all_pass passes (c ∷ cs) h = both (passes c) (list_all passes cs) (not_false (passes c) h.0) (all_pass passes cs h.1)
 
 -- in a text where no character fails, all its characters pass
 pub characters_pass : (passes : ℕ → Bool) (text : List ℕ) → IsUtf8 text → NoCharPasses (λ c. not (passes c)) text →

@@ -35,7 +35,6 @@ use Rattle.std.specs.Prelude.{◌==◌, IsUtf8, encode_utf8_all}
 use Rattle.std.specs.Str.{chars, trim_start, skip_leading_whitespace, IsCharBoundary}
 use Rattle.std.proofs.Math.Utf8.{encode}
 use Rattle.std.proofs.Math.Seq.{take-append_seam}
-use Rattle.std.proofs.lemmas.Bool.Decides.{nat_tests}
 use Rattle.std.proofs.lemmas.List.{append-nil}
 use Rattle.std.proofs.lemmas.Str.{
   chars-nil,
@@ -70,11 +69,7 @@ use Rattle.dotenv_format.specs.declared.walk.LineMode.TheVariants.{
 use Rattle.dotenv_format.specs.declared.text.Class.{Class}
 use Rattle.dotenv_format.specs.declared.text.Class.TheVariants.{Token, Quoted}
 use Rattle.dotenv_format.specs.inside.Slices.{BeginsWith, IsSpan, has_character}
-use Rattle.dotenv_format.proofs.Basics.{and_left, and_right}
-
--- two characters that pass the test for equal ones are the same
-pub same_code : (c d : ℕ) → (c == d) ≡ true → c ≡ d
-same_code c d h = grind (arith, nat_tests, h)
+use Rattle.dotenv_format.proofs.Basics.{and_left, and_right, same_from}
 
 -- a carriage return at the end goes
 return_goes : (xs : List ℕ) → without_carriage_return (xs ++ 13 ∷ []) ≡ xs
@@ -88,7 +83,7 @@ no_return [] h = refl
 no_return (c ∷ []) h = at (c == 13) refl
   where
     at : (b : Bool) → (c == 13) ≡ b → cond b [] (c ∷ []) ≡ c ∷ []
-    at true e = absurd (h [] (ap (λ d. d ∷ []) (same_code c 13 e)))
+    at true e = absurd (h [] (ap (λ d. d ∷ []) (same_from c 13 e)))
     at false e = refl
 no_return (c ∷ d ∷ cs) h = ap (λ l. c ∷ l) (no_return (d ∷ cs) (λ front e. h (c ∷ front) (ap (λ l. c ∷ l) e)))
 
@@ -116,7 +111,7 @@ chars_popped old text new n ends same len is test cut pops u =
     let last : get_or old (n - 1) 0 ≡ 13 =
     ap (λ k. get_or old (k - 1) 0) len
     ∙ ap (λ l. get_or l (length l - 1) 0) (sym same)
-    ∙ same_code (get_or text (length text - 1) 0) 13 (sym test ∙ is) in
+    ∙ same_from (get_or text (length text - 1) 0) 13 (sym test ∙ is) in
     let some : 0 < n =
     let l = ap length whole in omega (arith, l, len, length-append (take (length old - 1) old) (13 ∷ [])) in
     chars_without_return old new u
@@ -149,11 +144,11 @@ first_byte (c ∷ cs) = at (c == hash) (get_or bytes 0 0 == hash) refl refl
     at true true e f = refl
     at false false e f = refl
     at true false e f =
-        let k = same_code c hash e in
+        let k = same_from c hash e in
         let g = byte_from_char (encode c ++ encode_utf8_all cs) (encode_utf8_all cs) c refl (omega (arith, k)) in
         let t : (get_or (encode c ++ encode_utf8_all cs) 0 0 == hash) ≡ true = ap (λ d. d == hash) g ∙ e in sym f ∙ t
     at false true e f =
-        let k = same_code (get_or (encode c ++ encode_utf8_all cs) 0 0) hash f in
+        let k = same_from (get_or (encode c ++ encode_utf8_all cs) 0 0) hash f in
         let g = char_from_byte (encode c ++ encode_utf8_all cs) (encode_utf8_all cs) c refl (omega (arith, k)) some in
         let t : (c == hash) ≡ true = ap (λ d. d == hash) g ∙ f in sym t ∙ e
 
@@ -192,7 +187,7 @@ pub kept_elsewhere : (c : ℕ) (xs : List ℕ) → c ≢ line_feed → xs ≡ ke
 kept_elsewhere c xs h = at (c == line_feed) refl
   where
     at : (b : Bool) → (c == line_feed) ≡ b → xs ≡ cond b (without_carriage_return xs) xs
-    at true e = absurd (h (same_code c line_feed e))
+    at true e = absurd (h (same_from c line_feed e))
     at false e = refl
 
 -- a walk goes on behind what was walked

@@ -111,10 +111,6 @@ not_returned [] = refl
 not_returned (c ∷ []) = refl
 not_returned (c ∷ d ∷ xs) = ap (λ cs. c ∷ cs) (not_returned (d ∷ xs))
 
--- an ending that is a line feed is not the end of the input
-no_end : (e : Ending) → e ≡ line_end → e ≡ input_end → ⊥
-no_end e h k = let f : line_end ≡ input_end = sym h ∙ k in cc
-
 -- after a whole token, this reading goes where the character leads: to the line's end, or to a mode
 abbrev LineStep : ℕ → Option LineMode → (List ℕ → Scan) → Type 0
 LineStep c None read = (rest : List ℕ) → rest ≡ [] → read rest ≡ stops [] line_end []

@@ -35,6 +35,7 @@ use Rattle.dotenv_format.specs.Run.{Loaded, Keep, Replace, after_declaration, ru
 use Rattle.dotenv_format.specs.Loads.{load_result, override_result, SameLoad}
 use Rattle.dotenv_format.specs.Laws.{AgreeOn, AgreeIn, IsOverridden}
 use Rattle.dotenv_format.proofs.loads.LoadLaws.{meaning-same, run-keep, run-replace}
+use Rattle.dotenv_format.proofs.Basics.{if_true, if_false}
 
 -- a value that is there is not absent
 some_none : (x : Option (List ℕ)) (v : List ℕ) → x ≡ Some v → is_none x ≡ true → ⊥
@@ -80,16 +81,6 @@ declared_there : (e : LookUp) (key w : List ℕ) (b : Bool) → is_none (e key) 
     (u : List ℕ) × ((if b then with_value e key w else e) key ≡ Some u)
 declared_there e key w true none = (w, rw (same_name key) refl)
 declared_there e key w false some = is_some (e key) some
-
--- of what two loads leave, a test that holds chooses the first
-first_of : (x y : Loaded) (b : Bool) → b ≡ true → (if b then x else y) ≡ x
-first_of x y true h = refl
-first_of x y false h = cc
-
--- of what two loads leave, a test that fails chooses the second
-second_of : (x y : Loaded) (b : Bool) → b ≡ false → (if b then x else y) ≡ y
-second_of x y false h = refl
-second_of x y true h = cc
 
 -- a load of these entries that keeps values leaves the values of this environment, and has this answer
 abbrev Again : LookUp → LookUp → List Entry → LookUp → Result (Unit {0}) Failure → Type 0
@@ -141,7 +132,7 @@ stop_again : (end s : LookUp) (key : List ℕ) (pieces : List Piece) (entries : 
     Again end s (Declares key pieces ∷ entries) end (Err (Nul key))
 stop_again end s key pieces entries stops =
     let e : run Keep end s (Declares key pieces ∷ entries) ≡ record { env = end; answer = Err (Nul key) } =
-    first_of _ _ (is_none (end key) && has_nul (meaning (or_else end s) pieces)) stops in
+    if_true _ _ (is_none (end key) && has_nul (meaning (or_else end s) pieces)) stops in
     (λ n. ap (λ l. Loaded.env l n) e, ap Loaded.answer e)
 
 -- a load over what a first one left, remembering the same for absent names, sets nothing and answers the same
@@ -238,7 +229,7 @@ replaces e r (Declares key pieces ∷ entries) name =
           entries,
           ap (λ n. Declares n pieces
               ∷ entries) k,
-          ap Loaded.answer (second_of _ _ (has_nul (meaning (or_else e r) pieces)) g),
+          ap Loaded.answer (if_false _ _ (has_nul (meaning (or_else e r) pieces)) g),
         )
     at false false g f (inl same) = inl (same ∙ rw f refl)
     at false false g f (inr (before, others, after, is, ok)) =
@@ -247,7 +238,7 @@ replaces e r (Declares key pieces ∷ entries) name =
           others,
           after,
           ap (λ es. Declares key pieces ∷ es) is,
-          ap Loaded.answer (second_of _ _ (has_nul (meaning (or_else e r) pieces)) g) ∙ ok,
+          ap Loaded.answer (if_false _ _ (has_nul (meaning (or_else e r) pieces)) g) ∙ ok,
         )
 
 -- `load_override` leaves a name's value, or the name is declared before its stop

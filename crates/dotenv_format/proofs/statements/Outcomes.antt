@@ -44,7 +44,8 @@ use Rattle.dotenv_format.proofs.statements.StatementPlaces as statement_places
 use Rattle.dotenv_format.proofs.statements.StatementPlaces.{statement_place, statement_fronts, none_some}
 use Rattle.dotenv_format.specs.inside.ReadValue as reader
 use Rattle.dotenv_format.proofs.values.Values.{read-value, value-read, one_list_of_pieces}
-use Rattle.dotenv_format.proofs.values.ValuePlaces.{value_place, value_fronts, one_place}
+use Rattle.dotenv_format.proofs.values.ValuePlaces.{value_place, value_fronts}
+use Rattle.dotenv_format.proofs.values.LongestFronts.{one_place}
 
 -- What a line says, computed: the outcome of a value, of what is assigned, and of a line.
 -- what a key says whose value is read so: a pair, or a fault in the value

@@ -45,8 +45,6 @@ use Rattle.dotenv_format.proofs.statements.Statements.{
   read_statement,
   read-statement,
   statement-read,
-  if_true,
-  if_false,
   white_no_equals,
 }
 use Rattle.dotenv_format.specs.inside.ParseStatement.{export}
@@ -70,6 +68,7 @@ use Rattle.dotenv_format.specs.inside.ParseStatement.{
   after_first_key,
   parse,
 }
+use Rattle.dotenv_format.proofs.Basics.{when_true, when_false}
 
 -- a fault in a text, read from the mode: nothing is read, and this is left, from the place on
 pub record FailsAt (m : StatementMode) (text left : List ℕ) : Type 0 where
@@ -146,12 +145,12 @@ at_assigned key cs = ap (λ r. Some (key, r)) (rest-skip cs)
 
 -- behind a key that is no prefix, white space leads to the same mode
 after_white : (key : List ℕ) (c : ℕ) → is_whitespace c ≡ true → statement_goes (after_key key) c ≡ Some (after_key key)
-after_white key c h = if_false _ _ (c == equals_sign) (white_no_equals c h) ∙ if_true _ _ (is_whitespace c) h
+after_white key c h = when_false _ _ (c == equals_sign) (white_no_equals c h) ∙ when_true _ _ (is_whitespace c) h
 
 -- behind a key that is no prefix, what is neither white space nor `=` leads nowhere
 after_other : (key : List ℕ) (c : ℕ) → is_whitespace c ≡ false → (c == equals_sign) ≡ false →
     statement_goes (after_key key) c ≡ None
-after_other key c h k = if_false _ _ (c == equals_sign) k ∙ if_false _ _ (is_whitespace c) h
+after_other key c h k = when_false _ _ (c == equals_sign) k ∙ when_false _ _ (is_whitespace c) h
 
 -- behind a key that is no prefix, reading is passing white space by and expecting `=`
 at_after_key : (key cs : List ℕ) → Matches (after_key key) cs (after_plain_key key (skip_leading_whitespace cs))
@@ -161,7 +160,7 @@ at_after_key key (c ∷ cs) = at (is_whitespace c) (c == equals_sign) refl refl 
     here : (e : Bool) → is_whitespace c ≡ false → (c == equals_sign) ≡ e →
         Matches (after_key key) (c ∷ cs) (cond e (after_equals key cs) (fails (c ∷ cs)))
     here true h k =
-        go (after_key key) c cs (assigned key) (after_equals key cs) tt (if_true _ _ (c == equals_sign) k)
+        go (after_key key) c cs (assigned key) (after_equals key cs) tt (when_true _ _ (c == equals_sign) k)
         (at_assigned key cs)
     here false h k = stop (after_key key) c cs tt (after_other key c h k)
 
@@ -183,18 +182,18 @@ at_second acc (c ∷ cs) = at (continues_key c) refl (at_second (acc ++ c ∷ []
         Matches (in_key false acc) (c ∷ cs) (cond e (after_equals acc cs) (fails (c ∷ cs)))
     equals true h w k =
         go (in_key false acc) c cs (assigned acc) (after_equals acc cs) tt
-        (if_false _ _ (continues_key c) h ∙ if_true _ _ (c == equals_sign) k) (at_assigned acc cs)
+        (when_false _ _ (continues_key c) h ∙ when_true _ _ (c == equals_sign) k) (at_assigned acc cs)
     equals false h w k =
         stop (in_key false acc) c cs tt
-        (if_false _ _ (continues_key c) h ∙ if_false _ _ (c == equals_sign) k ∙ if_false _ _ (is_whitespace c) w)
+        (when_false _ _ (continues_key c) h ∙ when_false _ _ (c == equals_sign) k ∙ when_false _ _ (is_whitespace c) w)
 
     here : (w : Bool) → continues_key c ≡ false → is_whitespace c ≡ w →
         Matches (in_key false acc) (c ∷ cs) (after_plain_key acc (cond w (skip_leading_whitespace cs) (c ∷ cs)))
     here true h w =
         go (in_key false acc) c cs (after_key acc) (after_plain_key acc (skip_leading_whitespace cs)) tt
-        (if_false _ _ (continues_key c) h
-        ∙ if_false _ _ (c == equals_sign) (white_no_equals c w)
-        ∙ if_true _ _ (is_whitespace c) w) (at_after_key acc cs)
+        (when_false _ _ (continues_key c) h
+        ∙ when_false _ _ (c == equals_sign) (white_no_equals c w)
+        ∙ when_true _ _ (is_whitespace c) w) (at_after_key acc cs)
     here false h w = equals (c == equals_sign) h w refl
 
     at : (k : Bool) → continues_key c ≡ k →
@@ -205,7 +204,7 @@ at_second acc (c ∷ cs) = at (continues_key c) refl (at_second (acc ++ c ∷ []
     at true h later =
         go (in_key false acc) c cs (in_key false (acc ++ c ∷ []))
         (after_plain_key (acc ++ c ∷ key_run cs) (skip_leading_whitespace (key_left cs))) tt
-        (if_true _ _ (continues_key c) h) (subst
+        (when_true _ _ (continues_key c) h) (subst
         (λ key.
         Matches (in_key false (acc ++ c ∷ [])) cs (after_plain_key key (skip_leading_whitespace (key_left cs))))
         (append_assoc acc (c ∷ []) (key_run cs)) later)
@@ -228,16 +227,16 @@ at_after_export (c ∷ cs) = at (is_whitespace c) refl (at_after_export cs)
     key true w e h =
         go after_export c cs (in_key false (c ∷ []))
         (after_plain_key (c ∷ key_run cs) (skip_leading_whitespace (key_left cs))) tt
-        (if_false _ _ (c == equals_sign) e ∙ if_false _ _ (is_whitespace c) w ∙ if_true _ _ (begins_key c) h)
+        (when_false _ _ (c == equals_sign) e ∙ when_false _ _ (is_whitespace c) w ∙ when_true _ _ (begins_key c) h)
         (at_second (c ∷ []) cs)
     key false w e h =
         stop after_export c cs tt
-        (if_false _ _ (c == equals_sign) e ∙ if_false _ _ (is_whitespace c) w ∙ if_false _ _ (begins_key c) h)
+        (when_false _ _ (c == equals_sign) e ∙ when_false _ _ (is_whitespace c) w ∙ when_false _ _ (begins_key c) h)
 
     equals : (e : Bool) → is_whitespace c ≡ false → (c == equals_sign) ≡ e →
         Matches after_export (c ∷ cs) (cond e (after_equals export cs) (second_key (c ∷ cs)))
     equals true w e =
-        go after_export c cs (assigned export) (after_equals export cs) tt (if_true _ _ (c == equals_sign) e)
+        go after_export c cs (assigned export) (after_equals export cs) tt (when_true _ _ (c == equals_sign) e)
         (at_assigned export cs)
     equals false w e = key (begins_key c) w e refl
 
@@ -245,12 +244,12 @@ at_after_export (c ∷ cs) = at (is_whitespace c) refl (at_after_export cs)
         Matches after_export (c ∷ cs) (after_prefix (cond w (skip_leading_whitespace cs) (c ∷ cs)))
     at true w later =
         go after_export c cs after_export (after_prefix (skip_leading_whitespace cs)) tt
-        (if_false _ _ (c == equals_sign) (white_no_equals c w) ∙ if_true _ _ (is_whitespace c) w) later
+        (when_false _ _ (c == equals_sign) (white_no_equals c w) ∙ when_true _ _ (is_whitespace c) w) later
     at false w later = equals (c == equals_sign) w refl
 
 -- a character with which no key goes on begins none
-begins_continues : (c : ℕ) → continues_key c ≡ false → begins_key c ≡ false
-begins_continues c h = at (begins_key c) refl
+no_key_begins : (c : ℕ) → continues_key c ≡ false → begins_key c ≡ false
+no_key_begins c h = at (begins_key c) refl
   where
     at : (b : Bool) → begins_key c ≡ b → b ≡ false
     at false e = refl
@@ -270,14 +269,14 @@ at_first acc (c ∷ cs) = at (continues_key c) refl (at_first (acc ++ c ∷ []) 
         Matches (in_key true acc) (c ∷ cs) (fails (c ∷ cs))
     stops h w e =
         stop (in_key true acc) c cs tt
-        (if_false _ _ (continues_key c) h ∙ if_false _ _ (c == equals_sign) e ∙ if_false _ _ (is_whitespace c) w)
+        (when_false _ _ (continues_key c) h ∙ when_false _ _ (c == equals_sign) e ∙ when_false _ _ (is_whitespace c) w)
 
     no_key : (b : Bool) → begins_key c ≡ b → continues_key c ≡ false → is_whitespace c ≡ false →
         (c == equals_sign) ≡ false →
         Matches (in_key true acc) (c ∷ cs)
         (cond b (after_plain_key (c ∷ key_run cs) (skip_leading_whitespace (key_left cs))) (fails (c ∷ cs)))
     no_key false b h w e = stops h w e
-    no_key true b h w e = let f : true ≡ false = sym b ∙ begins_continues c h in cc
+    no_key true b h w e = let f : true ≡ false = sym b ∙ no_key_begins c h in cc
 
     equals : (e x : Bool) → continues_key c ≡ false → is_whitespace c ≡ false → (c == equals_sign) ≡ e →
         Matches (in_key true acc) (c ∷ cs) (cond x (cond e (after_equals acc cs) (second_key (c ∷ cs)))
@@ -287,7 +286,7 @@ at_first acc (c ∷ cs) = at (continues_key c) refl (at_first (acc ++ c ∷ []) 
         there : Matches (in_key true acc) (c ∷ cs) (after_equals acc cs)
         there =
             go (in_key true acc) c cs (assigned acc) (after_equals acc cs) tt
-            (if_false _ _ (continues_key c) h ∙ if_true _ _ (c == equals_sign) k) (at_assigned acc cs)
+            (when_false _ _ (continues_key c) h ∙ when_true _ _ (c == equals_sign) k) (at_assigned acc cs)
 
         both : (x : Bool) → Matches (in_key true acc) (c ∷ cs) (cond x (after_equals acc cs) (after_equals acc cs))
         both true = there
@@ -302,20 +301,20 @@ at_first acc (c ∷ cs) = at (continues_key c) refl (at_first (acc ++ c ∷ []) 
     word true x h w =
         go (in_key true acc) c cs after_export
         (equals_then (skip_leading_whitespace cs) (after_equals acc) (second_key (skip_leading_whitespace cs))) tt
-        (if_false _ _ (continues_key c) h
-        ∙ if_false _ _ (c == equals_sign) (white_no_equals c w)
-        ∙ if_true _ _ (is_whitespace c) w
-        ∙ ap Some (if_true _ _ (bytes_eq acc export) x))
+        (when_false _ _ (continues_key c) h
+        ∙ when_false _ _ (c == equals_sign) (white_no_equals c w)
+        ∙ when_true _ _ (is_whitespace c) w
+        ∙ ap Some (when_true _ _ (bytes_eq acc export) x))
         (subst
         (λ key.
         Matches after_export cs (equals_then (skip_leading_whitespace cs) (after_equals key)
         (second_key (skip_leading_whitespace cs)))) (sym (same_text acc export (sym x)))
         (at_after_export cs))
     word false x h w = go (in_key true acc) c cs (after_key acc) (after_plain_key acc (skip_leading_whitespace cs)) tt
-        (if_false _ _ (continues_key c) h
-        ∙ if_false _ _ (c == equals_sign) (white_no_equals c w)
-        ∙ if_true _ _ (is_whitespace c) w
-        ∙ ap Some (if_false _ _ (bytes_eq acc export) x))
+        (when_false _ _ (continues_key c) h
+        ∙ when_false _ _ (c == equals_sign) (white_no_equals c w)
+        ∙ when_true _ _ (is_whitespace c) w
+        ∙ ap Some (when_false _ _ (bytes_eq acc export) x))
         (at_after_key acc cs)
 
     here : (w : Bool) → continues_key c ≡ false → is_whitespace c ≡ w →
@@ -331,7 +330,7 @@ at_first acc (c ∷ cs) = at (continues_key c) refl (at_first (acc ++ c ∷ []) 
     at true h later =
         go (in_key true acc) c cs (in_key true (acc ++ c ∷ []))
         (after_first_key (acc ++ c ∷ key_run cs) (skip_leading_whitespace (key_left cs))) tt
-        (if_true _ _ (continues_key c) h) (subst
+        (when_true _ _ (continues_key c) h) (subst
         (λ key.
         Matches (in_key true (acc ++ c ∷ [])) cs (after_first_key key (skip_leading_whitespace (key_left cs))))
         (append_assoc acc (c ∷ []) (key_run cs)) later)
@@ -350,13 +349,13 @@ parse-is (c ∷ cs) = at (is_whitespace c) refl (parse-is cs)
     key true w h =
         go start c cs (in_key true (c ∷ []))
         (after_first_key (c ∷ key_run cs) (skip_leading_whitespace (key_left cs))) tt
-        (if_false _ _ (is_whitespace c) w ∙ if_true _ _ (begins_key c) h) (at_first (c ∷ []) cs)
-    key false w h = stop start c cs tt (if_false _ _ (is_whitespace c) w ∙ if_false _ _ (begins_key c) h)
+        (when_false _ _ (is_whitespace c) w ∙ when_true _ _ (begins_key c) h) (at_first (c ∷ []) cs)
+    key false w h = stop start c cs tt (when_false _ _ (is_whitespace c) w ∙ when_false _ _ (begins_key c) h)
 
     at : (w : Bool) → is_whitespace c ≡ w → Matches start cs (parse cs) →
         Matches start (c ∷ cs) (key_then (cond w (skip_leading_whitespace cs) (c ∷ cs))
         (λ key after. after_first_key key (skip_leading_whitespace after)))
-    at true w later = go start c cs start (parse cs) tt (if_true _ _ (is_whitespace c) w) later
+    at true w later = go start c cs start (parse cs) tt (when_true _ _ (is_whitespace c) w) later
     at false w later = key (begins_key c) w refl
 
 -- a line that parses is a statement

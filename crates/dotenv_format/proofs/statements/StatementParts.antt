@@ -1,25 +1,5 @@
 -- What the slices of a line are to the parser of statements over its characters.
-use Rattle.std.proofs.Common.{
-  ◌≢◌,
-  arith,
-  length,
-  ◌≡◌,
-  ℕ,
-  Bool,
-  true,
-  false,
-  not,
-  ◌&&◌,
-  List,
-  [],
-  ◌∷◌,
-  ◌++◌,
-  refl,
-  sym,
-  ◌∙◌,
-  ap,
-  cond,
-}
+use Rattle.std.proofs.Common.{arith, length, ◌≡◌, ℕ, Bool, true, false, not, ◌&&◌, List, [], ◌∷◌, ◌++◌, refl, sym, ◌∙◌, ap, cond}
 use Rattle.std.specs.Char.{is_whitespace}
 use Rattle.std.specs.Prelude.{◌==◌, bytes_eq}
 use Rattle.std.specs.Cmp.Lexicographic.{same_text}
@@ -36,23 +16,11 @@ use Rattle.std.specs.Str.{
 }
 use Rattle.std.proofs.lemmas.Str.{chars-encodes, scalars-chars, encodes-chars}
 use Rattle.std.proofs.lemmas.Bool.Decides.{nat_tests}
-use Rattle.dotenv_format.proofs.Basics.{and_left, and_right, both, not_is}
+use Rattle.dotenv_format.proofs.Basics.{and_left, and_right, both, not_is, if_true, if_false}
 use Rattle.dotenv_format.specs.Characters.{begins_key, continues_key, equals_sign}
 use lib.Utf8.{scalar, encode}
 use Rattle.dotenv_format.specs.inside.Slices.{IsSpan, begins_passing}
 use Rattle.dotenv_format.specs.inside.ParseStatement.{export, Parsed, fails, key_run, key_left, key_then, equals_then}
-
--- where a test is true, the first of two is chosen
-pub choose_true : {A : Type 0} (x y : A) (b : Bool) → b ≡ true → cond b x y ≡ x
-choose_true x y b h = ap (λ t. cond t x y) h
-
--- where a test is false, the second of two is chosen
-pub choose_false : {A : Type 0} (x y : A) (b : Bool) → b ≡ false → cond b x y ≡ y
-choose_false x y b h = ap (λ t. cond t x y) h
-
--- characters that aren't the same fail the test for that
-pub not_same : (c d : ℕ) → c ≢ d → (c == d) ≡ false
-not_same c d h = grind (arith, nat_tests, h)
 
 -- characters that are the same pass the test for that
 pub same : (c d : ℕ) → c ≡ d → (c == d) ≡ true
@@ -64,13 +32,13 @@ run_of : (front rest : List ℕ) → list_all continues_key front ≡ true →
     (key_run (front ++ rest) ≡ front) × (key_left (front ++ rest) ≡ rest)
 run_of [] [] h l = (refl, refl)
 run_of [] (c ∷ cs) h l = (
-  choose_false (c ∷ key_run cs) [] (continues_key c) (not_is (continues_key c) l),
-  choose_false (key_left cs) (c ∷ cs) (continues_key c) (not_is (continues_key c) l),
+  if_false (c ∷ key_run cs) [] (continues_key c) (not_is (continues_key c) l),
+  if_false (key_left cs) (c ∷ cs) (continues_key c) (not_is (continues_key c) l),
 )
 run_of (c ∷ front) rest h l =
     let here = and_left (continues_key c) (list_all continues_key front) h in
     let later = run_of front rest (and_right (continues_key c) (list_all continues_key front) h) l in
-    (choose_true _ _ (continues_key c) here ∙ ap (λ t. c ∷ t) later.0, choose_true _ _ (continues_key c) here ∙ later.1)
+    (if_true _ _ (continues_key c) here ∙ ap (λ t. c ∷ t) later.0, if_true _ _ (continues_key c) here ∙ later.1)
 
 -- a character that begins a key may also go on with one
 key_continues : (c : ℕ) → begins_key c ≡ true → continues_key c ≡ true
@@ -84,16 +52,16 @@ key_then-span [] front rest next h is = cc
 key_then-span (c ∷ cs) front rest next h is =
     let parts = run_of front rest is.pass is.longest in
     let run : front ≡ c ∷ key_run cs =
-    sym parts.0 ∙ ap key_run (sym is.spelled) ∙ choose_true _ _ (continues_key c) (key_continues c h) in
+    sym parts.0 ∙ ap key_run (sym is.spelled) ∙ if_true _ _ (continues_key c) (key_continues c h) in
     let left : rest ≡ key_left cs =
-    sym parts.1 ∙ ap key_left (sym is.spelled) ∙ choose_true _ _ (continues_key c) (key_continues c h) in
-    ap (λ f. next f rest) run ∙ ap (next (c ∷ key_run cs)) left ∙ sym (choose_true _ _ (begins_key c) h)
+    sym parts.1 ∙ ap key_left (sym is.spelled) ∙ if_true _ _ (continues_key c) (key_continues c h) in
+    ap (λ f. next f rest) run ∙ ap (next (c ∷ key_run cs)) left ∙ sym (if_true _ _ (begins_key c) h)
 
 -- where no key begins, a fault is parsed, and all of the text is left
 pub key_then-fails : (text : List ℕ) (next : List ℕ → List ℕ → Parsed) → begins_passing begins_key text ≡ false →
     fails text ≡ key_then text next
 key_then-fails [] next h = refl
-key_then-fails (c ∷ cs) next h = sym (choose_false _ _ (begins_key c) h)
+key_then-fails (c ∷ cs) next h = sym (if_false _ _ (begins_key c) h)
 
 -- where nothing stands next, no `=` does, and what is parsed is the other answer
 pub equals_then-none : (text : List ℕ) (next : List ℕ → Parsed) (other : Parsed) → text ≡ [] →
@@ -104,7 +72,7 @@ equals_then-none text next other e = sym (ap (λ t. equals_then t next other) e)
 pub equals_then-equals : (text cs : List ℕ) (c : ℕ) (next : List ℕ → Parsed) (other : Parsed) → text ≡ c ∷ cs →
     c ≡ equals_sign → next cs ≡ equals_then text next other
 equals_then-equals text cs c next other e h =
-    sym (ap (λ t. equals_then t next other) e ∙ choose_true _ _ (c == equals_sign) (same c equals_sign h))
+    sym (ap (λ t. equals_then t next other) e ∙ if_true _ _ (c == equals_sign) (same c equals_sign h))
 
 -- a text of Unicode scalar values has such alone without the white space at its front
 scalars-skip : (cs : List ℕ) → all_scalars cs ≡ true → all_scalars (skip_leading_whitespace cs) ≡ true

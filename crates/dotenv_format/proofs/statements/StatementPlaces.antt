@@ -1,27 +1,5 @@
 -- Which fronts begin a statement, and the place of a fault before the value.
-use Rattle.std.proofs.Common.{
-  ◌≡◌,
-  ℕ,
-  suc,
-  ◌≤◌,
-  ◌<◌,
-  List,
-  [],
-  ◌∷◌,
-  ◌++◌,
-  Option,
-  Some,
-  None,
-  refl,
-  sym,
-  ◌∙◌,
-  ap,
-  arith,
-  append_assoc,
-  subst,
-  length,
-  take,
-}
+use Rattle.std.proofs.Common.{◌≡◌, ℕ, suc, List, [], ◌∷◌, ◌++◌, Option, Some, None, refl, sym, ◌∙◌, ap, append_assoc, subst, take}
 use Rattle.dotenv_format.specs.Characters.{equals_sign}
 use Rattle.dotenv_format.specs.Statement.{IsStatement}
 use Rattle.dotenv_format.specs.Places.{BeginsStatement, IsPlace}
@@ -40,6 +18,7 @@ use Rattle.dotenv_format.proofs.statements.Statements.{
   read-statement,
   statement-read,
 }
+use Rattle.dotenv_format.proofs.Fronts.{Placed, placed_on, placed_before, placed_at_end}
 
 -- the number of characters up to the first that no statement goes on with
 abbrev pub statement_reach_after : Option StatementMode → (StatementMode → ℕ) → ℕ
@@ -107,28 +86,18 @@ goes_nowhere after_export c cs g (more, key, rest, h) =
     none_some (key, rest) (sym (ap (λ o. read_on o (λ m. read_statement (cs ++ more) m)) g) ∙ h)
 goes_nowhere (assigned acc) c cs g done = cc
 
--- the first n characters are the longest front of the text that can be completed from this mode
-record Placed (text : List ℕ) (m : StatementMode) (n : ℕ) : Type 0 where
-  within : n ≤ length text
-  completed : Completes (take n text) m
-  longest : n < length text → ¬ (Completes (take (suc n) text) m)
-
 -- where the place is right for the rest of a text from each mode, it is for the text with its first character
 placed_step : (c : ℕ) (cs : List ℕ) (m : StatementMode) (g : Option StatementMode) → statement_goes m c ≡ g →
-    ((n : StatementMode) → Placed cs n (statement_reach cs n)) →
-    Placed (c ∷ cs) m (statement_reach_after g (λ n. statement_reach cs n))
-placed_step c cs m None h later =
-    record { within = omega arith; completed = completes m; longest = λ _. goes_nowhere m c [] h }
-placed_step c cs m (Some n) h later = let p = later n in record {
-  within = let w = p.within in omega arith;
-  completed = goes_on m c (take (statement_reach cs n) cs) n h p.completed;
-  longest = λ below done. p.longest (omega (arith, below))
-      (goes_back m c (take (suc (statement_reach cs n)) cs) n h done);
-}
+    ((n : StatementMode) → Placed Completes cs n (statement_reach cs n)) →
+    Placed Completes (c ∷ cs) m (statement_reach_after g (λ n. statement_reach cs n))
+placed_step c cs m None h later = placed_before Completes m c cs (completes m) (goes_nowhere m c [] h)
+placed_step c cs m (Some n) h later =
+    placed_on Completes m c n cs (statement_reach cs n)
+    (record { on = λ cs. goes_on m c cs n h; back = λ cs. goes_back m c cs n h }) (later n)
 
 -- from each mode the place is the length of the longest front that can be completed
-placed : (text : List ℕ) (m : StatementMode) → Placed text m (statement_reach text m)
-placed [] m = record { within = omega arith; completed = completes m; longest = λ below. absurd (omega (arith, below)) }
+placed : (text : List ℕ) (m : StatementMode) → Placed Completes text m (statement_reach text m)
+placed [] m = placed_at_end Completes m (completes m)
 placed (c ∷ cs) m = placed_step c cs m (statement_goes m c) refl (λ n. placed cs n)
 
 -- the place from the start of a line is that of the longest front that begins a statement

@@ -1,5 +1,6 @@
 -- A statement read from left to right.
 use Rattle.std.proofs.Common.{
+  IsTrue,
   ◌≡◌,
   ℕ,
   Bool,
@@ -33,9 +34,21 @@ use Rattle.std.proofs.lemmas.List.{append-nil}
 use Rattle.std.proofs.lemmas.Bool.Decides.{nat_tests}
 use Rattle.dotenv_format.specs.Characters.{begins_key, continues_key, equals_sign}
 use Rattle.dotenv_format.specs.Statement.{IsStatement, IsPrefix, is_key, is_white_space, begins_with_white_space}
-use Rattle.dotenv_format.proofs.Basics.{and_left, and_right, both, some_same, same_from}
+use Rattle.dotenv_format.proofs.Basics.{and_left, and_right, both, some_same, same_from, when_true, when_false}
 use Rattle.dotenv_format.proofs.writing.ReadBack.{begins_key_visible}
 use Rattle.dotenv_format.specs.inside.ParseStatement.{export}
+
+-- a character that begins a key may also stand later in one
+key_begins_continues : (c : ℕ) → begins_key c ≡ true → continues_key c ≡ true
+key_begins_continues c h = rw h refl
+
+-- each character of a key, the first one too, may stand later in a key
+pub key_continues : (key : List ℕ) → IsTrue (is_key key) → list_all continues_key key ≡ true
+key_continues [] h = refl
+key_continues (c ∷ key) h =
+    both (continues_key c) (list_all continues_key key)
+    (key_begins_continues c (and_left (begins_key c) (list_all continues_key key) h))
+    (and_right (begins_key c) (list_all continues_key key) h)
 
 -- where the reading of a statement stands; a flag says whether the key may still be a prefix
 pub data StatementMode : Type 0 where
@@ -107,16 +120,6 @@ read_statement (c ∷ cs) (in_key first key) = read_on (statement_goes (in_key f
 read_statement (c ∷ cs) (after_key key) = read_on (statement_goes (after_key key) c) (λ m. read_statement cs m)
 read_statement (c ∷ cs) after_export = read_on (statement_goes after_export c) (λ m. read_statement cs m)
 
--- where a test holds, the choice by it is the first of two
-pub if_true : {X : Type 0} (x y : X) (b : Bool) → b ≡ true → elim b [ true ↦ x | false ↦ y ] ≡ x
-if_true x y true h = refl
-if_true x y false h = cc
-
--- where a test fails, the choice by it is the second of two
-pub if_false : {X : Type 0} (x y : X) (b : Bool) → b ≡ false → elim b [ true ↦ x | false ↦ y ] ≡ y
-if_false x y true h = cc
-if_false x y false h = refl
-
 -- white space is no character of a key
 pub white_no_key : (c : ℕ) → is_whitespace c ≡ true → continues_key c ≡ false
 white_no_key c h = grind (arith, nat_tests, h)
@@ -139,7 +142,7 @@ start_white : (ws cs : List ℕ) → is_white_space ws ≡ true → read_stateme
 start_white [] cs h = refl
 start_white (w ∷ ws) cs h =
     to_next (statement_goes start w) start (ws ++ cs)
-    (if_true _ _ (is_whitespace w) (and_left (is_whitespace w) (list_all is_whitespace ws) h))
+    (when_true _ _ (is_whitespace w) (and_left (is_whitespace w) (list_all is_whitespace ws) h))
     ∙ start_white ws cs (and_right (is_whitespace w) (list_all is_whitespace ws) h)
 
 -- at the start, what begins a key leads into a word that may be a prefix
@@ -147,7 +150,7 @@ start_key : (c : ℕ) (cs : List ℕ) → begins_key c ≡ true →
     read_statement (c ∷ cs) start ≡ read_statement cs (in_key true (c ∷ []))
 start_key c cs h =
     to_next (statement_goes start c) (in_key true (c ∷ [])) cs
-    (if_false _ _ (is_whitespace c) (begins_key_visible c h) ∙ if_true _ _ (begins_key c) h)
+    (when_false _ _ (is_whitespace c) (begins_key_visible c h) ∙ when_true _ _ (begins_key c) h)
 
 -- within a word, characters of a key go on with the word
 key_more : (first : Bool) (acc key cs : List ℕ) → list_all continues_key key ≡ true →
@@ -155,7 +158,7 @@ key_more : (first : Bool) (acc key cs : List ℕ) → list_all continues_key key
 key_more first acc [] cs h = ap (λ k. read_statement cs (in_key first k)) (sym (append-nil acc))
 key_more first acc (c ∷ key) cs h =
     to_next (statement_goes (in_key first acc) c) (in_key first (acc ++ c ∷ [])) (key ++ cs)
-    (if_true _ _ (continues_key c) (and_left (continues_key c) (list_all continues_key key) h))
+    (when_true _ _ (continues_key c) (and_left (continues_key c) (list_all continues_key key) h))
     ∙ key_more first (acc ++ c ∷ []) key cs (and_right (continues_key c) (list_all continues_key key) h)
     ∙ ap (λ k. read_statement cs (in_key first k)) (append_assoc acc (c ∷ []) key)
 
@@ -166,7 +169,7 @@ after_key_white key [] cs h = refl
 after_key_white key (w ∷ ws) cs h =
     let t = and_left (is_whitespace w) (list_all is_whitespace ws) h in
     to_next (statement_goes (after_key key) w) (after_key key) (ws ++ equals_sign ∷ cs)
-    (if_false _ _ (w == equals_sign) (white_no_equals w t) ∙ if_true _ _ (is_whitespace w) t)
+    (when_false _ _ (w == equals_sign) (white_no_equals w t) ∙ when_true _ _ (is_whitespace w) t)
     ∙ after_key_white key ws cs (and_right (is_whitespace w) (list_all is_whitespace ws) h)
 
 -- behind `export`, white space, if any, and `=` make `export` itself the key
@@ -176,7 +179,7 @@ after_export_equals [] cs h = refl
 after_export_equals (w ∷ ws) cs h =
     let t = and_left (is_whitespace w) (list_all is_whitespace ws) h in
     to_next (statement_goes after_export w) after_export (ws ++ equals_sign ∷ cs)
-    (if_false _ _ (w == equals_sign) (white_no_equals w t) ∙ if_true _ _ (is_whitespace w) t)
+    (when_false _ _ (w == equals_sign) (white_no_equals w t) ∙ when_true _ _ (is_whitespace w) t)
     ∙ after_export_equals ws cs (and_right (is_whitespace w) (list_all is_whitespace ws) h)
 
 -- behind `export`, more white space changes nothing of what is read
@@ -186,7 +189,7 @@ after_export_white [] cs h = refl
 after_export_white (w ∷ ws) cs h =
     let t = and_left (is_whitespace w) (list_all is_whitespace ws) h in
     to_next (statement_goes after_export w) after_export (ws ++ cs)
-    (if_false _ _ (w == equals_sign) (white_no_equals w t) ∙ if_true _ _ (is_whitespace w) t)
+    (when_false _ _ (w == equals_sign) (white_no_equals w t) ∙ when_true _ _ (is_whitespace w) t)
     ∙ after_export_white ws cs (and_right (is_whitespace w) (list_all is_whitespace ws) h)
 
 -- behind a word and its white space, more white space, if any, and `=` make the word the key
@@ -214,9 +217,9 @@ key_ends first key [] cs h = refl
 key_ends first key (w ∷ ws) cs h =
     let t = and_left (is_whitespace w) (list_all is_whitespace ws) h in
     to_next (statement_goes (in_key first key) w) (after_word first key) (ws ++ equals_sign ∷ cs)
-    (if_false _ _ (continues_key w) (white_no_key w t)
-    ∙ if_false _ _ (w == equals_sign) (white_no_equals w t)
-    ∙ if_true _ _ (is_whitespace w) t)
+    (when_false _ _ (continues_key w) (white_no_key w t)
+    ∙ when_false _ _ (w == equals_sign) (white_no_equals w t)
+    ∙ when_true _ _ (is_whitespace w) t)
     ∙ word_white first key ws cs (and_right (is_whitespace w) (list_all is_whitespace ws) h)
 
 -- white space before a rest that begins with none is skipped: what is assigned is that rest
@@ -255,9 +258,9 @@ reads_second_key [] before after rest h k = cc
 reads_second_key (c ∷ key) before after rest h k =
     let b = and_left (begins_key c) (list_all continues_key key) h in
     to_next (statement_goes after_export c) (in_key false (c ∷ [])) (key ++ (before ++ equals_sign ∷ (after ++ rest)))
-    (if_false _ _ (c == equals_sign) (key_no_equals c b)
-    ∙ if_false _ _ (is_whitespace c) (begins_key_visible c b)
-    ∙ if_true _ _ (begins_key c) b)
+    (when_false _ _ (c == equals_sign) (key_no_equals c b)
+    ∙ when_false _ _ (is_whitespace c) (begins_key_visible c b)
+    ∙ when_true _ _ (begins_key c) b)
     ∙ key_more false (c ∷ []) key (before ++ equals_sign ∷ (after ++ rest))
     (and_right (begins_key c) (list_all continues_key key) h)
     ∙ key_ends false (c ∷ key) before (after ++ rest) k
@@ -268,9 +271,9 @@ gap_white : (w : ℕ) (ws cs : List ℕ) → is_white_space (w ∷ ws) ≡ true 
 gap_white w ws cs h =
     let t = and_left (is_whitespace w) (list_all is_whitespace ws) h in
     to_next (statement_goes (in_key true export) w) after_export (ws ++ cs)
-    (if_false _ _ (continues_key w) (white_no_key w t)
-    ∙ if_false _ _ (w == equals_sign) (white_no_equals w t)
-    ∙ if_true _ _ (is_whitespace w) t)
+    (when_false _ _ (continues_key w) (white_no_key w t)
+    ∙ when_false _ _ (w == equals_sign) (white_no_equals w t)
+    ∙ when_true _ _ (is_whitespace w) t)
     ∙ after_export_white ws cs (and_right (is_whitespace w) (list_all is_whitespace ws) h)
 
 -- a prefix, or none, a key, white space, if any, and `=` are read as that key and what is assigned

@@ -1,38 +1,40 @@
--- No front longer than the one of a fault's place begins a statement or a value.
-use Rattle.std.proofs.Common.{◌≡◌, ℕ, ◌≤◌, suc, List, ◌++◌, append_assoc, take, drop, sym, ◌∙◌, ap, subst, arith}
+-- The place of a fault: no longer front begins a statement or a value, and a text has one place alone.
+use Rattle.std.proofs.Common.{◌≡◌, ℕ, ◌≤◌, ◌<◌, suc, List, ◌++◌, take, drop, sym, ◌∙◌, ap, subst, arith}
 use Rattle.std.proofs.lemmas.List.{take-append-drop, take-take}
-use Rattle.dotenv_format.specs.declared.dialect.Dialect.{Dialect}
 use Rattle.dotenv_format.specs.Laws.{NoLongerBegins, PlacesAreLongest}
-use Rattle.dotenv_format.specs.Statement.{IsStatement}
-use Rattle.dotenv_format.specs.Value.{IsValue}
 use Rattle.dotenv_format.specs.Places.{BeginsStatement, BeginsValue, IsPlace}
+use Rattle.dotenv_format.proofs.statements.StatementPlaces.{statement_fronts}
+use Rattle.dotenv_format.proofs.values.ValuePlaces.{value_fronts}
 
--- what begins so does each front of what begins
-abbrev FrontsBegin : (List ℕ → Type 0) → Type 0
-FrontsBegin Begins = (front more : List ℕ) → Begins (front ++ more) → Begins front
+-- where a text begins what is to come, so does each front of it
+abbrev pub AreFronts : (List ℕ → Type 0) → Type 0
+AreFronts Begins = (text more : List ℕ) → Begins (text ++ more) → Begins text
 
--- a front of a front
-front_of : (text : List ℕ) (n m : ℕ) → n ≤ m → take m text ≡ take n text ++ drop n (take m text)
-front_of text n m fits =
-    sym (take-append-drop n (take m text)) ∙ ap (λ front. front ++ drop n (take m text)) (take-take n m text fits)
+-- the first n characters of a text are a front of its first m, where n is at most m
+take-front : (n m : ℕ) (text : List ℕ) → n ≤ m → (more : List ℕ) × (take m text ≡ take n text ++ more)
+take-front n m text h = (
+  drop n (take m text),
+  sym (take-append-drop n (take m text)) ∙ ap (λ t. t ++ drop n (take m text)) (take-take n m text h),
+)
 
--- if a longer front began, so would the one that is longer by one character
-no_longer : (Begins : List ℕ → Type 0) → FrontsBegin Begins → (text : List ℕ) (n : ℕ) → IsPlace Begins text n →
+-- where each front of a front is one, no longer front than that of a place begins what is to come
+no_longer : (Begins : List ℕ → Type 0) → AreFronts Begins → (text : List ℕ) (n : ℕ) → IsPlace Begins text n →
     NoLongerBegins Begins text n
 no_longer Begins fronts text n place m longer within begins =
-    place.longest (omega (arith, longer, within))
-    (fronts (take (suc n) text) (drop (suc n) (take m text))
-    (subst Begins (front_of text (suc n) m (omega (arith, longer))) begins))
+    let f = take-front (suc n) m text (omega (arith, longer)) in
+    place.longest (omega (arith, longer, within)) (fronts (take (suc n) text) f.0 (subst Begins f.1 begins))
 
--- a front of what begins a statement begins one
-statement_fronts : FrontsBegin BeginsStatement
-statement_fronts front more (later, key, rest, is) =
-    (more ++ later, key, rest, subst (λ t. IsStatement t key rest) (append_assoc front more later) is)
+-- where each front of a front is one, of two places in a text none is before the other
+not_below : (Begins : List ℕ → Type 0) → AreFronts Begins → (text : List ℕ) (n m : ℕ) → IsPlace Begins text n →
+    IsPlace Begins text m → ¬ (n < m)
+not_below Begins fronts text n m p q h = no_longer Begins fronts text n p m h q.within q.completed
 
--- a front of what begins a value begins one
-value_fronts : (dialect : Dialect) → FrontsBegin (BeginsValue dialect)
-value_fronts dialect front more (later, pieces, is) =
-    (more ++ later, pieces, subst (λ t. IsValue dialect t pieces) (append_assoc front more later) is)
+-- where each front of a front is one, a text has one place alone
+pub one_place : (Begins : List ℕ → Type 0) → AreFronts Begins → (text : List ℕ) (n m : ℕ) → IsPlace Begins text n →
+    IsPlace Begins text m → n ≡ m
+one_place Begins fronts text n m p q =
+    let a : ¬ (n < m) = not_below Begins fronts text n m p q in
+    let b : ¬ (m < n) = not_below Begins fronts text m n q p in omega (arith, a, b)
 
 -- the place of a fault is that of the longest front
 pub places_are_longest : PlacesAreLongest

@@ -1,30 +1,5 @@
 -- Which fronts begin a value, and the place of a fault in one.
-use Rattle.std.proofs.Common.{
-  ◌≡◌,
-  ℕ,
-  suc,
-  ◌≤◌,
-  ◌<◌,
-  true,
-  false,
-  List,
-  [],
-  ◌∷◌,
-  ◌++◌,
-  Some,
-  None,
-  refl,
-  sym,
-  ◌∙◌,
-  ap,
-  arith,
-  append_assoc,
-  subst,
-  length,
-  take,
-  drop,
-}
-use Rattle.std.proofs.lemmas.List.{take-append-drop, take-take}
+use Rattle.std.proofs.Common.{◌≡◌, ℕ, suc, true, false, List, [], ◌∷◌, ◌++◌, Some, None, refl, sym, ◌∙◌, ap, append_assoc, subst, take}
 use Rattle.dotenv_format.specs.declared.dialect.Dialect.{Dialect}
 use Rattle.dotenv_format.specs.declared.dialect.Dialect.TheVariants.{V15, Next}
 use Rattle.dotenv_format.specs.Characters.{single_quote, double_quote, right_brace}
@@ -57,6 +32,7 @@ use Rattle.dotenv_format.specs.inside.ReadValue.{
   read_value,
 }
 use Rattle.dotenv_format.specs.inside.ReadValue.{value_goes, value_reach_after, value_reach}
+use Rattle.dotenv_format.proofs.Fronts.{Placed, placed_on, placed_before, placed_at_end}
 
 -- read from this mode, the text can be completed to one that gives pieces
 abbrev Completes : (dialect : Dialect) → List ℕ → ValueMode → Type 0
@@ -91,12 +67,6 @@ completes dialect (bracing double_quoted name) = (right_brace ∷ double_quote �
 completes dialect in_tail = ([], [], refl)
 completes dialect in_comment = ([], [], refl)
 
--- the first n characters can be completed, and no more
-record Placed (dialect : Dialect) (text : List ℕ) (m : ValueMode) (n : ℕ) : Type 0 where
-  within : n ≤ length text
-  completed : Completes dialect (take n text) m
-  longest : n < length text → ¬ (Completes dialect (take (suc n) text) m)
-
 -- what can be completed from where a character leads can be completed with that character before it
 goes_on : (dialect : Dialect) (m : ValueMode) (c : ℕ) (cs : List ℕ) (n : ValueMode) (ps : List Piece) →
     value_goes dialect m c ≡ Some (n, ps) → Completes dialect cs n → Completes dialect (c ∷ cs) m
@@ -128,27 +98,21 @@ goes_nowhere dialect m c cs g (more, qs, h) =
     cc
 
 -- the place in a text is one more than in what follows its first character, or 0 if that leads nowhere
-placed_step : (dialect : Dialect) (c : ℕ) (cs : List ℕ) (m : ValueMode) (g : ValueStep) →
-    value_goes dialect m c ≡ g → ((n : ValueMode) → Placed dialect cs n (value_reach dialect cs n)) →
-    Placed dialect (c ∷ cs) m (value_reach_after g (λ n. value_reach dialect cs n))
+placed_step : (dialect : Dialect) (c : ℕ) (cs : List ℕ) (m : ValueMode) (g : ValueStep) → value_goes dialect m c ≡ g →
+    ((n : ValueMode) → Placed (Completes dialect) cs n (value_reach dialect cs n)) →
+    Placed (Completes dialect) (c ∷ cs) m (value_reach_after g (λ n. value_reach dialect cs n))
 placed_step dialect c cs m None h later =
-    record { within = omega arith; completed = completes dialect m; longest = λ _. goes_nowhere dialect m c [] h }
-placed_step dialect c cs m (Some (n, ps)) h later = let p = later n in record {
-  within = let w = p.within in omega arith;
-  completed = goes_on dialect m c (take (value_reach dialect cs n) cs) n ps h p.completed;
-  longest =
-      λ below done.
-      p.longest (omega (arith, below)) (goes_back dialect m c (take (suc (value_reach dialect cs n)) cs) n ps h done);
-}
+    placed_before (Completes dialect) m c cs (completes dialect m) (goes_nowhere dialect m c [] h)
+placed_step dialect c cs m (Some (n, ps)) h later =
+    placed_on (Completes dialect) m c n cs (value_reach dialect cs n) (record {
+      on = λ cs. goes_on dialect m c cs n ps h;
+      back = λ cs. goes_back dialect m c cs n ps h;
+    }) (later n)
 
 -- from each mode, the place that is computed is the length of the longest front that can be completed
-placed : (dialect : Dialect) (text : List ℕ) (m : ValueMode) → Placed dialect text m (value_reach dialect text m)
-placed dialect [] m =
-    record {
-      within = omega arith;
-      completed = completes dialect m;
-      longest = λ below. absurd (omega (arith, below));
-    }
+placed : (dialect : Dialect) (text : List ℕ) (m : ValueMode) →
+    Placed (Completes dialect) text m (value_reach dialect text m)
+placed dialect [] m = placed_at_end (Completes dialect) m (completes dialect m)
 placed dialect (c ∷ cs) m = placed_step dialect c cs m (value_goes dialect m c) refl (λ n. placed dialect cs n)
 
 -- what can be completed, read from where a value begins, is the front of a value
@@ -172,33 +136,8 @@ value_place dialect text =
           p.longest below (from_begins dialect (take (suc (value_reach dialect text (base unquoted))) text) begins);
     }
 
--- where a text begins what is to come, so does each front of it
-abbrev pub AreFronts : (List ℕ → Type 0) → Type 0
-AreFronts Begins = (text more : List ℕ) → Begins (text ++ more) → Begins text
-
 -- a front of the front of a value is the front of a value
 pub value_fronts : (dialect : Dialect) (text more : List ℕ) → BeginsValue dialect (text ++ more) →
     BeginsValue dialect text
 value_fronts dialect text more (rest, ps, h) =
     (more ++ rest, ps, subst (λ t. IsValue dialect t ps) (append_assoc text more rest) h)
-
--- the first n characters of a text are a front of its first m, where n is at most m
-take-front : (n m : ℕ) (text : List ℕ) → n ≤ m → (more : List ℕ) × (take m text ≡ take n text ++ more)
-take-front n m text h = (
-  drop n (take m text),
-  sym (take-append-drop n (take m text)) ∙ ap (λ t. t ++ drop n (take m text)) (take-take n m text h),
-)
-
--- where each front of a front is one, of two places in a text none is before the other
-not_below : (Begins : List ℕ → Type 0) → AreFronts Begins → (text : List ℕ) (n m : ℕ) → IsPlace Begins text n →
-    IsPlace Begins text m → ¬ (n < m)
-not_below Begins fronts text n m p q h =
-    let f = take-front (suc n) m text (omega arith) in
-    p.longest (let w = q.within in omega arith) (fronts (take (suc n) text) f.0 (subst Begins f.1 q.completed))
-
--- where each front of a front is one, a text has one place alone
-pub one_place : (Begins : List ℕ → Type 0) → AreFronts Begins → (text : List ℕ) (n m : ℕ) → IsPlace Begins text n →
-    IsPlace Begins text m → n ≡ m
-one_place Begins fronts text n m p q =
-    let a : ¬ (n < m) = not_below Begins fronts text n m p q in
-    let b : ¬ (m < n) = not_below Begins fronts text m n q p in omega (arith, a, b)

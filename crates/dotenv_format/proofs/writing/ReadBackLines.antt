@@ -75,7 +75,7 @@ use Rattle.dotenv_format.specs.Outcome.{Pair}
 use Rattle.dotenv_format.specs.Entries.{Entry, Declares, AreLogicalLines, GiveAll, HasEntries}
 use Rattle.dotenv_format.specs.Items.{LookUp, no_values, items, items_from, or_else, with_value}
 use Rattle.dotenv_format.specs.Written.{needs_backslash, written_character, written_pair, written_text}
-use Rattle.dotenv_format.proofs.Basics.{and_left, and_right, both}
+use Rattle.dotenv_format.proofs.Basics.{and_left, and_right}
 use Rattle.dotenv_format.proofs.lines.Cuts.{
   IsSome,
   lines_some,
@@ -92,6 +92,7 @@ use Rattle.dotenv_format.proofs.writing.ReadBack.{
   quoted_text_of,
   written_says,
 }
+use Rattle.dotenv_format.proofs.statements.Statements.{key_continues}
 
 -- a character of a key is no blank, backslash, quote or line feed
 key_is_plain : (c : ℕ) → continues_key c ≡ true → not (is_blank c || stands_for_itself c) ≡ true
@@ -224,18 +225,6 @@ not_skipped (c ∷ key) text lines h skipped =
     let rest = physical_lines (written_pair (key, text)) in
     either_not_skipped c (c == 10) ((c ∷ []) ∷ rest) rest lines (begins_key_no_line_feed c b) b skipped
 
--- a character that begins a key may also stand later in one
-begins_continues : (c : ℕ) → begins_key c ≡ true → continues_key c ≡ true
-begins_continues c h = rw h refl
-
--- each character of a key, the first one too, may stand later in a key
-all_continue : (key : List ℕ) → IsTrue (is_key key) → list_all continues_key key ≡ true
-all_continue [] h = refl
-all_continue (c ∷ key) h =
-    both (continues_key c) (list_all continues_key key)
-    (begins_continues c (and_left (begins_key c) (list_all continues_key key) h))
-    (and_right (begins_key c) (list_all continues_key key) h)
-
 -- unbroken lines, taken from before others, join to their texts one after another
 joins_front : (xss : List (List ℕ)) (lines : List (Option (List ℕ))) →
     joined_text (take (length (map Some xss)) (map Some xss ++ lines)) ≡ Some (concat xss)
@@ -260,7 +249,7 @@ pair_is_next key text lines h = (
         whole_at (pair_line key text ++ line_feed ∷ []) (written_pair (key, text)) (pair_line key text)
         (length (pair_lines key text) ≡ length (pair_lines key text ++ lines)) (sym (written_is key text))
         (pair_is_whole key text (length (pair_lines key text) ≡ length (pair_lines key text ++ lines))
-        (all_continue key h));
+        (key_continues key h));
   },
 )
 

@@ -1,4 +1,4 @@
-use Rattle.std.proofs.Common.{rules, arith, ◌≤◌, ◌<◌, ◌∙◌, refl, sym, ap, subst, suc, length, ℕ, List, string_bytes}
+use Rattle.std.proofs.Common.{rules, arith, ◌≤◌, ◌<◌, ◌∙◌, refl, sym, ap, subst, length, ℕ, List, string_bytes}
 use Rattle.std.specs.Str.{chars}
 use Rattle.std.proofs.lemmas.Str.{IsUtf8-string_bytes}
 use Rattle.std.proofs.lemmas.Result.{err_from_is_err_and}
@@ -14,19 +14,16 @@ use Rattle.dotenv_lines.specs.declared.physical_line.Taken.TheVariants.{
 }
 use Rattle.dotenv_lines.proofs.Inputs.{when-not}
 use Rattle.dotenv_lines.specs.Lines.{Counts}
-use Rattle.dotenv_lines.proofs.NumberedLines.{counts_one}
 use Rattle.dotenv_lines.proofs.LineJoins.{
   Joining,
   joining_empty,
   joining_told,
   joining_counts,
-  joining_ends,
-  joining_skips,
-  joining_breaks,
   joining_finish,
   joining_fails,
   joining_waits,
   line_was_taken,
+  line_ends_next,
   line-of-none,
   none-feeds,
 }
@@ -140,20 +137,11 @@ joining-preserved g c =
 
 pub returns-in-Ended-clause-told : goal.returns-in-Ended-clause-told
 returns-in-Ended-clause-told g c = λ a told.
-    let text = chars (string_bytes c.take_line.new.text) in
-    let seen = chars (string_bytes c.joining.text) in
     let j = c.joining.invariant.2 a told in
-    let l =
-    line_was_taken a c.args.input.now c.joining.input c.has_more.new.self c.take_line.new.input seen
-    c.joining.mode taken_ended text told j.0 c.has_more.ensures.ended c.in_ok-has_more.ensures.told
-    (rw c.in-Ended.is at c.in_ok-taken.ensures.told) in
-    let k = l.makes in
-    let w = l.joining in (
-      suc (length w.taken),
-      joining_ends a c.args.input.now c.has_more.new.self c.take_line.new.input seen k.0 text c.joining.mode
-          k.1.some k.1.text k.2 k.3 w k.1.takes,
-      counts_one _ (length j.0.taken) c.joining.lines_taken _ _ j.1 c.saturating_add.ensures (ap suc l.count),
-    )
+    line_ends_next a c.args.input.now c.joining.input c.has_more.new.self c.take_line.new.input
+    (chars (string_bytes c.joining.text)) c.joining.mode taken_ended (chars (string_bytes c.take_line.new.text)) _ _ _
+    told j.0 c.has_more.ensures.ended c.in_ok-has_more.ensures.told (rw c.in-Ended.is at c.in_ok-taken.ensures.told)
+    j.1 c.saturating_add.ensures
 
 pub returns-in-Ended-clause-asks : goal.returns-in-Ended-clause-asks
 returns-in-Ended-clause-asks g c =
@@ -161,24 +149,13 @@ returns-in-Ended-clause-asks g c =
 
 pub returns-in-Comment-clause-told : goal.returns-in-Comment-clause-told
 returns-in-Comment-clause-told g c = λ a told.
-    let text = chars (string_bytes c.take_line.new.text) in
-    let seen = chars (string_bytes c.joining.text) in
     let j = c.joining.invariant.2 a told in
-    let l =
-    line_was_taken a c.args.input.now c.joining.input c.has_more.new.self c.take_line.new.input seen
-    c.joining.mode taken_comment text told j.0 c.has_more.ensures.ended c.in_ok-has_more.ensures.told
-    (rw c.in-Comment.is at c.in_ok-taken.ensures.told) in
-    let k = l.makes in
-    let w = l.joining in (
-      1,
-      (
-        c.clear-in-Comment.ensures.bytes,
-        joining_skips a c.args.input.now c.has_more.new.self c.take_line.new.input seen k.0 c.joining.mode
-            k.1.some k.1.text k.2 k.3 w k.1.takes,
-      ),
-      counts_one _ (length j.0.taken) c.joining.lines_taken _ _ j.1 c.saturating_add.ensures
-          (ap (λ ts. suc (length ts)) (sym (w.first k.2)) ∙ ap suc l.count),
-    )
+    let n =
+    line_ends_next a c.args.input.now c.joining.input c.has_more.new.self c.take_line.new.input
+    (chars (string_bytes c.joining.text)) c.joining.mode taken_comment (chars (string_bytes c.take_line.new.text)) _ _ _
+    told j.0 c.has_more.ensures.ended c.in_ok-has_more.ensures.told (rw c.in-Comment.is at c.in_ok-taken.ensures.told)
+    j.1 c.saturating_add.ensures in
+    (n.0, (c.clear-in-Comment.ensures.bytes, n.1), n.2)
 
 pub returns-in-Comment-clause-asks : goal.returns-in-Comment-clause-asks
 returns-in-Comment-clause-asks g c =
@@ -186,20 +163,11 @@ returns-in-Comment-clause-asks g c =
 
 pub returns-in-Broken-clause-told : goal.returns-in-Broken-clause-told
 returns-in-Broken-clause-told g c = λ a told.
-    let text = chars (string_bytes c.take_line.new.text) in
-    let seen = chars (string_bytes c.joining.text) in
     let j = c.joining.invariant.2 a told in
-    let l =
-    line_was_taken a c.args.input.now c.joining.input c.has_more.new.self c.take_line.new.input seen
-    c.joining.mode taken_broken text told j.0 c.has_more.ensures.ended c.in_ok-has_more.ensures.told
-    (rw c.in-Broken.is at c.in_ok-taken.ensures.told) in
-    let k = l.makes in
-    let w = l.joining in (
-      suc (length w.taken),
-      joining_breaks a c.args.input.now c.has_more.new.self c.take_line.new.input seen k.0 c.joining.mode k.1
-          k.2 w k.3,
-      counts_one _ (length j.0.taken) c.joining.lines_taken _ _ j.1 c.saturating_add.ensures (ap suc l.count),
-    )
+    line_ends_next a c.args.input.now c.joining.input c.has_more.new.self c.take_line.new.input
+    (chars (string_bytes c.joining.text)) c.joining.mode taken_broken (chars (string_bytes c.take_line.new.text)) _ _ _
+    told j.0 c.has_more.ensures.ended c.in_ok-has_more.ensures.told (rw c.in-Broken.is at c.in_ok-taken.ensures.told)
+    j.1 c.saturating_add.ensures
 
 pub returns-in-Broken-clause-asks : goal.returns-in-Broken-clause-asks
 returns-in-Broken-clause-asks g c =
