@@ -22,7 +22,20 @@ use Rattle.std.proofs.lemmas.List.{map-append, append-nil}
 use Rattle.std.proofs.lemmas.List.Elements.{filter-append}
 use Rattle.std.specs.Option.{option_or}
 use Rattle.std.proofs.lemmas.Option.{none-some}
-use Rattle.std.specs.Prelude.{unwrap_or, string_bytes, Option, Some, None, option_map, IsTrue, is_some, Result, Ok, Err, IfOk}
+use Rattle.std.specs.Prelude.{
+  unwrap_or,
+  string_bytes,
+  Option,
+  Some,
+  None,
+  option_map,
+  IsTrue,
+  is_some,
+  Result,
+  Ok,
+  Err,
+  IfOk,
+}
 use Rattle.std.specs.List.{AllByRecursion, AllZip}
 use Rattle.std.specs.List.Sorted.{IsStrictlySortedBy}
 use Rattle.std.specs.Map.{lookup, keys_of}

@@ -54,6 +54,7 @@ ReadsFront a after r buf =
     × (0 < length buf → n ≡ 0 → (a.bytes ≡ []) × (a.fault ≡ None)))
     × IfErr r (λ e. (a.bytes ≡ []) × (a.fault ≡ Some (error_kind e)))
 
+-- the same of a source that may tell nothing
 abbrev pub ReadsAhead : Option Ahead → Option Ahead → Result ℕ Error → List ℕ → Type 0
 ReadsAhead None after r buf = Unit {0}
 ReadsAhead (Some a) after r buf = ReadsFront a after r buf

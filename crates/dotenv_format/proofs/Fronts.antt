@@ -7,7 +7,7 @@ pub record Placed {M : Type 0} (Completes : List ℕ → M → Type 0) (text : L
   pub completed : Completes (take n text) m
   pub longest : n < length text → ¬ (Completes (take (suc n) text) m)
 
--- a character leads from one mode to the other: what can be completed there can be with it in front, and the other way round
+-- a character leads from one mode to another: what can be completed there can be with it in front, and conversely
 pub record Leads {M : Type 0} (Completes : List ℕ → M → Type 0) (m : M) (c : ℕ) (n : M) : Type 0 where
   pub on : (cs : List ℕ) → Completes cs n → Completes (c ∷ cs) m
   pub back : (cs : List ℕ) → Completes (c ∷ cs) m → Completes cs n

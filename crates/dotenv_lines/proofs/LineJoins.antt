@@ -855,7 +855,8 @@ taken_ends a s v u seen m taken_comment now count before lines after l counts on
     let w = l.joining in (
       1,
       joining_skips a s v u seen k.0 m k.1.some k.1.text k.2 k.3 w k.1.takes,
-      counts_one before count lines after 1 counts one (ap (λ ts. suc (length ts)) (sym (w.first k.2)) ∙ ap suc l.count),
+      counts_one before count lines after 1 counts one
+          (ap (λ ts. suc (length ts)) (sym (w.first k.2)) ∙ ap suc l.count),
     )
 taken_ends a s v u seen m taken_broken now count before lines after l counts one =
     let k = l.makes in

@@ -60,6 +60,7 @@ pub record InputState : Type 0 where
   pub at_end : Bool
   pub calls : Option (List Call)
 
+-- the state of an input as a tuple
 abbrev pub input_code : Coded InputState
 input_code =
     code_by (Option Ahead × (ℕ × (ℕ × (Bool × Option (List Call)))))
@@ -92,6 +93,7 @@ abbrev pub drop_left : ℕ → Option Ahead → Option Ahead
 drop_left n None = None
 drop_left n (Some a) = Some (record { bytes = drop n a.bytes; fault = a.fault })
 
+-- the same input with so many bytes used
 abbrev pub used_up : ℕ → InputState → InputState
 used_up n s = record s { left = drop_left n s.left; unread = s.unread - n }
 

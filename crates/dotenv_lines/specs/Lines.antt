@@ -55,6 +55,7 @@ pub record LinesState : Type 0 where
   pub lines_taken : ℕ
   pub first_line : ℕ
 
+-- the state of lines as a tuple
 abbrev pub lines_code : Coded LinesState
 lines_code =
     code_by (InputState × (Stage × (ℕ × ℕ)))
@@ -72,6 +73,7 @@ abbrev pub CountsLine : LinesState → ℕ → LinesState → Type 0
 CountsLine s count t =
     Counts s.lines_taken 1 t.first_line × Counts s.lines_taken count t.lines_taken
 
+-- one more than the supply while lines are open, and nothing once they are not
 abbrev pub stage_fuel : Stage → ℕ → ℕ
 stage_fuel stage_open n = n + 1
 stage_fuel Ended n = 0
@@ -134,6 +136,7 @@ TakesFault a s (EnvVar e) count t = ⊥
 TakesFault a s (Nul key) count t = ⊥
 TakesFault a s (Memory e) count t = ⊥
 
+-- a text, or a fault that stands in place of one, taken so
 abbrev pub TakesAnswer : {A : Type 0} → Ahead → InputState → Result (String A) (Error A) → ℕ →
     InputState → Type 0
 TakesAnswer a s (Ok text) count t = TakesLineText a s text count t

@@ -25,6 +25,7 @@ pub record SplitterState : Type 0 where
   pub lines : LinesState
   pub line : List ℕ
 
+-- the state of a splitter as a tuple
 abbrev pub splitter_code : Coded SplitterState
 splitter_code =
     code_by (LinesState × List ℕ) (coded× lines_code (coded_list coded_ℕ))

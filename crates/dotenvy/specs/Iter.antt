@@ -21,6 +21,7 @@ pub record IterState : Type 0 where
   pub dialect : Dialect
   pub item_lines : ℕ × ℕ
 
+-- the state of an iterator as a tuple
 abbrev pub iter_code : Coded IterState
 iter_code =
     code_by (LinesState × (Remembered × (Dialect × (ℕ × ℕ))))

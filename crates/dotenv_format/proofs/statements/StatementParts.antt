@@ -1,5 +1,24 @@
 -- What the slices of a line are to the parser of statements over its characters.
-use Rattle.std.proofs.Common.{arith, length, ◌≡◌, ℕ, Bool, true, false, not, ◌&&◌, List, [], ◌∷◌, ◌++◌, refl, sym, ◌∙◌, ap, cond}
+use Rattle.std.proofs.Common.{
+  arith,
+  length,
+  ◌≡◌,
+  ℕ,
+  Bool,
+  true,
+  false,
+  not,
+  ◌&&◌,
+  List,
+  [],
+  ◌∷◌,
+  ◌++◌,
+  refl,
+  sym,
+  ◌∙◌,
+  ap,
+  cond,
+}
 use Rattle.std.specs.Char.{is_whitespace}
 use Rattle.std.specs.Prelude.{◌==◌, bytes_eq}
 use Rattle.std.specs.Cmp.Lexicographic.{same_text}
@@ -21,6 +40,7 @@ use Rattle.dotenv_format.specs.Characters.{begins_key, continues_key, equals_sig
 use lib.Utf8.{scalar, encode}
 use Rattle.dotenv_format.specs.inside.Slices.{IsSpan, begins_passing}
 use Rattle.dotenv_format.specs.inside.ParseStatement.{export, Parsed, fails, key_run, key_left, key_then, equals_then}
+use Rattle.dotenv_format.proofs.statements.Statements.{key_begins_continues}
 
 -- characters that are the same pass the test for that
 pub same : (c d : ℕ) → c ≡ d → (c == d) ≡ true
@@ -40,10 +60,6 @@ run_of (c ∷ front) rest h l =
     let later = run_of front rest (and_right (continues_key c) (list_all continues_key front) h) l in
     (if_true _ _ (continues_key c) here ∙ ap (λ t. c ∷ t) later.0, if_true _ _ (continues_key c) here ∙ later.1)
 
--- a character that begins a key may also go on with one
-key_continues : (c : ℕ) → begins_key c ≡ true → continues_key c ≡ true
-key_continues c h = rw h refl
-
 -- a text that begins a key is cut where the key ends
 pub key_then-span : (text front rest : List ℕ) (next : List ℕ → List ℕ → Parsed) →
     begins_passing begins_key text ≡ true → IsSpan continues_key text front rest →
@@ -52,9 +68,9 @@ key_then-span [] front rest next h is = cc
 key_then-span (c ∷ cs) front rest next h is =
     let parts = run_of front rest is.pass is.longest in
     let run : front ≡ c ∷ key_run cs =
-    sym parts.0 ∙ ap key_run (sym is.spelled) ∙ if_true _ _ (continues_key c) (key_continues c h) in
+    sym parts.0 ∙ ap key_run (sym is.spelled) ∙ if_true _ _ (continues_key c) (key_begins_continues c h) in
     let left : rest ≡ key_left cs =
-    sym parts.1 ∙ ap key_left (sym is.spelled) ∙ if_true _ _ (continues_key c) (key_continues c h) in
+    sym parts.1 ∙ ap key_left (sym is.spelled) ∙ if_true _ _ (continues_key c) (key_begins_continues c h) in
     ap (λ f. next f rest) run ∙ ap (next (c ∷ key_run cs)) left ∙ sym (if_true _ _ (begins_key c) h)
 
 -- where no key begins, a fault is parsed, and all of the text is left

@@ -39,7 +39,7 @@ use Rattle.dotenv_format.proofs.writing.ReadBack.{begins_key_visible}
 use Rattle.dotenv_format.specs.inside.ParseStatement.{export}
 
 -- a character that begins a key may also stand later in one
-key_begins_continues : (c : ℕ) → begins_key c ≡ true → continues_key c ≡ true
+pub key_begins_continues : (c : ℕ) → begins_key c ≡ true → continues_key c ≡ true
 key_begins_continues c h = rw h refl
 
 -- each character of a key, the first one too, may stand later in a key

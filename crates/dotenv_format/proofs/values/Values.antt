@@ -684,7 +684,10 @@ inside_step dialect c cs false false false hb hd ho later =
 escape_step : (dialect : Dialect) (q : Quoting) (c : ℕ) (cs : List ℕ) (b : Bool) → is_escape c ≡ b →
     ValueLater dialect cs →
     IsValueRead dialect (escaping q) (c ∷ cs)
-    (read_after (elim b [ true ↦ Some (base q, Text (escape_meaning c ∷ []) ∷ []) | false ↦ None ]) (λ n. read_value dialect cs n))
+    (read_after (elim b [
+      | true ↦ Some (base q, Text (escape_meaning c ∷ []) ∷ [])
+      | false ↦ None
+    ]) (λ n. read_value dialect cs n))
 escape_step dialect q c cs true h later =
     to_escaping dialect q (c ∷ cs) (given (Text (escape_meaning c ∷ []) ∷ []) (read_value dialect cs (base q)))
     (part_first dialect q (escape c) cs (read_value dialect cs (base q)) h (later (base q) tt))

@@ -19,6 +19,7 @@ abbrev pub key_run : List ℕ → List ℕ
 key_run [] = []
 key_run (c ∷ cs) = cond (continues_key c) (c ∷ key_run cs) []
 
+-- what follows that run
 abbrev pub key_left : List ℕ → List ℕ
 key_left [] = []
 key_left (c ∷ cs) = cond (continues_key c) (key_left cs) (c ∷ cs)

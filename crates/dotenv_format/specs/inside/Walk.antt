@@ -43,6 +43,7 @@ pub data Walk : Type 0 where
   going : LineMode → Walk
   ended : List ℕ → Walk
 
+-- a step of the walk: on from where the character leads, or ended with this text
 abbrev pub walked : Option LineMode → ℕ → List ℕ → (LineMode → Walk) → Walk
 walked None c seen next = ended (kept_before c seen)
 walked (Some m) c seen next = next m

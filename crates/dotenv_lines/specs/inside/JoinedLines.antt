@@ -84,6 +84,7 @@ UsesSome s BrokenLine t = supply t < supply s
 abbrev pub stage_if : Bool → Stage
 stage_if used_up = if used_up then Ended else stage_open
 
+-- the stage behind what was joined, if it was not refused
 abbrev pub stage_joined : Joined → Bool → Stage
 stage_joined Nothing used_up = Ended
 stage_joined Skipped used_up = stage_if used_up

@@ -88,15 +88,18 @@ WalksFrom m old piece new (Going n) =
 WalksFrom m old piece new Ended = walk m old piece ≡ ended new
 WalksFrom m old piece new Comment = ⊥
 
+-- how far a walk came, seen as one over white space alone
 abbrev pub still_blank : Progress → Progress
 still_blank (Blank n) = Blank n
 still_blank (Going n) = Blank n
 still_blank Ended = Ended
 still_blank Comment = Comment
 
+-- how far a walk came before its first character
 abbrev pub starting : LineMode → Bool → Progress
 starting m first = if first then Blank m else Going m
 
+-- what a walk that reached the end of its line has taken
 abbrev pub at_line_end : Progress → Taken
 at_line_end (Blank n) = taken_going n
 at_line_end (Going n) = taken_going n
@@ -159,6 +162,7 @@ LineMakes m seen a s taken_comment now t =
 LineMakes m seen a s taken_broken now t =
     (line : List ℕ) × (line ≢ []) × ¬ (IsUtf8 line) × TakesLine a s line t
 
+-- a line that was taken, or a final fault in it
 abbrev pub TakesLineOn : {A : Type 0} → LineMode → List ℕ → Ahead → InputState →
     Result Taken (Error A) → List ℕ → InputState → Type 0
 TakesLineOn m seen a s (Ok made) now t = LineMakes m seen a s made now t
