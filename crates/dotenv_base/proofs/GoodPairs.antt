@@ -69,10 +69,10 @@ all_good (pair ∷ pairs) sorted good =
     ∙ ap (λ b. b && list_all pair_ok pairs) own.1 ∙ later
 
 -- the pairs of an environment are good
-pub good_entries : (environment : Env) → IsEnvironment environment → AreGood (entries environment.names)
-good_entries environment good =
-    all_good (entries environment.names) (entries_sorted environment.names)
-    (λ name value found. good name value (get-entries environment.names name ∙ found))
+pub good_entries : (env : Env) → IsEnvironment env → AreGood (entries env.names)
+good_entries env good =
+    all_good (entries env.names) (entries_sorted env.names)
+    (λ name value found. good name value (get-entries env.names name ∙ found))
 
 -- the first of good pairs has a good name
 pub first_is_good : (name value : List ℕ) (pairs : List (List ℕ × List ℕ)) → AreGood ((name, value) ∷ pairs) →

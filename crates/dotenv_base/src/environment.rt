@@ -119,13 +119,13 @@ impl<A: Allocator> Environment<A> {
         ensures mark { IfOk result (λ e. e.loaded ≡ false) }
         ensures memory { IfErr result IsMemory }
     {
-        let mut environment = Environment::new(alloc);
+        let mut env = Environment::new(alloc);
         for (name, value) in list {
-            if is_pair(&name, &value) && !environment.contains(&name) {
-                environment.set(name, value)?;
+            if is_pair(&name, &value) && !env.contains(&name) {
+                env.set(name, value)?;
             }
         }
-        Ok(environment)
+        Ok(env)
     }
 
     /// An environment of the names and values of the process, whose mark is not set.
@@ -269,19 +269,19 @@ impl<A: Allocator> Environment<A> {
 }
 
 /// Sets the mark of an environment. This is for the first use alone.
-pub fn mark_loaded<A: Allocator>(environment: &mut Environment<A>)
-    ensures { environment.new ≡ record environment.old { loaded = true } }
+pub fn mark_loaded<A: Allocator>(env: &mut Environment<A>)
+    ensures { env.new ≡ record env.old { loaded = true } }
 {
-    environment.loaded = true;
+    env.loaded = true;
 }
 
 /// The names of an environment with their values as they are now, on their own. The error is `Memory`.
-pub fn snapshot<A: Allocator + Clone>(environment: &Environment<A>) -> Result<Vars<A>, A>
-    ensures pairs { IfOk result (λ pairs. pairs ≡ fin.entries environment.now.names) }
+pub fn snapshot<A: Allocator + Clone>(env: &Environment<A>) -> Result<Vars<A>, A>
+    ensures pairs { IfOk result (λ pairs. pairs ≡ fin.entries env.now.names) }
     ensures memory { IfErr result IsMemory }
 {
     Ok(Vars {
-        pairs: environment.entries.clone()?.into_iter(),
+        pairs: env.entries.clone()?.into_iter(),
     })
 }
 
@@ -324,8 +324,8 @@ struct Names<'a, A: Allocator>(&'a Environment<A>);
 
 impl<'a, A: Allocator> fmt::Debug for Names<'a, A> {
     fn fmt<W: fmt::Write>(&self, f: &mut fmt::Formatter<W>) -> fmt::Result {
-        let environment = self.0;
-        f.debug_set().entries(environment.entries.keys()).finish()
+        let env = self.0;
+        f.debug_set().entries(env.entries.keys()).finish()
     }
 }
 
@@ -337,7 +337,7 @@ impl<'a, A: Allocator> IntoIterator for &'a Environment<A> {
     ghost use Rattle.std.specs.Prelude.{◌≡◌};
     ghost use Rattle.std.specs.FinMap as fin;
 
-    ghost into_iter_gives = { λ environment pairs. pairs ≡ fin.entries environment.now.names };
+    ghost into_iter_gives = { λ env pairs. pairs ≡ fin.entries env.now.names };
 
     fn into_iter(self) -> Pairs<'a, A> {
         self.iter()

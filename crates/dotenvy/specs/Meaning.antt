@@ -25,4 +25,4 @@ names_of names remembered = or_else (values_of names) (recalled_of remembered)
 
 -- the same of what the code looks names up in
 abbrev pub look_up_of : {A : Type 0} → Names A → LookUp
-look_up_of names = names_of names.environment.now.names (remembered_of names.remembered.now.entries)
+look_up_of names = names_of names.env.now.names (remembered_of names.remembered.now.entries)

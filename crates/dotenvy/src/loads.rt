@@ -25,11 +25,11 @@ pub(crate) enum Mode {
 
 impl Mode {
     // Whether a load in this mode sets a value of this key.
-    fn sets<A: Allocator>(self, environment: &Environment<A>, key: &str) -> bool
-        ensures { result ≡ sets (mode_of self) (values_of environment.now.names) (chars key.now) }
+    fn sets<A: Allocator>(self, env: &Environment<A>, key: &str) -> bool
+        ensures { result ≡ sets (mode_of self) (values_of env.now.names) (chars key.now) }
     {
         match self {
-            Mode::Keep => !environment.contains(key),
+            Mode::Keep => !env.contains(key),
             Mode::Replace => true,
         }
     }
@@ -43,19 +43,19 @@ pub(crate) fn load_line<A: Allocator + Clone>(
     alloc: &A,
     line: &str,
     remembered: &Remembered<A>,
-    environment: &mut Environment<A>,
+    env: &mut Environment<A>,
     mode: Mode,
     dialect: Dialect,
 ) -> Result<(), A>
     ensures loads { LoadsLine (mode_of mode) dialect (remembered_of remembered.now.entries)
-        (chars line.now) environment.old.names result environment.new.names }
+        (chars line.now) env.old.names result env.new.names }
     ensures keeps { mode_of mode ≡ Keep →
-        KeepsNames environment.old.names environment.new.names }
-    ensures keys { ChangesKeys environment.old.names environment.new.names }
-    ensures mark { environment.new.loaded ≡ environment.old.loaded }
+        KeepsNames env.old.names env.new.names }
+    ensures keys { ChangesKeys env.old.names env.new.names }
+    ensures mark { env.new.loaded ≡ env.old.loaded }
 {
     let names = Names {
-        environment: &*environment,
+        env: &*env,
         remembered,
     };
     let declaration = match scan_line(line, &names, dialect) {
@@ -63,9 +63,9 @@ pub(crate) fn load_line<A: Allocator + Clone>(
         Ok(None) => return Ok(()),
         Err(fault) => return Err(fault_error(alloc.clone()?, fault.text, fault.index)),
     };
-    if !mode.sets(environment, declaration.key) {
+    if !mode.sets(env, declaration.key) {
         return Ok(());
     }
     let (key, value) = pair_of(alloc.clone()?, declaration, &names, dialect)?;
-    environment.set(key, value)
+    env.set(key, value)
 }

@@ -18,7 +18,7 @@ use std::alloc::Allocator;
 /// The texts that the names of a line stand for.
 #[derive(Drop)]
 pub(crate) struct Names<'a, A: Allocator> {
-    pub(crate) environment: &'a Environment<A>,
+    pub(crate) env: &'a Environment<A>,
     pub(crate) remembered: &'a Remembered<A>,
 }
 
@@ -28,7 +28,7 @@ impl<'a, A: Allocator> Names<'a, A> {
         ensures { result.now
             ≡ encode_utf8_all (unwrap_or (look_up_of self.now (chars name.now)) []) }
     {
-        let found = match self.environment.get(name) {
+        let found = match self.env.get(name) {
             Some(value) => Some(value),
             None => recall(self.remembered, name),
         };

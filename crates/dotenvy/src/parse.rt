@@ -181,18 +181,18 @@ pub(crate) fn parse_line<A: Allocator + Clone>(
     alloc: A,
     line: &str,
     remembered: &mut Remembered<A>,
-    environment: &Environment<A>,
+    env: &Environment<A>,
     dialect: Dialect,
 ) -> ParsedLine<A>
     ensures answer { IsMemoryErr result
         ⊎ ((outcome : Outcome) × Says dialect (chars line.now) outcome × IsLineAnswer (names_of
-        environment.now.names (remembered_of remembered.old.entries)) outcome result) }
+        env.now.names (remembered_of remembered.old.entries)) outcome result) }
     ensures remembers { Remembers (chars line.now) (remembered_of remembered.old.entries)
         (remembered_of remembered.new.entries) result }
     ensures key { IfOk result HasKey }
 {
     let names = Names {
-        environment,
+        env,
         remembered: &*remembered,
     };
     let declaration = match scan_line(line, &names, dialect) {

@@ -81,8 +81,8 @@ fn run_command<A: Allocator + Clone, R: Files + Env + Processes + Alloc<A = A>>(
     let Some((program, arguments)) = line.command.split_first() else {
         return Err(Failure::Usage(Usage::MissingCommand));
     };
-    let environment = loaded(rt, line.files.as_slice(), line.dialect)?;
-    match start(rt, program.as_str(), arguments, &environment) {
+    let env = loaded(rt, line.files.as_slice(), line.dialect)?;
+    match start(rt, program.as_str(), arguments, &env) {
         Ok(status) => Ok(status),
         Err(fault) => Err(Failure::Start(fault)),
     }

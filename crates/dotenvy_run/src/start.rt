@@ -16,9 +16,9 @@ pub fn start<A: Allocator + Clone, R: Processes + Alloc<A = A>>(
     rt: &R,
     program: &str,
     arguments: &[String<A>],
-    environment: &Environment<A>,
+    env: &Environment<A>,
 ) -> io::Result<u8> {
-    let mut command = command_in(rt.alloc(), program, arguments, environment)?;
+    let mut command = command_in(rt.alloc(), program, arguments, env)?;
     let status = command.status(rt)?;
     Ok(status_number(status))
 }
@@ -28,17 +28,17 @@ fn command_in<A: Allocator + Clone>(
     alloc: A,
     program: &str,
     arguments: &[String<A>],
-    environment: &Environment<A>,
+    env: &Environment<A>,
 ) -> Result<Command<A>, AllocError>
     ensures program { IfOk result (λ command. command_program command ≡ program.now) }
     ensures arguments { IfOk result (λ command. command_args command ≡ texts arguments.now) }
     ensures inherits { IfOk result (λ command. clears_env command ≡ false) }
-    ensures names { IfOk result (SetsNames environment.now.names) }
+    ensures names { IfOk result (SetsNames env.now.names) }
     ensures directory { IfOk result (λ command. command_dir command ≡ None) }
 {
     let mut command = Command::new(alloc, program)?;
     command.args(arguments)?;
-    'names: for (name, value) in environment.iter() {
+    'names: for (name, value) in env.iter() {
         command.env(name, value)?;
     }
     Ok(command)

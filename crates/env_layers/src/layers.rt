@@ -42,7 +42,7 @@ pub enum Mode {
 /// ```
 #[derive(Drop)]
 pub struct Layers<A: Allocator = Global> {
-    environment: Environment<A>,
+    env: Environment<A>,
 }
 
 impl<A: Allocator> Model for Layers<A> {
@@ -52,7 +52,7 @@ impl<A: Allocator> Model for Layers<A> {
 
     ghost coded = { env_code };
 
-    ghost view = { λ s. s.environment };
+    ghost view = { λ s. s.env };
 }
 
 impl<A: Allocator> Layers<A> {
@@ -64,7 +64,7 @@ impl<A: Allocator> Layers<A> {
     pub fn new(env: Environment<A>) -> Layers<A>
         ensures { result ≡ env }
     {
-        Layers { environment: env }
+        Layers { env: env }
     }
 
     /// The environment with the layers that were accepted.
@@ -75,7 +75,7 @@ impl<A: Allocator> Layers<A> {
     pub fn into_environment(self) -> Environment<A>
         ensures { result ≡ self }
     {
-        self.environment
+        self.env
     }
 }
 
@@ -96,12 +96,12 @@ impl<A: Allocator + Clone> Layers<A> {
         ensures keys { ChangesKeys self.old.names self.new.names }
         ensures mark { self.new.loaded ≡ self.old.loaded }
     {
-        let mut layered = self.environment.try_clone()?;
+        let mut layered = self.env.try_clone()?;
         match mode {
             Mode::Keep => from_read(alloc, reader, &mut layered)?,
             Mode::Override => from_read_override(alloc, reader, &mut layered)?,
         }
-        self.environment = layered;
+        self.env = layered;
         Ok(())
     }
 
@@ -125,9 +125,9 @@ impl<A: Allocator + Clone> Layers<A> {
         ensures keys { ChangesKeys self.old.names self.new.names }
         ensures mark { self.new.loaded ≡ self.old.loaded }
     {
-        let mut copy = self.environment.try_clone()?;
+        let mut copy = self.env.try_clone()?;
         let path = from_filename_with(rt, filename, dialect, &mut copy)?;
-        self.environment = copy;
+        self.env = copy;
         Ok(path)
     }
 
@@ -151,7 +151,7 @@ impl<A: Allocator + Clone> Layers<A> {
         ensures { result
             ≡ list_all (λ name. contains_key self.now.names name) (lent_texts names.now) }
     {
-        names.iter().all(|name| self.environment.contains(name))
+        names.iter().all(|name| self.env.contains(name))
     }
 
     // The names that have no value, in the order given.
@@ -161,7 +161,7 @@ impl<A: Allocator + Clone> Layers<A> {
     {
         let mut absent = Vec::new(alloc.clone()?);
         'names: for name in names {
-            if !self.environment.contains(name) {
+            if !self.env.contains(name) {
                 absent.push(String::from_str(alloc.clone()?, name)?)?;
             }
         }

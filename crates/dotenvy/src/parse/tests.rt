@@ -19,7 +19,7 @@ fn shown(alloc: Global, said: ParsedLine<Global>) -> std::result::Result<String,
 #[test]
 fn values_with_an_open_quote(rt: HostRuntime) -> std::result::Result<(), Fail> {
     let alloc = rt.alloc();
-    let environment = Environment::new(alloc);
+    let env = Environment::new(alloc);
     for (line, dialect, wanted) in [
         (
             "KEY3='please stop''",
@@ -45,7 +45,7 @@ fn values_with_an_open_quote(rt: HostRuntime) -> std::result::Result<(), Fail> {
         ("E=\"$\"x", Dialect::Next, "E=x"),
     ] {
         let mut remembered = HashMap::new(alloc);
-        let said = parse_line(alloc, line, &mut remembered, &environment, dialect);
+        let said = parse_line(alloc, line, &mut remembered, &env, dialect);
         let is_pair = said.is_ok();
         assert_eq!(rt; shown(alloc, said)?.as_str(), wanted, "at {line}");
         assert_eq!(rt; remembered.len() == 1, is_pair);

@@ -8,16 +8,16 @@ use Rattle.dotenv_base.proofs.environment.snapshot.Goals as goal
 pub invariant_of-result : goal.invariant_of-result
 invariant_of-result g c =
     let cloned = ap text_entries c.into_iter.ensures.into_iter_gives.0
-    ∙ entries-clones c.environment.inside.entries.entries c.in_ok-clone.field-0.entries
+    ∙ entries-clones c.env.inside.entries.entries c.in_ok-clone.field-0.entries
     c.into_iter.ensures.into_iter_gives.5
     c.in_ok-clone.ensures.cases in
     subst AreGood (sym cloned) (good_entries
-    (env_of c.environment.inside.entries.entries c.environment.inside.loaded) c.environment.invariant)
+    (env_of c.env.inside.entries.entries c.env.inside.loaded) c.env.invariant)
 
 pub returns-clause-pairs : goal.returns-clause-pairs
 returns-clause-pairs g c =
     ap text_entries c.into_iter.ensures.into_iter_gives.0
-    ∙ entries-clones c.environment.inside.entries.entries c.in_ok-clone.field-0.entries
+    ∙ entries-clones c.env.inside.entries.entries c.in_ok-clone.field-0.entries
     c.into_iter.ensures.into_iter_gives.5
     c.in_ok-clone.ensures.cases
-    ∙ ap (λ e. entries e.names) c.environment.view_is
+    ∙ ap (λ e. entries e.names) c.env.view_is

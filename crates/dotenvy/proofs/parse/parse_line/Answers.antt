@@ -9,13 +9,13 @@ use Rattle.dotenvy.proofs.parse.parse_line.Goals as goal
 pub returns-in-Err-clause-answer : goal.returns-in-Err-clause-answer
 returns-in-Err-clause-answer g c =
     fault_answer c.args.dialect
-    (names_of c.args.environment.now.names (remembered_of c.args.remembered.now.entries)) (chars c.args.line.now)
+    (names_of c.args.env.now.names (remembered_of c.args.remembered.now.entries)) (chars c.args.line.now)
     (chars c.in-Err.fault.text.now) c.in-Err.fault.index c.fault_error.result c.in-Err.ensures
     c.fault_error.ensures
 
 pub returns-clause-answer : goal.returns-clause-answer
 returns-clause-answer g c =
-    let look_up = names_of c.args.environment.now.names (remembered_of c.args.remembered.now.entries) in
+    let look_up = names_of c.args.env.now.names (remembered_of c.args.remembered.now.entries) in
     let declared : IsDeclared c.args.dialect look_up (chars c.args.line.now) c.in-Ok-Some.declaration =
     subst (λ o. Scans c.args.dialect look_up (chars c.args.line.now) (Ok o)) c.in-Ok-Some.field-0-is
     c.in-Ok-Some.ensures in
@@ -24,7 +24,7 @@ returns-clause-answer g c =
 
 pub returns-clause-remembers : goal.returns-clause-remembers
 returns-clause-remembers g c =
-    let look_up = names_of c.args.environment.now.names (remembered_of c.args.remembered.now.entries) in
+    let look_up = names_of c.args.env.now.names (remembered_of c.args.remembered.now.entries) in
     let declared : IsDeclared c.args.dialect look_up (chars c.args.line.now) c.in-Ok-Some.declaration =
     subst (λ o. Scans c.args.dialect look_up (chars c.args.line.now) (Ok o)) c.in-Ok-Some.field-0-is
     c.in-Ok-Some.ensures in
@@ -39,7 +39,7 @@ returns-clause-remembers g c =
 
 pub returns-clause-key : goal.returns-clause-key
 returns-clause-key g c =
-    let look_up = names_of c.args.environment.now.names (remembered_of c.args.remembered.now.entries) in
+    let look_up = names_of c.args.env.now.names (remembered_of c.args.remembered.now.entries) in
     let declared : IsDeclared c.args.dialect look_up (chars c.args.line.now) c.in-Ok-Some.declaration =
     subst (λ o. Scans c.args.dialect look_up (chars c.args.line.now) (Ok o)) c.in-Ok-Some.field-0-is
     c.in-Ok-Some.ensures in

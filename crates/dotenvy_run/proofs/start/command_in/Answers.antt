@@ -16,7 +16,7 @@ names-init g c =
     record {
       names =
           rw (c.into_iter-name-iterator.ensures.into_iter_gives ∙ c.iter-name-items.ensures.pairs)
-          (none_set c.args.environment.now.names _
+          (none_set c.args.env.now.names _
           (λ name. let none = c.in_ok-args.ensures.env.1 name ∙ c.in_ok-command.ensures.vars name in
           search rules));
       program = search rules;
@@ -28,9 +28,9 @@ names-init g c =
 pub names-preserved : goal.names-preserved
 names-preserved g c = record {
   names =
-      let left = subst (λ es. SetsWithLeft c.args.environment.now.names es c.names.command)
+      let left = subst (λ es. SetsWithLeft c.args.env.now.names es c.names.command)
       (search rules) c.names.invariant.names in
-      one_set c.args.environment.now.names (string_bytes c.in-Some.name.now) (string_bytes c.in-Some.value.now)
+      one_set c.args.env.now.names (string_bytes c.in-Some.name.now) (string_bytes c.in-Some.value.now)
       c.next.new.self c.names.command _ left (search rules)
       (λ name differs. let same = c.in_ok-env.ensures.others name differs in search rules);
   program = search rules;

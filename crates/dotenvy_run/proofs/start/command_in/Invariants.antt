@@ -7,7 +7,7 @@ use Rattle.dotenvy_run.proofs.start.command_in.Given as goal
 -- the names so far are set, those left are not, and the rest of the command stays
 abbrev pub invariant-names : goal.invariant-names
 invariant-names g l = record {
-  names : SetsWithLeft l.environment.names l.name-iterator l.command;
+  names : SetsWithLeft l.env.names l.name-iterator l.command;
   program : command_program l.command ≡ l.program;
   arguments : command_args l.command ≡ texts l.arguments;
   inherits : clears_env l.command ≡ false;

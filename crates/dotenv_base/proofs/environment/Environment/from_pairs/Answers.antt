@@ -10,7 +10,7 @@ pub loop-name-preserved-then-not-contains : goal.loop-name-preserved-then-not-co
 loop-name-preserved-then-not-contains g c = record {
   names =
       ap (λ e. e.names) c.in_ok-set.ensures.ok
-      ∙ pairs-new c.loop-name.environment.names c.loop-name.yielded c.in-Some.name c.in-Some.value
+      ∙ pairs-new c.loop-name.env.names c.loop-name.yielded c.in-Some.name c.in-Some.value
       c.loop-name.invariant.names (search rules) (search rules);
   mark = search rules;
 }
@@ -19,10 +19,10 @@ pub loop-name-preserved : goal.loop-name-preserved
 loop-name-preserved g c = record {
   names = elim c.else-is_pair.branch [
     | else-is_pair-via-then-is_pair+else-not-contains w ↦
-        pairs-again c.loop-name.environment.names c.loop-name.yielded c.in-Some.name c.in-Some.value
+        pairs-again c.loop-name.env.names c.loop-name.yielded c.in-Some.name c.in-Some.value
         c.loop-name.invariant.names (search rules) (search rules)
     | else-is_pair-via-else-is_pair w ↦
-        pairs-passed_by c.loop-name.environment.names c.loop-name.yielded c.in-Some.name c.in-Some.value
+        pairs-passed_by c.loop-name.env.names c.loop-name.yielded c.in-Some.name c.in-Some.value
         c.loop-name.invariant.names (search rules)
   ];
   mark = c.loop-name.invariant.mark;

@@ -5,6 +5,6 @@ use Rattle.dotenv_base.proofs.environment.Environment.from_pairs.Given as goal
 -- the first good pair of each name so far, and no mark
 abbrev pub invariant-loop-name : goal.invariant-loop-name
 invariant-loop-name g l = record {
-  names : l.environment.names ≡ of_pairs l.yielded;
-  mark : l.environment.loaded ≡ false;
+  names : l.env.names ≡ of_pairs l.yielded;
+  mark : l.env.loaded ≡ false;
 }

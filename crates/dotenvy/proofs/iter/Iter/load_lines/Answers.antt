@@ -47,7 +47,7 @@ pub loading-preserved : goal.loading-preserved
 loading-preserved g c =
     let A = g.row.A.Denot in
     let names = c.loading.env.names in
-    let new = c.load_line.new.environment.names in
+    let new = c.load_line.new.env.names in
     let mode = mode_of c.args.mode in
     let self = c.loading.self-inside in
     let now = state_of self.lines.lines (remembered_of self.remembered.entries) self.dialect self.item_lines in
@@ -80,7 +80,7 @@ returns-in_err-load_line-clause-told g c = λ opened.
     let p = err_from_is_err_and c.from_residual-in_err-load_line.result c.from_residual-in_err-load_line.ensures.1 in
     let e = c.in_err-load_line.field-0.0 in
     let names = c.loading.env.names in
-    let new = c.load_line.new.environment.names in
+    let new = c.load_line.new.env.names in
     let mode = mode_of c.args.mode in
     let self = c.loading.self-inside in
     let now = state_of self.lines.lines (remembered_of self.remembered.entries) self.dialect self.item_lines in

@@ -4,5 +4,5 @@ use Rattle.dotenvy.proofs.loads.Mode.sets.Goals as goal
 
 pub returns-in-Keep : goal.returns-in-Keep
 returns-in-Keep g c =
-    rw c.in-Keep.is (sym (is_none-contains c.args.environment.now.names c.args.key.now c.contains.result c.utf8.key
+    rw c.in-Keep.is (sym (is_none-contains c.args.env.now.names c.args.key.now c.contains.result c.utf8.key
     c.contains.ensures))
