@@ -81,7 +81,7 @@ use Rattle.dotenv_base.specs.Environment.{
 }
 
 -- the byte order of names
-abbrev bytes_cmp : List ℕ → List ℕ → Ordering
+abbrev pub bytes_cmp : List ℕ → List ℕ → Ordering
 bytes_cmp = slice_cmp nat_cmp
 
 -- the map of the pairs of strings, by their bytes; the first pair of a name counts

@@ -133,13 +133,12 @@ use Rattle.dotenv_format.proofs.lines.SplitLines.{
   next-text,
   next-open,
   next-broken,
+  Lines,
+  concat_more,
+  lines_more,
 }
 use Rattle.dotenv_lines.proofs.Inputs.{ahead_of, moves_none, moves_on, moves_still, final_before}
 use Rattle.dotenv_lines.proofs.NumberedLines.{counts_none, counts_one}
-
--- the texts of physical lines, in order, with none where a line is broken
-abbrev Lines : Type 0
-Lines = List (Option (List ℕ))
 
 -- up to their last line feed, a line with its line feed and more bytes are that line and what those have
 up_to_whole : (line left : List ℕ) → is_whole_line line ≡ true →
@@ -306,16 +305,6 @@ no_text line h = at (is_utf8 line) refl
     at true e = absurd (h (IsUtf8-from_is_utf8 line e))
     at false e = refl
 
--- a text that stands next may be counted among those before it
-one_more : (taken : List (List ℕ)) (t : List ℕ) (ls : Lines) →
-    map Some taken ++ Some t ∷ ls ≡ map Some (taken ++ t ∷ []) ++ ls
-one_more taken t ls =
-    sym (append_assoc (map Some taken) (Some t ∷ []) ls) ∙ ap (λ l. l ++ ls) (sym (map-append Some taken (t ∷ [])))
-
--- texts joined with one text more are those joined, and then that one
-concat_more : (taken : List (List ℕ)) (t : List ℕ) → concat (taken ++ t ∷ []) ≡ concat taken ++ t
-concat_more taken t = concat-append taken (t ∷ []) ∙ ap (λ x. concat taken ++ x) (append-nil t)
-
 -- texts with one text more are one more of them
 length_more : (taken : List (List ℕ)) (t : List ℕ) → length (taken ++ t ∷ []) ≡ suc (length taken)
 length_more taken t = omega (arith, length-append taken (t ∷ []))
@@ -406,7 +395,7 @@ more_whole used line taken seen u w h = record {
   ends = inr (ends_join seen (chars line) (whole_ends (chars line) (whole_chars line (is_utf8-from_IsUtf8 line u) w)));
   lines = λ more. ap lines_so_far (append_assoc used line more) ∙ h.lines (line ++ more)
       ∙ ap (λ ls. map Some taken ++ ls) (lines_first line more w ∙ ap (λ l. l ∷ lines_so_far more) (text_is line u))
-      ∙ one_more taken (chars line) (lines_so_far more);
+      ∙ lines_more taken (chars line) (lines_so_far more);
 }
 
 -- where one more line of some bytes was taken, the bytes used before it are whole lines with the texts taken
@@ -489,7 +478,7 @@ joining_goes a s t v seen line m n some u comment walks j k =
       taken = j.taken ++ chars line ∷ [];
       left = k.left;
       rest = p.rest ∙ ap (λ i. drop i (physical_lines a.bytes)) (sym (length_more j.taken (chars line)));
-      lines = p.lines ∙ one_more j.taken (chars line) (whole_lines (ahead_of k.left a.fault));
+      lines = p.lines ∙ lines_more j.taken (chars line) (whole_lines (ahead_of k.left a.fault));
       joined = ap (λ l. l ++ chars line) j.joined ∙ sym (concat_more j.taken (chars line));
       is_going =
           subst (IsWalked (Unit {0}) seen (chars line)) walks
@@ -532,7 +521,7 @@ joining_ends a s t v seen line text m some u comment walks j k =
     let p = among a s t v seen line m some u j k in
     let ls = whole_lines (ahead_of k.left a.fault) in
     let all = j.taken ++ chars line ∷ [] in
-    let e = p.lines ∙ one_more j.taken (chars line) ls in
+    let e = p.lines ∙ lines_more j.taken (chars line) ls in
     let last = length all ≡ length (map Some all ++ ls) in
     let whole : IsWhole (seen ++ chars line) text last =
     subst (IsWalked last seen (chars line)) walks (walk-is last m seen (chars line) j.is_going p.one) in

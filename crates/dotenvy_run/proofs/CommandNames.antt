@@ -33,10 +33,7 @@ use Rattle.std.specs.declared.process.command.Command.{Command}
 use Rattle.std.proofs.lemmas.Map.Text.{is_eq-slice_cmp}
 use Rattle.dotenv_base.specs.Environment.{Texts}
 use Rattle.dotenv_format.proofs.Basics.{left_holds, right_holds}
-
--- the order of two names by their bytes
-abbrev bytes_cmp : List ℕ → List ℕ → Ordering
-bytes_cmp = slice_cmp nat_cmp
+use Rattle.dotenv_base.proofs.TextMaps.{bytes_cmp}
 
 -- what the command says of a name once those that are left are set is what the environment has
 pub record SetsWithLeft {A : Type 0} (names : Texts) (left : List (List ℕ × List ℕ))

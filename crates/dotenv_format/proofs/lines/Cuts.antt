@@ -51,10 +51,10 @@ lines_some c cs =
     ]
 
 -- a character put before lines, as one of its own or onto the first, leaves the lines behind them as they are
-step : (c : ℕ) (b : Bool) (xss yss zss : List (List ℕ)) → IsSome xss → zss ≡ xss ++ yss →
+cut_step : (c : ℕ) (b : Bool) (xss yss zss : List (List ℕ)) → IsSome xss → zss ≡ xss ++ yss →
     cond b ((c ∷ []) ∷ zss) (onto_first c zss) ≡ cond b ((c ∷ []) ∷ xss) (onto_first c xss) ++ yss
-step c true xss yss zss some h = ap (λ ls. (c ∷ []) ∷ ls) h
-step c false xss yss zss (xs, others, is) h =
+cut_step c true xss yss zss some h = ap (λ ls. (c ∷ []) ∷ ls) h
+cut_step c false xss yss zss (xs, others, is) h =
     ap (onto_first c) (h ∙ ap (λ ls. ls ++ yss) is) ∙ ap (λ ls. onto_first c ls ++ yss) (sym is)
 
 -- a text that ends with a line feed has a physical line
@@ -67,7 +67,7 @@ pub lines-append : (xs ys : List ℕ) →
     physical_lines ((xs ++ 10 ∷ []) ++ ys) ≡ physical_lines (xs ++ 10 ∷ []) ++ physical_lines ys
 lines-append [] ys = refl
 lines-append (c ∷ xs) ys =
-    step c (c == 10) (physical_lines (xs ++ 10 ∷ [])) (physical_lines ys) (physical_lines ((xs ++ 10 ∷ []) ++ ys))
+    cut_step c (c == 10) (physical_lines (xs ++ 10 ∷ [])) (physical_lines ys) (physical_lines ((xs ++ 10 ∷ []) ++ ys))
     (lines_some_end xs) (lines-append xs ys)
 
 -- lines with a character put onto the first, joined, are the character and the lines joined

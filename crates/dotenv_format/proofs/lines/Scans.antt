@@ -352,10 +352,10 @@ class_of : (c : ℕ) → Class c
 class_of c = class_at c (c == line_feed) (c == backslash) (is_quote c) (is_blank c) refl refl refl refl
 
 -- where a text is rightly read from the outside, so it is with a plain character before it
-read_plain : (c : ℕ) (cs : List ℕ) (s : Scan) → not (is_blank c || stands_for_itself c) ≡ true → Read outside cs s →
+scan_plain : (c : ℕ) (cs : List ℕ) (s : Scan) → not (is_blank c || stands_for_itself c) ≡ true → Read outside cs s →
     Read outside (c ∷ cs) (consed (c ∷ []) s)
-read_plain c cs open_end h r = tt
-read_plain c cs (stops front ending rest) h r =
+scan_plain c cs open_end h r = tt
+scan_plain c cs (stops front ending rest) h r =
     record {
       tokens = plain c ∷ r.tokens;
       are = (h, r.are);
@@ -406,10 +406,10 @@ end_empty (comment b words) rest closed h = cc
 end_empty input_end rest closed h = closed
 
 -- where a text with a backslash, quote or line feed first is rightly read outside, so it is behind a blank
-read_blank : (b c : ℕ) (cs : List ℕ) (s : Scan) → is_blank b ≡ true → stands_for_itself c ≡ true →
+scan_blank : (b c : ℕ) (cs : List ℕ) (s : Scan) → is_blank b ≡ true → stands_for_itself c ≡ true →
     Read outside (c ∷ cs) s → Read (after_blank b) (c ∷ cs) (consed (b ∷ []) s)
-read_blank b c cs open_end h k r = tt
-read_blank b c cs (stops front ending rest) h k r =
+scan_blank b c cs open_end h k r = tt
+scan_blank b c cs (stops front ending rest) h k r =
     record {
       tokens = blank b ∷ r.tokens;
       are = (
@@ -493,9 +493,9 @@ first-after (c ∷ cs) =
     ]
 
 -- behind a blank, `#` and all up to the line feed or the end are a comment
-read_comment : (b : ℕ) (cs : List ℕ) → is_blank b ≡ true →
+scan_comment : (b : ℕ) (cs : List ℕ) → is_blank b ≡ true →
     Read (after_blank b) (hash ∷ cs) (stops [] (comment b (first_line cs)) (after_line cs))
-read_comment b cs h =
+scan_comment b cs h =
     record {
       tokens = [];
       are = tt;
@@ -510,9 +510,9 @@ to_blank b cs open_end r = tt
 to_blank b cs (stops front ending rest) r = r
 
 -- where a text is rightly read behind a backslash, so it is from the outside with the backslash before it
-to_escaping : (cs : List ℕ) (s : Scan) → Read escaping cs s → Read outside (backslash ∷ cs) s
-to_escaping cs open_end r = tt
-to_escaping cs (stops front ending rest) r = r
+scan_to_escaping : (cs : List ℕ) (s : Scan) → Read escaping cs s → Read outside (backslash ∷ cs) s
+scan_to_escaping cs open_end r = tt
+scan_to_escaping cs (stops front ending rest) r = r
 
 -- where a text is rightly read behind a backslash in quotes, so it is in them with the backslash before it
 to_inside : (q : ℕ) (cs : List ℕ) (s : Scan) → Read (inside_escaping q) cs s → Read (inside q) (backslash ∷ cs) s
@@ -520,28 +520,28 @@ to_inside q cs open_end r = tt
 to_inside q cs (stops front ending rest) r = r
 
 -- where a text is rightly read from each mode, so it is from the outside with a character before it
-outside_step : (c : ℕ) (cs : List ℕ) (k : Class c) → ((m : ScanMode) → IsScanMode m → Read m cs (scan cs m)) →
+scan_outside_step : (c : ℕ) (cs : List ℕ) (k : Class c) → ((m : ScanMode) → IsScanMode m → Read m cs (scan cs m)) →
     Read outside (c ∷ cs) (scan (c ∷ cs) outside)
-outside_step c cs (at_line e) later =
+scan_outside_step c cs (at_line e) later =
     subst (λ d. Read outside (d ∷ cs) (scan (d ∷ cs) outside)) (sym e)
     (record { tokens = []; are = tt; closed = tt; spelled = refl; front_is = refl })
-outside_step c cs (at_backslash e) later =
+scan_outside_step c cs (at_backslash e) later =
     subst (λ d. Read outside (d ∷ cs) (scan (d ∷ cs) outside)) (sym e)
-    (to_escaping cs (scan cs escaping) (later escaping tt))
-outside_step c cs (at_quote h) later =
+    (scan_to_escaping cs (scan cs escaping) (later escaping tt))
+scan_outside_step c cs (at_quote h) later =
     subst (Read outside (c ∷ cs)) (sym (from_quote c cs h))
     (read_quote c cs (scan cs (inside c)) h (later (inside c) h))
-outside_step c cs (at_blank h) later =
+scan_outside_step c cs (at_blank h) later =
     subst (Read outside (c ∷ cs)) (sym (from_blank c cs h))
     (to_blank c cs (scan cs (after_blank c)) (later (after_blank c) h))
-outside_step c cs (at_plain h) later =
-    subst (Read outside (c ∷ cs)) (sym (from_plain c cs h)) (read_plain c cs (scan cs outside) h (later outside tt))
+scan_outside_step c cs (at_plain h) later =
+    subst (Read outside (c ∷ cs)) (sym (from_plain c cs h)) (scan_plain c cs (scan cs outside) h (later outside tt))
 
 -- where a text is rightly read from the outside, so it is behind a backslash with a character before it
-escaping_step : (c : ℕ) (cs : List ℕ) (b : Bool) → (c == line_feed) ≡ b → Read outside cs (scan cs outside) →
+scan_escaping_step : (c : ℕ) (cs : List ℕ) (b : Bool) → (c == line_feed) ≡ b → Read outside cs (scan cs outside) →
     Read escaping (c ∷ cs)
     (elim b [ true ↦ stops [] escaped_line_end cs | false ↦ consed (backslash ∷ c ∷ []) (scan cs outside) ])
-escaping_step c cs true h r =
+scan_escaping_step c cs true h r =
     record {
       tokens = [];
       are = tt;
@@ -549,52 +549,52 @@ escaping_step c cs true h r =
       spelled = ap (λ d. backslash ∷ d ∷ cs) (same_from c line_feed h);
       front_is = refl;
     }
-escaping_step c cs false h r = read_escaped c cs (scan cs outside) (ap not h) r
+scan_escaping_step c cs false h r = read_escaped c cs (scan cs outside) (ap not h) r
 
 -- a text rightly read outside, in quotes and behind a backslash there is so in quotes with a character more
-inside_step : (q c : ℕ) (cs : List ℕ) (b k : Bool) → (c == q) ≡ b → (c == backslash) ≡ k →
+scan_inside_step : (q c : ℕ) (cs : List ℕ) (b k : Bool) → (c == q) ≡ b → (c == backslash) ≡ k →
     Read outside cs (scan cs outside) → Read (inside q) cs (scan cs (inside q)) →
     Read (inside_escaping q) cs (scan cs (inside_escaping q)) →
     Read (inside q) (c ∷ cs) (elim b [
       | true ↦ consed (c ∷ []) (scan cs outside)
       | false ↦ elim k [ true ↦ scan cs (inside_escaping q) | false ↦ consed (c ∷ []) (scan cs (inside q)) ]
     ])
-inside_step q c cs true k h i out in_quotes escaped =
+scan_inside_step q c cs true k h i out in_quotes escaped =
     subst (λ d. Read (inside q) (d ∷ cs) (consed (d ∷ []) (scan cs outside))) (sym (same_from c q h))
     (read_unquote q cs (scan cs outside) out)
-inside_step q c cs false true h i out in_quotes escaped =
+scan_inside_step q c cs false true h i out in_quotes escaped =
     subst (λ d. Read (inside q) (d ∷ cs) (scan cs (inside_escaping q))) (sym (same_from c backslash i))
     (to_inside q cs (scan cs (inside_escaping q)) escaped)
-inside_step q c cs false false h i out in_quotes escaped =
+scan_inside_step q c cs false false h i out in_quotes escaped =
     read_inside q c cs (scan cs (inside q)) (rw (h, i) refl) in_quotes
 
 -- where a text is rightly read from outside, with its first character and without, so it is behind a blank
-blank_step : (b c : ℕ) (cs : List ℕ) → is_blank b ≡ true → (x y : Bool) → (c == hash) ≡ x →
+scan_blank_step : (b c : ℕ) (cs : List ℕ) → is_blank b ≡ true → (x y : Bool) → (c == hash) ≡ x →
     stands_for_itself c ≡ y → Read outside cs (scan cs outside) → Read outside (c ∷ cs) (scan (c ∷ cs) outside) →
     Read (after_blank b) (c ∷ cs) (elim x [
       | true ↦ stops [] (comment b (first_line cs)) (after_line cs)
       | false ↦
           elim y [ true ↦ consed (b ∷ []) (scan (c ∷ cs) outside) | false ↦ consed (b ∷ c ∷ []) (scan cs outside) ]
     ])
-blank_step b c cs ok true y h i out from_here =
+scan_blank_step b c cs ok true y h i out from_here =
     subst (λ d. Read (after_blank b) (d ∷ cs) (stops [] (comment b (first_line cs)) (after_line cs)))
-    (sym (same_from c hash h)) (read_comment b cs ok)
-blank_step b c cs ok false true h i out from_here = read_blank b c cs (scan (c ∷ cs) outside) ok i from_here
-blank_step b c cs ok false false h i out from_here = read_blank_pair b c cs (scan cs outside) ok (rw (h, i) refl) out
+    (sym (same_from c hash h)) (scan_comment b cs ok)
+scan_blank_step b c cs ok false true h i out from_here = scan_blank b c cs (scan (c ∷ cs) outside) ok i from_here
+scan_blank_step b c cs ok false false h i out from_here = read_blank_pair b c cs (scan cs outside) ok (rw (h, i) refl) out
 
 -- where a text is rightly read from each mode, so it is from each with a character before it
-step : (mode : ScanMode) (c : ℕ) (cs : List ℕ) → IsScanMode mode →
+scan_step : (mode : ScanMode) (c : ℕ) (cs : List ℕ) → IsScanMode mode →
     ((m : ScanMode) → IsScanMode m → Read m cs (scan cs m)) →
     Read mode (c ∷ cs) (scan (c ∷ cs) mode)
-step outside c cs ok later = outside_step c cs (class_of c) later
-step escaping c cs ok later = escaping_step c cs (c == line_feed) refl (later outside tt)
-step (inside q) c cs ok later =
-    inside_step q c cs (c == q) (c == backslash) refl refl (later outside tt) (later (inside q) ok)
+scan_step outside c cs ok later = scan_outside_step c cs (class_of c) later
+scan_step escaping c cs ok later = scan_escaping_step c cs (c == line_feed) refl (later outside tt)
+scan_step (inside q) c cs ok later =
+    scan_inside_step q c cs (c == q) (c == backslash) refl refl (later outside tt) (later (inside q) ok)
     (later (inside_escaping q) ok)
-step (inside_escaping q) c cs ok later = read_inside_pair q c cs (scan cs (inside q)) (later (inside q) ok)
-step (after_blank b) c cs ok later =
-    blank_step b c cs ok (c == hash) (stands_for_itself c) refl refl (later outside tt)
-    (outside_step c cs (class_of c) later)
+scan_step (inside_escaping q) c cs ok later = read_inside_pair q c cs (scan cs (inside q)) (later (inside q) ok)
+scan_step (after_blank b) c cs ok later =
+    scan_blank_step b c cs ok (c == hash) (stands_for_itself c) refl refl (later outside tt)
+    (scan_outside_step c cs (class_of c) later)
 
 -- each text is rightly read from each mode: unless it stays open, as tokens, an ending and what follows
 pub scan-reads : (text : List ℕ) (mode : ScanMode) → IsScanMode mode → Read mode text (scan text mode)
@@ -603,4 +603,4 @@ scan-reads [] escaping ok = tt
 scan-reads [] (inside q) ok = tt
 scan-reads [] (inside_escaping q) ok = tt
 scan-reads [] (after_blank b) ok = tt
-scan-reads (c ∷ cs) mode ok = step mode c cs ok (λ m ok. scan-reads cs m ok)
+scan-reads (c ∷ cs) mode ok = scan_step mode c cs ok (λ m ok. scan-reads cs m ok)

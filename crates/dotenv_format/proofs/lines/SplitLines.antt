@@ -73,7 +73,7 @@ use Rattle.dotenv_format.specs.inside.Walk.{Walk, going, ended, walk}
 use Rattle.dotenv_format.proofs.lines.Splitting.{IsGoing, going_start, IsWalked, walk-is, whole_from}
 
 -- physical lines: the text of each, or none where it is broken
-abbrev Lines : Type 0
+abbrev pub Lines : Type 0
 Lines = List (Option (List ℕ))
 
 -- a line with its line feed has no other line feed
@@ -270,11 +270,11 @@ abbrev IsNextOf : Lines → ℕ → ℕ × Logical → Type 0
 IsNextOf lines n (k, next) = IsNext lines (n + k) next
 
 -- the texts taken and one more, joined, are those joined and then the one
-concat_more : (taken : List (List ℕ)) (t : List ℕ) → concat (taken ++ t ∷ []) ≡ concat taken ++ t
+pub concat_more : (taken : List (List ℕ)) (t : List ℕ) → concat (taken ++ t ∷ []) ≡ concat taken ++ t
 concat_more taken t = concat-append taken (t ∷ []) ∙ ap (λ x. concat taken ++ x) (append-nil t)
 
 -- a text that stands next, behind the texts taken, is one more text taken before the same lines
-lines_more : (taken : List (List ℕ)) (t : List ℕ) (lines : Lines) →
+pub lines_more : (taken : List (List ℕ)) (t : List ℕ) (lines : Lines) →
     map Some taken ++ Some t ∷ lines ≡ map Some (taken ++ t ∷ []) ++ lines
 lines_more taken t lines =
     sym (append_assoc (map Some taken) (Some t ∷ []) lines)

@@ -178,20 +178,20 @@ kept_line : (c : ℕ) (xs : List ℕ) → (c == line_feed) ≡ true → kept_bef
 kept_line c xs h = rw h refl
 
 -- after a whole token, scan and walk take the same step
-outside_step : (b c : ℕ) (g : Option LineMode) → leads_outside c ≡ g →
+walk_outside_step : (b c : ℕ) (g : Option LineMode) → leads_outside c ≡ g →
     LineStep c g (λ cs. scan (c ∷ cs) scans.outside) → Stepped Outside b c g
-outside_step b c None h s = λ rest one. let n = none_is_line c h in record {
+walk_outside_step b c None h s = λ rest one. let n = none_is_line c h in record {
   front = [];
   ending = line_end;
   reads = s rest (nothing_after c rest n one);
   keeps = λ xs. sym (kept_line c (xs ++ []) n);
   is_ending = λ e. cc;
 }
-outside_step b c (Some m) h s = record { front = s.0; adds = s.1; reads = s.2 }
+walk_outside_step b c (Some m) h s = record { front = s.0; adds = s.1; reads = s.2 }
 
 -- behind a backslash outside quotes, scan and walk take the same step
-escaping_step : (b c : ℕ) (n : Bool) → (c == line_feed) ≡ n → Stepped Escaping b c (cond n None (Some Outside))
-escaping_step b c true h = λ rest one. record {
+walk_escaping_step : (b c : ℕ) (n : Bool) → (c == line_feed) ≡ n → Stepped Escaping b c (cond n None (Some Outside))
+walk_escaping_step b c true h = λ rest one. record {
   front = [];
   ending = escaped_line_end;
   reads = when_true _ _ (c == line_feed) h ∙ ap (stops [] escaped_line_end) (nothing_after c rest h one);
@@ -200,14 +200,14 @@ escaping_step b c true h = λ rest one. record {
       ap (λ t. t ++ backslash ∷ []) (append-nil xs) ∙ sym (kept_line c (xs ++ backslash ∷ []) h ∙ not_returned xs);
   is_ending = λ e. cc;
 }
-escaping_step b c false h =
+walk_escaping_step b c false h =
     record { front = backslash ∷ c ∷ []; adds = refl; reads = λ cs. when_false _ _ (c == line_feed) h }
 
 -- in quotes, scan and walk take the same step
-inside_step : (q b c : ℕ) (x y : Bool) → (c == q) ≡ x → (c == backslash) ≡ y →
+walk_inside_step : (q b c : ℕ) (x y : Bool) → (c == q) ≡ x → (c == backslash) ≡ y →
     Stepped (Inside q) b c (cond x (Some Outside) (cond y (Some (InsideEscaping q)) (Some (Inside q))))
-inside_step q b c true y h i = record { front = c ∷ []; adds = refl; reads = λ cs. when_true _ _ (c == q) h }
-inside_step q b c false true h i =
+walk_inside_step q b c true y h i = record { front = c ∷ []; adds = refl; reads = λ cs. when_true _ _ (c == q) h }
+walk_inside_step q b c false true h i =
     record {
       front = [];
       adds = ap (λ d. d ∷ []) (sym (same_from c backslash i));
@@ -221,7 +221,7 @@ inside_step q b c false true h i =
     consed-nil : (s : Scan) → s ≡ consed [] s
     consed-nil (stops f e r) = refl
     consed-nil open_end = refl
-inside_step q b c false false h i =
+walk_inside_step q b c false false h i =
     record {
       front = c ∷ [];
       adds = refl;
@@ -255,9 +255,9 @@ broken_step b c (Some m) h i e s =
     }
 
 -- behind a blank, scan and walk take the same step: a comment, a character that stands for itself, a follower
-blank_step : (b c : ℕ) (x y : Bool) → (c == hash) ≡ x → stands_for_itself c ≡ y →
+walk_blank_step : (b c : ℕ) (x y : Bool) → (c == hash) ≡ x → stands_for_itself c ≡ y →
     Stepped AfterBlank b c (cond x None (cond y (leads_outside c) (Some Outside)))
-blank_step b c true y h i =
+walk_blank_step b c true y h i =
     λ rest one.
     let w = closed_words rest [] (one_line_after c rest one) (inr refl) in
     let f = ap scans.first_line (sym (append-nil rest)) ∙ w.0 in
@@ -273,8 +273,8 @@ blank_step b c true y h i =
   where
     no_line : (xs : List ℕ) → kept_before c xs ≡ xs
     no_line xs = ap (λ d. kept_before d xs) (same_from c hash h)
-blank_step b c false true h i = broken_step b c (leads_outside c) h i refl (line_step c)
-blank_step b c false false h i =
+walk_blank_step b c false true h i = broken_step b c (leads_outside c) h i refl (line_step c)
+walk_blank_step b c false false h i =
     record {
       front = b ∷ c ∷ [];
       adds = refl;
@@ -282,12 +282,12 @@ blank_step b c false false h i =
     }
 
 -- in each mode, scan and walk take the same step
-step : (m : LineMode) (b c : ℕ) → Stepped m b c (leads m c)
-step Outside b c = outside_step b c (leads_outside c) refl (line_step c)
-step Escaping b c = escaping_step b c (c == line_feed) refl
-step (Inside q) b c = inside_step q b c (c == q) (c == backslash) refl refl
-step (InsideEscaping q) b c = record { front = backslash ∷ c ∷ []; adds = refl; reads = λ cs. refl }
-step AfterBlank b c = blank_step b c (c == hash) (stands_for_itself c) refl refl
+walk_step : (m : LineMode) (b c : ℕ) → Stepped m b c (leads m c)
+walk_step Outside b c = walk_outside_step b c (leads_outside c) refl (line_step c)
+walk_step Escaping b c = walk_escaping_step b c (c == line_feed) refl
+walk_step (Inside q) b c = walk_inside_step q b c (c == q) (c == backslash) refl refl
+walk_step (InsideEscaping q) b c = record { front = backslash ∷ c ∷ []; adds = refl; reads = λ cs. refl }
+walk_step AfterBlank b c = walk_blank_step b c (c == hash) (stands_for_itself c) refl refl
 
 -- no logical line ends in the text, and reading it leads to the mode
 pub record IsGoing (seen : List ℕ) (m : LineMode) : Type 0 where
@@ -307,7 +307,7 @@ going_start = record { last = 0; front = []; joins = refl; reads = λ cs. consed
 -- one character more
 pub going_step : (seen : List ℕ) (m : LineMode) (c : ℕ) (n : LineMode) → IsGoing seen m → leads m c ≡ Some n →
     IsGoing (seen ++ c ∷ []) n
-going_step seen m c n g h = at (leads m c) h (step m g.last c)
+going_step seen m c n g h = at (leads m c) h (walk_step m g.last c)
   where
     at : (o : Option LineMode) → o ≡ Some n → Stepped m g.last c o → IsGoing (seen ++ c ∷ []) n
     at None e s = cc
@@ -360,7 +360,7 @@ is_ending_from text front input_end last some e = absurd (some refl)
 -- the character ends the line
 pub going_ends : (seen : List ℕ) (m : LineMode) (c : ℕ) (rest : List ℕ) (last : Type 0) → IsGoing seen m →
     leads m c ≡ None → IsOneLine (c ∷ rest) → IsWhole (seen ++ c ∷ rest) (kept_before c seen) last
-going_ends seen m c rest last g h one = at (leads m c) h (step m g.last c)
+going_ends seen m c rest last g h one = at (leads m c) h (walk_step m g.last c)
   where
     at : (o : Option LineMode) → o ≡ None → Stepped m g.last c o → IsWhole (seen ++ c ∷ rest) (kept_before c seen) last
     at (Some n) e s = cc
