@@ -64,7 +64,7 @@ impl<A: Allocator> Layers<A> {
     pub fn new(env: Environment<A>) -> Layers<A>
         ensures { result ≡ env }
     {
-        Layers { env: env }
+        Layers { env }
     }
 
     /// The environment with the layers that were accepted.
