@@ -115,6 +115,7 @@ use Rattle.dotenv_format.proofs.values.Values.{
   given-given,
   given-nil,
   stepped,
+  plain_goes,
   comment_read,
   before_left,
   brace_not_left,
@@ -466,59 +467,6 @@ each_text (c ∷ cs) = Text (c ∷ []) ∷ each_text cs
 meaning-each : (look_up : LookUp) (cs : List ℕ) → meaning look_up (each_text cs) ≡ cs
 meaning-each look_up [] = refl
 meaning-each look_up (c ∷ cs) = ap (λ t. c ∷ t) (meaning-each look_up cs)
-
--- a plain character gives itself as text, and a part may begin behind it
-plain_goes : (dialect : Dialect) (q : Quoting) (c : ℕ) → is_plain q c ≡ true →
-    value_goes dialect (base q) c ≡ Some (base q, Text (c ∷ []) ∷ [])
-plain_goes dialect double_quoted c h = inside (c == backslash) (c == double_quote) (c == dollar) h
-  where
-    inside : (b d o : Bool) → not ((b || d) || o) ≡ true →
-        elim b as (λ _. ValueStep) [
-          | true ↦ Some (escaping double_quoted, [])
-          | false ↦
-              elim d [
-                | true ↦ Some (base unquoted, [])
-                | false ↦
-                    elim o [
-                      | true ↦ Some (naming double_quoted [], [])
-                      | false ↦ Some (base double_quoted, Text (c ∷ []) ∷ [])
-                    ]
-              ]
-        ] ≡ Some (base double_quoted, Text (c ∷ []) ∷ [])
-    inside false false false h = refl
-    inside true d o h = cc
-    inside false true o h = cc
-    inside false false true h = cc
-plain_goes dialect unquoted c h =
-    outside (c == backslash) (c == single_quote) (c == double_quote) (c == dollar) (is_space_or_tab c) h
-  where
-    outside : (b s d o t : Bool) → not ((((b || s) || d) || o) || t) ≡ true →
-        elim b as (λ _. ValueStep) [
-          | true ↦ Some (escaping unquoted, [])
-          | false ↦
-              elim s [
-                | true ↦ Some (in_single [], [])
-                | false ↦
-                    elim d [
-                      | true ↦ Some (base double_quoted, [])
-                      | false ↦
-                          elim o [
-                            | true ↦ Some (naming unquoted [], [])
-                            | false ↦
-                                elim t [
-                                  | true ↦ Some (in_tail, [])
-                                  | false ↦ Some (base unquoted, Text (c ∷ []) ∷ [])
-                                ]
-                          ]
-                    ]
-              ]
-        ] ≡ Some (base unquoted, Text (c ∷ []) ∷ [])
-    outside false false false false false h = refl
-    outside true s d o t h = cc
-    outside false true d o t h = cc
-    outside false false true o t h = cc
-    outside false false false true t h = cc
-    outside false false false false true h = cc
 
 -- a row of plain characters gives a text for each, and a part may begin behind it
 plain_read : (dialect : Dialect) (q : Quoting) (front rest : List ℕ) → list_all (is_plain q) front ≡ true →

@@ -159,16 +159,19 @@ inside_plain true d o x y z v h = cc
 inside_plain false true o x y z v h = cc
 inside_plain false false true x y z v h = cc
 
--- where a part may begin, a plain character gives itself before what is read behind it
-pub read_plain : (dialect : Dialect) (q : Quoting) (c : ℕ) (cs : List ℕ) → is_plain q c ≡ true →
+-- where a part may begin, a plain character gives itself as text, and a part may begin behind it
+pub plain_goes : (dialect : Dialect) (q : Quoting) (c : ℕ) → is_plain q c ≡ true →
+    value_goes dialect (base q) c ≡ Some (base q, Text (c ∷ []) ∷ [])
+plain_goes dialect double_quoted c h = inside_plain (c == backslash) (c == double_quote) (c == dollar) _ _ _ _ h
+plain_goes dialect unquoted c h =
+    outside_plain (c == backslash) (c == single_quote) (c == double_quote) (c == dollar) (is_space_or_tab c) _ _ _ _
+    _ _ h
+
+-- where a part may begin, a plain character is given before what is read behind it
+read_plain : (dialect : Dialect) (q : Quoting) (c : ℕ) (cs : List ℕ) → is_plain q c ≡ true →
     read_value dialect (c ∷ cs) (base q) ≡ given (Text (c ∷ []) ∷ []) (read_value dialect cs (base q))
-read_plain dialect double_quoted c cs h =
-    stepped dialect (base double_quoted) c cs (Some (base double_quoted, Text (c ∷ []) ∷ []))
-    (inside_plain (c == backslash) (c == double_quote) (c == dollar) _ _ _ _ h)
-read_plain dialect unquoted c cs h =
-    stepped dialect (base unquoted) c cs (Some (base unquoted, Text (c ∷ []) ∷ []))
-    (outside_plain (c == backslash) (c == single_quote) (c == double_quote) (c == dollar) (is_space_or_tab c) _ _ _ _
-    _ _ h)
+read_plain dialect q c cs h =
+    stepped dialect (base q) c cs (Some (base q, Text (c ∷ []) ∷ [])) (plain_goes dialect q c h)
 
 -- where a part may begin, what follows a backslash is read as escaped
 read_backslash : (dialect : Dialect) (q : Quoting) (cs : List ℕ) →
