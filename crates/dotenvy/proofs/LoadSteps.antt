@@ -52,6 +52,7 @@ use Rattle.dotenv_format.specs.Loads.{SameLoad}
 use Rattle.dotenv_base.specs.Environment.{Texts}
 use Rattle.dotenvy.specs.Remembered.{Remembered}
 use Rattle.dotenvy.specs.Meaning.{values_of, recalled_of}
+use Rattle.dotenv_base.specs.Calls.{Call}
 use Rattle.dotenv_base.specs.Source.{Ahead}
 use Rattle.dotenv_lines.specs.Input.{
   InputState,
@@ -68,7 +69,7 @@ use Rattle.dotenv_lines.specs.Splitter.{AdvanceIs}
 use Rattle.dotenv_lines.specs.Reading.{HasLeft, told_fault, certain_bytes, StopsAtBound, IsReading}
 use Rattle.dotenvy.specs.LoadsLeft.{IsAnswer, Leaves, Rule, LoadsLeft}
 use Rattle.dotenvy.specs.inside.LoadStep.{LoadsLine}
-use Rattle.dotenvy.specs.Iter.{IterState}
+use Rattle.dotenvy.specs.Iter.{IterState, fresh}
 use Rattle.dotenv_lines.proofs.Inputs.{ahead_of, the_bytes, the_fault, moves_on}
 use Rattle.dotenv_lines.proofs.LineEntries.{
   left_once,
@@ -573,7 +574,7 @@ loads_refused mode s old e is =
     ends_memory (load_of mode s old a entries) old s.remembered e (none_done mode s old a entries) is
 
 -- where a load leaves and answers the same as another, the other does as the first
-pub same-back : (x y : Loaded) → SameLoad x y → SameLoad y x
+same-back : (x y : Loaded) → SameLoad x y → SameLoad y x
 same-back x y h = record { env = λ n. sym (h.env n); answer = sym h.answer }
 
 -- rules that say the same allow the same loads
@@ -591,3 +592,29 @@ loads_by f g s old new answer same loads = λ a told entries has.
         is_answer = subst (λ r. IsAnswer r answer) k.answer l.2.is_answer;
       },
     )
+
+-- where memory is refused at the start, a load by a rule that says what the one in turn does answers that as well
+pub refused_by : {A : Type 0} (mode : Mode) (rule : Rule) (s : IterState) (old : Texts) (e : Error A) →
+    ((env remembered : LookUp) (entries : List Entry) →
+    SameLoad (run mode env remembered entries) (rule env remembered entries)) →
+    IsMemory e → LoadsLeft rule s old (Err e) old
+refused_by mode rule s old e same is =
+    loads_by (run mode) rule s old old (Err e) same (loads_refused mode s old e is)
+
+-- a load by a rule that says what the one in turn does is one in turn
+pub loads_in_turn : {A : Type 0} (mode : Mode) (rule : Rule) (s : IterState) (old new : Texts)
+    (answer : Result (Unit {0}) (Error A)) →
+    ((env remembered : LookUp) (entries : List Entry) →
+    SameLoad (run mode env remembered entries) (rule env remembered entries)) →
+    LoadsLeft rule s old answer new → LoadsLeft (run mode) s old answer new
+loads_in_turn mode rule s old new answer same loads =
+    loads_by rule (run mode) s old new answer
+    (λ env remembered entries. same-back _ _ (same env remembered entries)) loads
+
+-- what an iterator loads where it is open, a fresh one loads
+pub fresh_load : {A : Type 0} (rule : Rule) (ahead : Option Ahead) (calls : Option (List Call)) (dialect : Dialect)
+    (s : IterState) (old new : Texts) (answer : Result (Unit {0}) (Error A)) → s ≡ fresh ahead calls dialect →
+    (s.lines.stage ≡ Open → LoadsLeft rule s old answer new) →
+    LoadsLeft rule (fresh ahead calls dialect) old answer new
+fresh_load rule ahead calls dialect s old new answer same loads =
+    subst (λ t. t.lines.stage ≡ Open → LoadsLeft rule t old answer new) same loads refl

@@ -9,7 +9,8 @@ ghost use Rattle.dotenv_base.specs.Errors.{IsIoOf};
 ghost use Rattle.dotenv_format.specs.Written.{needs_backslash, written_character, written_text, written_bytes};
 ghost use Rattle.dotenv_base.specs.Output.{Sends, Writes};
 ghost use Rattle.dotenv_base.specs.Environment.{AreTexts};
-ghost use Rattle.dotenvy.specs.Listed.{pairs_of, Lists, ListsSome};
+ghost use Rattle.dotenvy.specs.Iter.{fresh};
+ghost use Rattle.dotenvy.specs.Listed.{pairs_of, Lists};
 
 use crate::iter::Iter;
 use dotenv_base::environment::Environment;
@@ -147,9 +148,8 @@ pub fn list<R: Source + Drop, W: Sink, A: Allocator + Clone>(
     reader: R,
     writer: &mut W,
 ) -> Result<(), A>
-    ensures lists { Lists Dialect.V15 (R.ahead reader) W.held W.last_fault W.calls
-        writer.old writer.new result }
-    ensures some { ListsSome W.held W.last_fault W.calls writer.old writer.new result }
+    ensures { Lists (fresh (R.ahead reader) (R.calls reader) Dialect.V15)
+        W.held W.last_fault W.calls writer.old writer.new result }
 {
     list_with(alloc, reader, writer, Dialect::V15)
 }
@@ -161,9 +161,8 @@ pub fn list_with<R: Source + Drop, W: Sink, A: Allocator + Clone>(
     writer: &mut W,
     dialect: Dialect,
 ) -> Result<(), A>
-    ensures lists { Lists dialect (R.ahead reader) W.held W.last_fault W.calls
-        writer.old writer.new result }
-    ensures some { ListsSome W.held W.last_fault W.calls writer.old writer.new result }
+    ensures { Lists (fresh (R.ahead reader) (R.calls reader) dialect)
+        W.held W.last_fault W.calls writer.old writer.new result }
 {
     let mut env = Environment::new(alloc.clone()?);
     Iter::with_dialect(alloc.clone()?, reader, dialect)?.load(&mut env)?;

@@ -1,7 +1,8 @@
 //! What the program does once it has its words, over any reader, writer and runtime.
 
 ghost use Rattle.std.specs.Prelude.{◌≡◌, ◌≢◌, ◌⊎◌, [], Err, IfErr, IsErrAnd, Ok, false, true};
-ghost use Rattle.dotenvy.specs.Listed.{Lists, ListsSome};
+ghost use Rattle.dotenvy.specs.Iter.{fresh};
+ghost use Rattle.dotenvy.specs.Listed.{Lists};
 ghost use Rattle.dotenvy_run.specs.Answers.{texts};
 ghost use Rattle.dotenvy_run.specs.Ends.{EndsAs, EndsByUsage, IsEarly, IsRunFault, IsUsage};
 ghost use Rattle.dotenvy_run.specs.Words.{CommandLine as Line, Usage as Refusal, HasUsage};
@@ -37,11 +38,9 @@ pub fn run<A: Allocator + Clone, R: Files + Env + Processes + Alloc<A = A>, S: S
 
     // A list is that of the reader, in the dialect of the words.
     ensures lists { (line : Line) → HasUsage (texts words.now) (Ok line) → line.list ≡ true
-        → IsEarly result ⊎ EndsAs (Lists line.dialect (S.ahead reader.old) W.held
-        W.last_fault W.calls writer.old writer.new) result }
-    ensures some { (line : Line) → HasUsage (texts words.now) (Ok line) → line.list ≡ true
-        → IsEarly result ⊎ EndsAs (ListsSome W.held W.last_fault W.calls
-        writer.old writer.new) result }
+        → IsEarly result
+        ⊎ EndsAs (Lists (fresh (S.ahead reader.old) (S.calls reader.old) line.dialect)
+        W.held W.last_fault W.calls writer.old writer.new) result }
 
     // A command leaves the reader and the writer as they were.
     ensures command { (line : Line) → HasUsage (texts words.now) (Ok line) → line.list ≡ false
@@ -63,9 +62,8 @@ fn list<A: Allocator + Clone, S: Source, W: Sink>(
     writer: &mut W,
     dialect: Dialect,
 ) -> Result<u8, Failure<A>>
-    ensures lists { EndsAs (Lists dialect (S.ahead reader.old) W.held W.last_fault W.calls
-        writer.old writer.new) result }
-    ensures some { EndsAs (ListsSome W.held W.last_fault W.calls writer.old writer.new) result }
+    ensures { EndsAs (Lists (fresh (S.ahead reader.old) (S.calls reader.old) dialect)
+        W.held W.last_fault W.calls writer.old writer.new) result }
 {
     list_with(alloc, reader, writer, dialect)?;
     Ok(0)

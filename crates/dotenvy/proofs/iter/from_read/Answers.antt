@@ -1,13 +1,10 @@
-use Rattle.std.proofs.Common.{◌≡◌, Err, refl, subst}
 use Rattle.std.proofs.lemmas.Result.{err_from_is_err_and}
 use Rattle.dotenv_format.specs.declared.dialect.Dialect.TheVariants.{V15}
-use Rattle.dotenv_lines.specs.declared.lines.Stage.TheVariants.{Open}
-use Rattle.dotenv_format.specs.Run.{Keep, run}
+use Rattle.dotenv_format.specs.Run.{Keep}
 use Rattle.dotenv_format.specs.Loads.{load_result}
 use Rattle.dotenvy.specs.Iter.{fresh}
-use Rattle.dotenvy.specs.LoadsLeft.{LoadsLeft}
 use Rattle.dotenv_format.proofs.loads.LoadLaws.{run-keep}
-use Rattle.dotenvy.proofs.LoadSteps.{loads_refused, loads_by, same-back}
+use Rattle.dotenvy.proofs.LoadSteps.{fresh_load, loads_in_turn, loads_refused, refused_by}
 use Rattle.dotenvy.proofs.iter.from_read.Goals as goal
 
 pub returns-in_err-new-clause-in_turn : goal.returns-in_err-new-clause-in_turn
@@ -19,20 +16,16 @@ returns-in_err-new-clause-in_turn g c =
 pub returns-in_err-new-clause-told : goal.returns-in_err-new-clause-told
 returns-in_err-new-clause-told g c =
     let p = err_from_is_err_and c.from_residual.result c.from_residual.ensures.1 in
-    let start = fresh (g.R.Source.ahead c.args.reader) (g.R.Source.calls c.args.reader) V15 in
-    let names = c.args.env.now.names in
-    let e = c.in_err-new.field-0.0 in
-    rw (p.1, p.2) (loads_by (run Keep) load_result start names names (Err e) run-keep
-    (loads_refused Keep start names e c.in_err-new.ensures.memory))
+    rw (p.1, p.2) (refused_by Keep load_result
+    (fresh (g.R.Source.ahead c.args.reader) (g.R.Source.calls c.args.reader) V15) c.args.env.now.names
+    c.in_err-new.field-0.0 run-keep c.in_err-new.ensures.memory)
 
 pub returns-clause-told : goal.returns-clause-told
 returns-clause-told g c =
-    subst
-    (λ s. s.lines.stage ≡ Open → LoadsLeft load_result s c.args.env.now.names c.load.result c.load.new.env.names)
-    c.in_ok-new.ensures.ok c.load.ensures.told refl
+    fresh_load load_result (g.R.Source.ahead c.args.reader) (g.R.Source.calls c.args.reader) V15 c.in_ok-new.field-0
+    c.args.env.now.names c.load.new.env.names c.load.result c.in_ok-new.ensures.ok c.load.ensures.told
 
 pub returns-clause-in_turn : goal.returns-clause-in_turn
 returns-clause-in_turn g c =
-    loads_by load_result (run Keep) (fresh (g.R.Source.ahead c.args.reader) (g.R.Source.calls c.args.reader) V15)
-    c.args.env.now.names c.load.new.env.names c.load.result
-    (λ env remembered entries. same-back _ _ (run-keep env remembered entries)) (returns-clause-told g c)
+    loads_in_turn Keep load_result (fresh (g.R.Source.ahead c.args.reader) (g.R.Source.calls c.args.reader) V15)
+    c.args.env.now.names c.load.new.env.names c.load.result run-keep (returns-clause-told g c)

@@ -1,7 +1,5 @@
-use Rattle.dotenvy.proofs.ListedLoads.{unwritten}
+use Rattle.std.proofs.Common.{inl, refl}
 use Rattle.dotenvy.proofs.written.write_pair.Goals as goal
 
 pub returns-in_err-out : goal.returns-in_err-out
-returns-in_err-out g c =
-    unwritten g.W.Sink.held g.W.Sink.last_fault g.W.Sink.calls c.args.writer.now _ c.from_residual.result
-    c.from_residual.ensures.1
+returns-in_err-out g c = inl (c.from_residual.ensures.1, refl)
