@@ -422,12 +422,13 @@ went_well A (Ok done) is = refl
 went_well A (Err failure) is = absurd is
 
 -- a line that was loaded leads on
-line_leads : {A : Type 0} (l : Load) (names new : Texts) (t u : IterState) (text : List ℕ) → (k : Came l names t) →
+loaded_line_leads : {A : Type 0} (l : Load) (names new : Texts) (t u : IterState) (text : List ℕ) →
+    (k : Came l names t) →
     AdvanceIs {A = A} (record { bytes = k.left; fault = l.ahead.fault }) t.lines (Some (Ok tt)) text u.lines →
     LoadsLine {A = A} l.mode t.dialect t.remembered (chars text) names (Ok tt) new →
     u.remembered ≡ t.remembered → u.dialect ≡ t.dialect → Came l new u
-line_leads l names new t u text k next (inl refused) recall dialect = absurd refused.0
-line_leads {A = A} l names new t u text k next (inr (outcome, says, leaves)) recall dialect =
+loaded_line_leads l names new t u text k next (inl refused) recall dialect = absurd refused.0
+loaded_line_leads {A = A} l names new t u text k next (inr (outcome, says, leaves)) recall dialect =
     let line = takes_line A t.dialect (ahead_of k.left l.ahead.fault) t.lines text outcome u.lines next says in
     let through = went_well A (run_on l names t.remembered (outcome_entries outcome)).answer leaves.is_answer in
     came_on l names new t u line.next (outcome_entries outcome) k line.takes line.goes_on dialect line.gives
@@ -517,7 +518,7 @@ came_line {A = A} mode s t u old names new line text came is shut next loads rec
     let l = load_of mode s old a entries in
     let k = came opened a told entries has in
     let given = next (ahead_of k.left a.fault) (came_open l names t line k shut) (k.moves.is_left, k.told) in
-    line_leads l names new t u text k
+    loaded_line_leads l names new t u text k
     (subst (λ r. AdvanceIs {A = A} (ahead_of k.left a.fault) t.lines (Some r) text u.lines) is given) loads
     recall dialect
 
@@ -602,12 +603,12 @@ refused_by mode rule s old e same is =
     loads_by (run mode) rule s old old (Err e) same (loads_refused mode s old e is)
 
 -- a load by a rule that says what the one in turn does is one in turn
-pub loads_in_turn : {A : Type 0} (mode : Mode) (rule : Rule) (s : IterState) (old new : Texts)
+pub is_in_turn : {A : Type 0} (mode : Mode) (rule : Rule) (s : IterState) (old new : Texts)
     (answer : Result (Unit {0}) (Error A)) →
     ((env remembered : LookUp) (entries : List Entry) →
     SameLoad (run mode env remembered entries) (rule env remembered entries)) →
     LoadsLeft rule s old answer new → LoadsLeft (run mode) s old answer new
-loads_in_turn mode rule s old new answer same loads =
+is_in_turn mode rule s old new answer same loads =
     loads_by rule (run mode) s old new answer
     (λ env remembered entries. same-back _ _ (same env remembered entries)) loads
 

@@ -171,10 +171,10 @@ StandsOnLast None v = Unit {0}
 StandsOnLast (Some item) v = v.item_lines ≡ last_lines v.lines
 
 -- where bytes decide no entry, with one more logical line they decide its entries
-decide_more : (dialect : Dialect) (used bytes : List ℕ) (count : ℕ) (next : Logical) (front : List Entry) →
+decide_first_more : (dialect : Dialect) (used bytes : List ℕ) (count : ℕ) (next : Logical) (front : List Entry) →
     DecideFirst dialect used [] → (IsOpenEnd next → ⊥) → IsNextAlways bytes count next → Gives dialect next front →
     DecideFirst dialect (used ++ bytes) front
-decide_more dialect used bytes count next front first no_open always gives more decided has =
+decide_first_more dialect used bytes count next front first no_open always gives more decided has =
     subst (λ all. HasDecided dialect all (front ++ decided)) (sym (append_assoc used bytes more))
     (first (bytes ++ more) (front ++ decided)
     (decided-next dialect bytes more count next front decided no_open always gives has))
@@ -195,7 +195,7 @@ taken_stays {count = count} a s t entries front next m p k gives =
     elim k.stays [
       | inl ended ↦ inl ended
       | inr always ↦
-          inr (decide_more s.dialect p.used k.used count next front (passed_stays a s t entries next m p k)
+          inr (decide_first_more s.dialect p.used k.used count next front (passed_stays a s t entries next m p k)
           always.0 always.1 gives)
     ]
 

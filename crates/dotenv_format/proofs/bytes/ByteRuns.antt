@@ -164,10 +164,11 @@ character_passes byte character tells c is h = at (ltb c 128) refl
         (tells.wide c high is h, encoded_pass byte c (λ b low below. tells.later c b high h low below) h)
 
 -- where bytes tell characters, the bytes that pass at a text's front are whole characters that pass
-run : (byte character : ℕ → Bool) → Tells byte character → (cs : List ℕ) → scalars cs ≡ true → IsRun byte character cs
-run byte character tells [] are = record { front = []; rest = []; spelled = refl; pass = refl; len = refl }
-run byte character tells (c ∷ cs) are = at (byte (lead c)) refl
-    (run byte character tells cs (and_right (scalar c) (scalars cs) are))
+byte_run : (byte character : ℕ → Bool) → Tells byte character → (cs : List ℕ) → scalars cs ≡ true →
+    IsRun byte character cs
+byte_run byte character tells [] are = record { front = []; rest = []; spelled = refl; pass = refl; len = refl }
+byte_run byte character tells (c ∷ cs) are = at (byte (lead c)) refl
+    (byte_run byte character tells cs (and_right (scalar c) (scalars cs) are))
   where
     at : (b : Bool) → byte (lead c) ≡ b → IsRun byte character cs → IsRun byte character (c ∷ cs)
     at false h more = record {
@@ -206,7 +207,7 @@ run_passes byte character tells text utf8 =
     let cs = utf8.0 in
     let are = utf8.1.0 in
     let e = utf8.1.1 in
-    let r = run byte character tells cs are in
+    let r = byte_run byte character tells cs are in
     let scalar_parts : scalars (r.front ++ r.rest) ≡ true = subst (λ ds. scalars ds ≡ true) r.spelled are in
     let parts : text ≡ encode_utf8_all r.front ++ encode_utf8_all r.rest = sym e ∙ ap encode_utf8_all r.spelled
     ∙ encodes-append r.front r.rest in

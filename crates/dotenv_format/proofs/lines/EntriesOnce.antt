@@ -162,15 +162,15 @@ cut_line c [] h cut = refl
 cut_line c (xs ∷ xss) h cut = (h, cut)
 
 -- lines as bytes are cut into them are so with one character more before them, a line feed or not
-cut_step : (c : ℕ) (xss : List (List ℕ)) (b : Bool) → (c == 10) ≡ b → AreCut (map Some xss) →
+cut_with_one_more : (c : ℕ) (xss : List (List ℕ)) (b : Bool) → (c == 10) ≡ b → AreCut (map Some xss) →
     AreCut (map Some (cond b ((c ∷ []) ∷ xss) (onto_first c xss)))
-cut_step c xss true h cut = cut_line c xss h cut
-cut_step c xss false h cut = cut_onto c xss h cut
+cut_with_one_more c xss true h cut = cut_line c xss h cut
+cut_with_one_more c xss false h cut = cut_onto c xss h cut
 
 -- of the lines that bytes, or characters, are cut into, each has its line feed, but the last may lack it
 cut_bytes : (cs : List ℕ) → AreCut (map Some (physical_lines cs))
 cut_bytes [] = tt
-cut_bytes (c ∷ cs) = cut_step c (physical_lines cs) (c == 10) refl (cut_bytes cs)
+cut_bytes (c ∷ cs) = cut_with_one_more c (physical_lines cs) (c == 10) refl (cut_bytes cs)
 
 -- some bytes are a line with its line feed just where they are with bytes without one before them
 skip_whole : (bs : List ℕ) (d : ℕ) (ds : List ℕ) → no_line_feed bs ≡ true →

@@ -580,7 +580,8 @@ scan_blank_step b c cs ok true y h i out from_here =
     subst (λ d. Read (after_blank b) (d ∷ cs) (stops [] (comment b (first_line cs)) (after_line cs)))
     (sym (same_from c hash h)) (scan_comment b cs ok)
 scan_blank_step b c cs ok false true h i out from_here = scan_blank b c cs (scan (c ∷ cs) outside) ok i from_here
-scan_blank_step b c cs ok false false h i out from_here = read_blank_pair b c cs (scan cs outside) ok (rw (h, i) refl) out
+scan_blank_step b c cs ok false false h i out from_here =
+    read_blank_pair b c cs (scan cs outside) ok (rw (h, i) refl) out
 
 -- where a text is rightly read from each mode, so it is from each with a character before it
 scan_step : (mode : ScanMode) (c : ℕ) (cs : List ℕ) → IsScanMode mode →

@@ -117,9 +117,9 @@ length_texts [] = refl
 length_texts (t ∷ taken) = ap suc (length_texts taken)
 
 -- the first physical lines, as many as texts were taken, are these texts joined
-joined_front : (taken : List (List ℕ)) (lines : Lines) →
+taken_is_joined : (taken : List (List ℕ)) (lines : Lines) →
     joined_text (take (length taken) (map Some taken ++ lines)) ≡ Some (concat taken)
-joined_front taken lines =
+taken_is_joined taken lines =
     ap (λ n. joined_text (take n (map Some taken ++ lines))) (sym (length_texts taken))
     ∙ ap joined_text (take-append_seam (map Some taken) lines)
     ∙ joined-texts taken
@@ -168,7 +168,7 @@ next-text taken lines kept shown whole = (
   record {
     text = concat taken;
     within = omega (arith, length-append (map Some taken) lines, length_texts taken);
-    joins = joined_front taken lines;
+    joins = taken_is_joined taken lines;
     whole = whole;
   },
 )

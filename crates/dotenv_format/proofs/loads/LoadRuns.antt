@@ -74,9 +74,9 @@ after-same e f key v w n true false h k same = absurd (cc)
 after-same e f key v w n false true h k same = absurd (cc)
 
 -- a name that is passed by is there
-kept : (mode : Mode) (e : LookUp) (key : List ℕ) → sets mode e key ≡ false → is_none (e key) ≡ false
-kept Keep e key h = h
-kept Replace e key h = cc
+passed_is_there : (mode : Mode) (e : LookUp) (key : List ℕ) → sets mode e key ≡ false → is_none (e key) ≡ false
+passed_is_there Keep e key h = h
+passed_is_there Replace e key h = cc
 
 -- a name that is absent after a declaration was absent, and is not the one that was declared
 still_absent : (mode : Mode) (e : LookUp) (key value n : List ℕ) →
@@ -88,7 +88,8 @@ still_absent mode e key value n absent = at (sets mode e key) refl absent
     was false h = (h, refl)
 
     other : sets mode e key ≡ false → is_none (e n) ≡ true → (b : Bool) → bytes_eq key n ≡ b → b ≡ false
-    other is h true same = sym h ∙ ap (λ k. is_none (e k)) (sym (same_text key n (sym same))) ∙ kept mode e key is
+    other is h true same = sym h ∙ ap (λ k. is_none (e k)) (sym (same_text key n (sym same)))
+        ∙ passed_is_there mode e key is
     other is h false same = refl
 
     at : (b : Bool) → sets mode e key ≡ b → is_none ((if b then with_value e key value else e) n) ≡ true →

@@ -156,10 +156,10 @@ same_assigned dialect rest p q (inr a) (inl b) = absurd (clash (is_empty_or_comm
 same_assigned dialect rest p q (inr a) (inr b) = one_list_of_pieces dialect rest p q a.1 b.1
 
 -- where a line's statement assigns pieces, the line has no fault in its value
-no_value : (dialect : Dialect) (u key rest key' text : List ℕ) (index : ℕ) (p : List Piece) (line : List ℕ) →
+no_fault_in_value : (dialect : Dialect) (u key rest key' text : List ℕ) (index : ℕ) (p : List Piece) (line : List ℕ) →
     u ≡ drop_trailing_whitespace line → IsStatement u key rest → Assigns dialect rest p →
     HasNoValue dialect line text index → ⊥
-no_value dialect u key rest key' text index p line e is assigns fault =
+no_fault_in_value dialect u key rest key' text index p line e is assigns fault =
     let s =
     one_statement u key rest fault.key text is
     (subst (λ v. IsStatement v fault.key text) (sym e) fault.statement) in
@@ -182,12 +182,12 @@ one_outcome dialect line (Pair key p) (Pair key' q) x y =
     ∙ ap (Pair key') (same_assigned dialect y.1 p q (subst (λ r. Assigns dialect r p) s.1 x.3) y.3)
 one_outcome dialect line (Pair key p) (Fault text index) x (some, inl f) = absurd (f.none key x.1 x.2)
 one_outcome dialect line (Pair key p) (Fault text index) x (some, inr f) =
-    absurd (no_value dialect (drop_trailing_whitespace line) key x.1 f.key text index p line refl x.2 x.3 f)
+    absurd (no_fault_in_value dialect (drop_trailing_whitespace line) key x.1 f.key text index p line refl x.2 x.3 f)
 one_outcome dialect line (Fault text index) Nothing x y =
     absurd (clash (is_nothing (drop_trailing_whitespace line)) y x.0)
 one_outcome dialect line (Fault text index) (Pair key p) (some, inl f) y = absurd (f.none key y.1 y.2)
 one_outcome dialect line (Fault text index) (Pair key p) (some, inr f) y =
-    absurd (no_value dialect (drop_trailing_whitespace line) key y.1 f.key text index p line refl y.2 y.3 f)
+    absurd (no_fault_in_value dialect (drop_trailing_whitespace line) key y.1 f.key text index p line refl y.2 y.3 f)
 one_outcome dialect line (Fault s i) (Fault t j) (a, inl f) (b, inl g) =
     let e =
     one_place BeginsStatement statement_fronts (drop_trailing_whitespace line) f.place g.place f.is_place

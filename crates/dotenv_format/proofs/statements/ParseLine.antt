@@ -120,9 +120,9 @@ go m c cs n (fails left) is h r = record {
 }
 
 -- before `=`, a character that leads nowhere is a fault, and what is left begins with it
-stop : (m : StatementMode) (c : ℕ) (cs : List ℕ) → IsBefore m → statement_goes m c ≡ None →
+stop_before : (m : StatementMode) (c : ℕ) (cs : List ℕ) → IsBefore m → statement_goes m c ≡ None →
     Matches m (c ∷ cs) (fails (c ∷ cs))
-stop m c cs is h =
+stop_before m c cs is h =
     record {
       none = reads_at m c cs is ∙ ap (λ g. read_on g (λ n. read_statement cs n)) h;
       front = [];
@@ -144,8 +144,9 @@ at_assigned : (key cs : List ℕ) → Matches (assigned key) cs (after_equals ke
 at_assigned key cs = ap (λ r. Some (key, r)) (rest-skip cs)
 
 -- behind a key that is no prefix, white space leads to the same mode
-after_white : (key : List ℕ) (c : ℕ) → is_whitespace c ≡ true → statement_goes (after_key key) c ≡ Some (after_key key)
-after_white key c h = when_false _ _ (c == equals_sign) (white_no_equals c h) ∙ when_true _ _ (is_whitespace c) h
+white_after_key : (key : List ℕ) (c : ℕ) → is_whitespace c ≡ true →
+    statement_goes (after_key key) c ≡ Some (after_key key)
+white_after_key key c h = when_false _ _ (c == equals_sign) (white_no_equals c h) ∙ when_true _ _ (is_whitespace c) h
 
 -- behind a key that is no prefix, what is neither white space nor `=` leads nowhere
 after_other : (key : List ℕ) (c : ℕ) → is_whitespace c ≡ false → (c == equals_sign) ≡ false →
@@ -162,14 +163,14 @@ at_after_key key (c ∷ cs) = at (is_whitespace c) (c == equals_sign) refl refl 
     here true h k =
         go (after_key key) c cs (assigned key) (after_equals key cs) tt (when_true _ _ (c == equals_sign) k)
         (at_assigned key cs)
-    here false h k = stop (after_key key) c cs tt (after_other key c h k)
+    here false h k = stop_before (after_key key) c cs tt (after_other key c h k)
 
     at : (w e : Bool) → is_whitespace c ≡ w → (c == equals_sign) ≡ e →
         Matches (after_key key) cs (after_plain_key key (skip_leading_whitespace cs)) →
         Matches (after_key key) (c ∷ cs) (after_plain_key key (cond w (skip_leading_whitespace cs) (c ∷ cs)))
     at true e h k later =
         go (after_key key) c cs (after_key key) (after_plain_key key (skip_leading_whitespace cs)) tt
-        (after_white key c h) later
+        (white_after_key key c h) later
     at false e h k later = here (c == equals_sign) h refl
 
 -- within a key after a prefix, taking its other characters and expecting `=` is reading on from there
@@ -184,7 +185,7 @@ at_second acc (c ∷ cs) = at (continues_key c) refl (at_second (acc ++ c ∷ []
         go (in_key false acc) c cs (assigned acc) (after_equals acc cs) tt
         (when_false _ _ (continues_key c) h ∙ when_true _ _ (c == equals_sign) k) (at_assigned acc cs)
     equals false h w k =
-        stop (in_key false acc) c cs tt
+        stop_before (in_key false acc) c cs tt
         (when_false _ _ (continues_key c) h ∙ when_false _ _ (c == equals_sign) k ∙ when_false _ _ (is_whitespace c) w)
 
     here : (w : Bool) → continues_key c ≡ false → is_whitespace c ≡ w →
@@ -230,7 +231,7 @@ at_after_export (c ∷ cs) = at (is_whitespace c) refl (at_after_export cs)
         (when_false _ _ (c == equals_sign) e ∙ when_false _ _ (is_whitespace c) w ∙ when_true _ _ (begins_key c) h)
         (at_second (c ∷ []) cs)
     key false w e h =
-        stop after_export c cs tt
+        stop_before after_export c cs tt
         (when_false _ _ (c == equals_sign) e ∙ when_false _ _ (is_whitespace c) w ∙ when_false _ _ (begins_key c) h)
 
     equals : (e : Bool) → is_whitespace c ≡ false → (c == equals_sign) ≡ e →
@@ -268,7 +269,7 @@ at_first acc (c ∷ cs) = at (continues_key c) refl (at_first (acc ++ c ∷ []) 
     stops : continues_key c ≡ false → is_whitespace c ≡ false → (c == equals_sign) ≡ false →
         Matches (in_key true acc) (c ∷ cs) (fails (c ∷ cs))
     stops h w e =
-        stop (in_key true acc) c cs tt
+        stop_before (in_key true acc) c cs tt
         (when_false _ _ (continues_key c) h ∙ when_false _ _ (c == equals_sign) e ∙ when_false _ _ (is_whitespace c) w)
 
     no_key : (b : Bool) → begins_key c ≡ b → continues_key c ≡ false → is_whitespace c ≡ false →
@@ -350,7 +351,7 @@ parse-is (c ∷ cs) = at (is_whitespace c) refl (parse-is cs)
         go start c cs (in_key true (c ∷ []))
         (after_first_key (c ∷ key_run cs) (skip_leading_whitespace (key_left cs))) tt
         (when_false _ _ (is_whitespace c) w ∙ when_true _ _ (begins_key c) h) (at_first (c ∷ []) cs)
-    key false w h = stop start c cs tt (when_false _ _ (is_whitespace c) w ∙ when_false _ _ (begins_key c) h)
+    key false w h = stop_before start c cs tt (when_false _ _ (is_whitespace c) w ∙ when_false _ _ (begins_key c) h)
 
     at : (w : Bool) → is_whitespace c ≡ w → Matches start cs (parse cs) →
         Matches start (c ∷ cs) (key_then (cond w (skip_leading_whitespace cs) (c ∷ cs))

@@ -61,7 +61,8 @@ statement_completes after_export = (equals_sign ∷ [], _, [], refl)
 statement_completes (assigned acc) = ([], acc, [], refl)
 
 -- where a character leads to a mode from which a text can be completed, both can be from the mode before it
-statement_goes_on : (m : StatementMode) (c : ℕ) (cs : List ℕ) (n : StatementMode) → statement_goes m c ≡ Some n → CompletesStatement cs n →
+statement_goes_on : (m : StatementMode) (c : ℕ) (cs : List ℕ) (n : StatementMode) → statement_goes m c ≡ Some n →
+    CompletesStatement cs n →
     CompletesStatement (c ∷ cs) m
 statement_goes_on start c cs n g (more, key, rest, h) =
     (more, key, rest, ap (λ o. read_on o (λ m. read_statement (cs ++ more) m)) g ∙ h)
@@ -93,7 +94,8 @@ pub none_some : (p : List ℕ × List ℕ) → ◌≡◌ {A = StatementReading} 
 none_some p h = cc
 
 -- a text whose first character leads nowhere can't be completed
-statement_goes_nowhere : (m : StatementMode) (c : ℕ) (cs : List ℕ) → statement_goes m c ≡ None → ¬ (CompletesStatement (c ∷ cs) m)
+statement_goes_nowhere : (m : StatementMode) (c : ℕ) (cs : List ℕ) → statement_goes m c ≡ None →
+    ¬ (CompletesStatement (c ∷ cs) m)
 statement_goes_nowhere start c cs g (more, key, rest, h) =
     none_some (key, rest) (sym (ap (λ o. read_on o (λ m. read_statement (cs ++ more) m)) g) ∙ h)
 statement_goes_nowhere (in_key first acc) c cs g (more, key, rest, h) =
@@ -108,7 +110,8 @@ statement_goes_nowhere (assigned acc) c cs g done = cc
 statement_placed_step : (c : ℕ) (cs : List ℕ) (m : StatementMode) (g : Option StatementMode) → statement_goes m c ≡ g →
     ((n : StatementMode) → Placed CompletesStatement cs n (statement_reach cs n)) →
     Placed CompletesStatement (c ∷ cs) m (statement_reach_after g (λ n. statement_reach cs n))
-statement_placed_step c cs m None h later = placed_before CompletesStatement m c cs (statement_completes m) (statement_goes_nowhere m c [] h)
+statement_placed_step c cs m None h later =
+    placed_before CompletesStatement m c cs (statement_completes m) (statement_goes_nowhere m c [] h)
 statement_placed_step c cs m (Some n) h later =
     placed_on CompletesStatement m c n cs (statement_reach cs n)
     (record { on = λ cs. statement_goes_on m c cs n h; back = λ cs. statement_goes_back m c cs n h }) (later n)

@@ -48,7 +48,7 @@ use Rattle.dotenv_format.specs.Items.{LookUp, meaning}
 use Rattle.dotenv_format.specs.inside.ReadValue.{base, escaping, value_goes}
 use Rattle.dotenv_format.specs.inside.NextPiece.{IsReadTo, GivesPiece}
 use Rattle.dotenv_format.proofs.Basics.{and_left, and_right, both, same_from}
-use Rattle.dotenv_format.proofs.values.NextPiece.{one, read_on}
+use Rattle.dotenv_format.proofs.values.NextPiece.{one, read_further}
 
 -- the character is a backslash
 abbrev is_backslash : ℕ → Bool
@@ -134,9 +134,9 @@ row_read dialect q (suc half) (c ∷ []) cs h len = absurd (omega (arith, len))
 row_read dialect q (suc half) (c ∷ d ∷ row) cs h len =
     let first = and_left (is_backslash c) (list_all is_backslash (d ∷ row)) h in
     let later = and_right (is_backslash c) (list_all is_backslash (d ∷ row)) h in
-    read_on dialect (escaping q) (base q) (base q) (c ∷ (d ∷ (row ++ cs))) (d ∷ (row ++ cs)) cs
+    read_further dialect (escaping q) (base q) (base q) (c ∷ (d ∷ (row ++ cs))) (d ∷ (row ++ cs)) cs
     (Text (backslash ∷ []) ∷ []) (texts (suc half)) (escaped_one dialect q c (d ∷ (row ++ cs)) first)
-    (read_on dialect (base q) (escaping q) (base q) (d ∷ (row ++ cs)) (row ++ cs) cs [] (texts (suc half))
+    (read_further dialect (base q) (escaping q) (base q) (d ∷ (row ++ cs)) (row ++ cs) cs [] (texts (suc half))
     (escape_begun dialect q d (row ++ cs) (and_left (is_backslash d) (list_all is_backslash row) later))
     (row_read dialect q half row cs (and_right (is_backslash d) (list_all is_backslash row) later)
     (omega (arith, len))))

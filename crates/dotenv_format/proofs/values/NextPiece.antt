@@ -149,9 +149,9 @@ none_read dialect m text =
     record { front = []; spelled = refl; reads = given-nil (read_value dialect text m); counts = omega arith }
 
 -- what is read to one mode, and then on to another, is read to that one, and gives the pieces of both
-pub read_on : (dialect : Dialect) (m n k : ValueMode) (text left rest : List ℕ) (p q : List Piece) →
+pub read_further : (dialect : Dialect) (m n k : ValueMode) (text left rest : List ℕ) (p q : List Piece) →
     IsReadTo dialect m text p n left → IsReadTo dialect n left q k rest → IsReadTo dialect m text (p ++ q) k rest
-read_on dialect m n k text left rest p q a b = record {
+read_further dialect m n k text left rest p q a b = record {
   front = a.front ++ b.front;
   spelled = a.spelled ∙ ap (λ t. a.front ++ t) b.spelled ∙ sym (append_assoc a.front b.front rest);
   reads = a.reads ∙ ap (given p) b.reads ∙ given-given p q (read_value dialect rest k);
@@ -176,7 +176,8 @@ next_after dialect m n text left (GivesNext next) a h =
     record {
       pieces = h.pieces;
       is_read =
-          read_on dialect m n (base (quoting_of next.quoting)) text left (chars next.rest.now) [] h.pieces a h.is_read;
+          read_further dialect m n (base (quoting_of next.quoting)) text left (chars next.rest.now) [] h.pieces a
+          h.is_read;
       follows = h.follows;
       means = h.means;
     }
@@ -198,21 +199,22 @@ shorter_after dialect m c cs Unfinished h = tt
 shorter_after dialect m c cs (Fault left) h = tt
 
 -- a run of characters, each of which the mode collects, is collected, and gives no piece yet
-pub run : (dialect : Dialect) (mode : List ℕ → ValueMode) (passes : ℕ → Bool) →
+pub collected_run : (dialect : Dialect) (mode : List ℕ → ValueMode) (passes : ℕ → Bool) →
     ((held : List ℕ) (c : ℕ) → passes c ≡ true → value_goes dialect (mode held) c ≡ Some (mode (held ++ c ∷ []), [])) →
     (held front rest : List ℕ) → list_all passes front ≡ true →
     IsReadTo dialect (mode held) (front ++ rest) [] (mode (held ++ front)) rest
-run dialect mode passes step held [] rest h =
+collected_run dialect mode passes step held [] rest h =
     subst (λ t. IsReadTo dialect (mode held) rest [] (mode t) rest) (sym (append-nil held))
     (none_read dialect (mode held) rest)
-run dialect mode passes step held (c ∷ front) rest h =
+collected_run dialect mode passes step held (c ∷ front) rest h =
     let here =
     one dialect (mode held) (mode (held ++ c ∷ [])) c (front ++ rest) []
     (step held c (and_left (passes c) (list_all passes front) h)) in
     let later =
-    run dialect mode passes step (held ++ c ∷ []) front rest (and_right (passes c) (list_all passes front) h) in
+    collected_run dialect mode passes step (held ++ c ∷ []) front rest
+    (and_right (passes c) (list_all passes front) h) in
     subst (λ t. IsReadTo dialect (mode held) (c ∷ (front ++ rest)) [] (mode t) rest)
-    (append_assoc held (c ∷ []) front) (read_on dialect (mode held) (mode (held ++ c ∷ []))
+    (append_assoc held (c ∷ []) front) (read_further dialect (mode held) (mode (held ++ c ∷ []))
     (mode ((held ++ c ∷ []) ++ front)) (c ∷ (front ++ rest)) (front ++ rest) rest [] [] here later)
 
 -- where the first character leads, by what it begins
@@ -300,9 +302,10 @@ collects_single dialect held c h = when_false _ _ (c == single_quote) (not_is (c
 single_read : (dialect : Dialect) (inner rest : List ℕ) → list_all (λ c. not (c == single_quote)) inner ≡ true →
     IsReadTo dialect (in_single []) (inner ++ single_quote ∷ rest) (Text inner ∷ []) (base unquoted) rest
 single_read dialect inner rest h =
-    read_on dialect (in_single []) (in_single inner) (base unquoted) (inner ++ single_quote ∷ rest)
+    read_further dialect (in_single []) (in_single inner) (base unquoted) (inner ++ single_quote ∷ rest)
     (single_quote ∷ rest) rest [] (Text inner ∷ [])
-    (run dialect in_single (λ c. not (c == single_quote)) (collects_single dialect) [] inner (single_quote ∷ rest)
+    (collected_run dialect in_single (λ c. not (c == single_quote)) (collects_single dialect) [] inner
+    (single_quote ∷ rest)
     h) (one dialect (in_single inner) (base unquoted) single_quote rest (Text inner ∷ []) refl)
 
 -- in single quotes, a text without one to close them is a fault at its end
@@ -311,7 +314,7 @@ pub single_open : (dialect : Dialect) (inner : List ℕ) → list_all (λ c. not
 single_open dialect inner h =
     subst (λ t. StopsAt dialect (in_single []) t []) (append-nil inner) (stop_after dialect (in_single [])
     (in_single inner) (inner ++ []) [] [] []
-    (run dialect in_single (λ c. not (c == single_quote)) (collects_single dialect) [] inner [] h)
+    (collected_run dialect in_single (λ c. not (c == single_quote)) (collects_single dialect) [] inner [] h)
     (record { front = []; spelled = refl; reads = refl; counts = refl }))
 
 -- in single quotes, a text cut at the first one gives the text before it, and goes on unquoted
@@ -339,9 +342,9 @@ braced_read : (dialect : Dialect) (q : Quoting) (name rest : List ℕ) →
     list_all (λ c. not (c == right_brace)) name ≡ true →
     IsReadTo dialect (bracing q []) (name ++ right_brace ∷ rest) (Name name ∷ []) (base q) rest
 braced_read dialect q name rest h =
-    read_on dialect (bracing q []) (bracing q name) (base q) (name ++ right_brace ∷ rest) (right_brace ∷ rest) rest
+    read_further dialect (bracing q []) (bracing q name) (base q) (name ++ right_brace ∷ rest) (right_brace ∷ rest) rest
     [] (Name name ∷ [])
-    (run dialect (bracing q) (λ c. not (c == right_brace)) (collects_braced dialect q) [] name
+    (collected_run dialect (bracing q) (λ c. not (c == right_brace)) (collects_braced dialect q) [] name
     (right_brace ∷ rest) h) (one dialect (bracing q name) (base q) right_brace rest (Name name ∷ []) refl)
 
 -- in braces, a text without `}` is a fault at its end
@@ -350,7 +353,7 @@ pub braced_open : (dialect : Dialect) (q : Quoting) (name : List ℕ) →
 braced_open dialect q name h =
     subst (λ t. StopsAt dialect (bracing q []) t []) (append-nil name) (stop_after dialect (bracing q [])
     (bracing q name) (name ++ []) [] [] []
-    (run dialect (bracing q) (λ c. not (c == right_brace)) (collects_braced dialect q) [] name [] h)
+    (collected_run dialect (bracing q) (λ c. not (c == right_brace)) (collects_braced dialect q) [] name [] h)
     (record { front = []; spelled = refl; reads = refl; counts = refl }))
 
 -- The bytes of what a name stands for, and of a character after it.
@@ -443,7 +446,7 @@ tail_run : (dialect : Dialect) (text blanks comment : List ℕ) → IsSpan is_sp
     IsReadTo dialect in_tail text [] in_tail comment
 tail_run dialect text blanks comment is =
     subst (λ t. IsReadTo dialect in_tail t [] in_tail comment) (sym is.spelled)
-    (run dialect (λ _. in_tail) is_space_or_tab (collects_blanks dialect) [] blanks comment is.pass)
+    (collected_run dialect (λ _. in_tail) is_space_or_tab (collects_blanks dialect) [] blanks comment is.pass)
 
 -- in a value's tail, spaces and tabs, then nothing or a comment, end the value
 pub tail_ends : (dialect : Dialect) (text blanks comment : List ℕ) → IsSpan is_space_or_tab text blanks comment →
@@ -473,7 +476,7 @@ plain_read : (dialect : Dialect) (q : Quoting) (front rest : List ℕ) → list_
     IsReadTo dialect (base q) (front ++ rest) (each_text front) (base q) rest
 plain_read dialect q [] rest h = none_read dialect (base q) rest
 plain_read dialect q (c ∷ front) rest h =
-    read_on dialect (base q) (base q) (base q) (c ∷ (front ++ rest)) (front ++ rest) rest (Text (c ∷ []) ∷ [])
+    read_further dialect (base q) (base q) (base q) (c ∷ (front ++ rest)) (front ++ rest) rest (Text (c ∷ []) ∷ [])
     (each_text front)
     (one dialect (base q) (base q) c (front ++ rest) (Text (c ∷ []) ∷ [])
     (plain_goes dialect q c (and_left (is_plain q c) (list_all (is_plain q) front) h)))
@@ -608,7 +611,7 @@ pub name_run : (dialect : Dialect) (q : Quoting) (text name rest : List ℕ) →
     IsSpan (is_name_character dialect) text name rest → IsReadTo dialect (naming q []) text [] (naming q name) rest
 name_run dialect q text name rest is =
     subst (λ t. IsReadTo dialect (naming q []) t [] (naming q name) rest) (sym is.spelled)
-    (run dialect (naming q) (is_name_character dialect) (collects_name dialect q) [] name rest is.pass)
+    (collected_run dialect (naming q) (is_name_character dialect) (collects_name dialect q) [] name rest is.pass)
 
 -- where no `{` follows the dollar, none follows a bare name that is empty
 pub no_brace_after : (dialect : Dialect) (text name rest : List ℕ) →
@@ -647,7 +650,7 @@ quotes_read : (dialect : Dialect) (q : Quoting) (quotes rest : List ℕ)
 unfolding after_quotes
 quotes_read dialect q [] rest h = none_read dialect (base q) rest
 quotes_read dialect q (c ∷ cs) rest h =
-    read_on dialect (base q) (base (other_quoting q)) (base (after_quotes cs (other_quoting q))) (c ∷ (cs ++ rest))
+    read_further dialect (base q) (base (other_quoting q)) (base (after_quotes cs (other_quoting q))) (c ∷ (cs ++ rest))
     (cs ++ rest) rest [] []
     (one dialect (base q) (base (other_quoting q)) c (cs ++ rest) []
     (quote_goes dialect q c (and_left (c == double_quote) (list_all (λ d. d == double_quote) cs) h)))

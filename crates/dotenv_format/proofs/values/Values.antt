@@ -870,16 +870,16 @@ ends_read dialect in_tail ok = (record { blanks = []; comment = []; are = refl; 
 ends_read dialect in_comment ok = refl
 
 -- each text is read right from every sound mode
-pub read-is : (dialect : Dialect) (text : List ℕ) (m : ValueMode) → IsValueMode dialect m →
+pub value-read-is : (dialect : Dialect) (text : List ℕ) (m : ValueMode) → IsValueMode dialect m →
     IsValueRead dialect m text (read_value dialect text m)
-read-is dialect [] m ok = ends_read dialect m ok
-read-is dialect (c ∷ cs) m ok = step dialect m c cs ok (λ m ok. read-is dialect cs m ok)
+value-read-is dialect [] m ok = ends_read dialect m ok
+value-read-is dialect (c ∷ cs) m ok = step dialect m c cs ok (λ m ok. value-read-is dialect cs m ok)
 
 -- what reads as pieces is a value of these pieces
 pub value-read : (dialect : Dialect) (text : List ℕ) (pieces : List Piece) →
     read_value dialect text (base unquoted) ≡ Some pieces → IsValue dialect text pieces
 value-read dialect text pieces h =
-    subst (IsValueRead dialect (base unquoted) text) h (read-is dialect text (base unquoted) tt)
+    subst (IsValueRead dialect (base unquoted) text) h (value-read-is dialect text (base unquoted) tt)
 
 -- what is not read is no value
 pub no_value : (dialect : Dialect) (text : List ℕ) → read_value dialect text (base unquoted) ≡ None →

@@ -4,7 +4,7 @@ use Rattle.dotenv_format.specs.Run.{Keep}
 use Rattle.dotenv_format.specs.Loads.{load_result}
 use Rattle.dotenvy.specs.Iter.{fresh}
 use Rattle.dotenv_format.proofs.loads.LoadLaws.{run-keep}
-use Rattle.dotenvy.proofs.LoadSteps.{fresh_load, loads_in_turn, loads_refused, refused_by}
+use Rattle.dotenvy.proofs.LoadSteps.{fresh_load, is_in_turn, loads_refused, refused_by}
 use Rattle.dotenvy.proofs.iter.from_read.Goals as goal
 
 pub returns-in_err-new-clause-in_turn : goal.returns-in_err-new-clause-in_turn
@@ -27,5 +27,5 @@ returns-clause-told g c =
 
 pub returns-clause-in_turn : goal.returns-clause-in_turn
 returns-clause-in_turn g c =
-    loads_in_turn Keep load_result (fresh (g.R.Source.ahead c.args.reader) (g.R.Source.calls c.args.reader) V15)
+    is_in_turn Keep load_result (fresh (g.R.Source.ahead c.args.reader) (g.R.Source.calls c.args.reader) V15)
     c.args.env.now.names c.load.new.env.names c.load.result run-keep (returns-clause-told g c)

@@ -4,7 +4,7 @@ use Rattle.dotenv_format.specs.Run.{Replace}
 use Rattle.dotenv_format.specs.Loads.{override_result}
 use Rattle.dotenvy.specs.Iter.{fresh}
 use Rattle.dotenv_format.proofs.loads.LoadLaws.{run-replace}
-use Rattle.dotenvy.proofs.LoadSteps.{fresh_load, loads_in_turn, loads_refused, refused_by}
+use Rattle.dotenvy.proofs.LoadSteps.{fresh_load, is_in_turn, loads_refused, refused_by}
 use Rattle.dotenvy.proofs.iter.from_read_override.Goals as goal
 
 pub returns-in_err-new-clause-in_turn : goal.returns-in_err-new-clause-in_turn
@@ -23,9 +23,10 @@ returns-in_err-new-clause-told g c =
 pub returns-clause-told : goal.returns-clause-told
 returns-clause-told g c =
     fresh_load override_result (g.R.Source.ahead c.args.reader) (g.R.Source.calls c.args.reader) V15 c.in_ok-new.field-0
-    c.args.env.now.names c.load_override.new.env.names c.load_override.result c.in_ok-new.ensures.ok c.load_override.ensures.told
+    c.args.env.now.names c.load_override.new.env.names c.load_override.result c.in_ok-new.ensures.ok
+    c.load_override.ensures.told
 
 pub returns-clause-in_turn : goal.returns-clause-in_turn
 returns-clause-in_turn g c =
-    loads_in_turn Replace override_result (fresh (g.R.Source.ahead c.args.reader) (g.R.Source.calls c.args.reader) V15)
+    is_in_turn Replace override_result (fresh (g.R.Source.ahead c.args.reader) (g.R.Source.calls c.args.reader) V15)
     c.args.env.now.names c.load_override.new.env.names c.load_override.result run-replace (returns-clause-told g c)

@@ -6,7 +6,7 @@ use Rattle.dotenv_format.specs.inside.Slices.{quoting_of}
 use Rattle.dotenv_format.specs.inside.ReadValue.{base}
 use Rattle.dotenv_format.specs.inside.NextPiece.{StopsAt}
 use Rattle.dotenvy.specs.Meaning.{look_up_of}
-use Rattle.dotenv_format.proofs.values.NextPiece.{none_read, read_on, stop_after}
+use Rattle.dotenv_format.proofs.values.NextPiece.{none_read, read_further, stop_after}
 use Rattle.dotenvy.proofs.Meanings.{counted, measured, all_read}
 use Rattle.dotenvy.proofs.meaning.Names.measure.Goals as goal
 
@@ -43,7 +43,7 @@ loop-given-preserved g c =
       next.follows,
       (
         i.0 ++ next.pieces,
-        read_on c.args.dialect (base unquoted) (base (quoting_of c.loop-given.quoting))
+        read_further c.args.dialect (base unquoted) (base (quoting_of c.loop-given.quoting))
             (base (quoting_of c.in-Piece.given.quoting)) (chars c.args.value.now) (chars c.loop-given.rest.now)
             (chars c.in-Piece.given.rest.now) i.0 next.pieces i.1 next.is_read,
         rw (c.saturating_add-len.ensures) more,
