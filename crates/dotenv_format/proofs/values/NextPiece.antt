@@ -93,6 +93,8 @@ use Rattle.dotenv_format.specs.inside.ReadValue.{
   given,
   is_brace_first,
   read_value,
+  goes_outside,
+  goes_inside,
   goes_base,
   with_pieces,
   ValueStep,
@@ -230,27 +232,7 @@ goes_kind Plain q c = Some (base q, Text (c ∷ []) ∷ [])
 pub kind_goes : (q : CodeQuoting) (c : ℕ) → goes_base (quoting_of q) c ≡ goes_kind (kind_of q c) (quoting_of q) c
 kind_goes Unquoted c = at (c == backslash) (c == single_quote) (c == double_quote) (c == dollar) (is_space_or_tab c)
   where
-    at : (b s d o t : Bool) →
-        elim b as (λ _. ValueStep) [
-          | true ↦ Some (escaping unquoted, [])
-          | false ↦
-              elim s [
-                | true ↦ Some (in_single [], [])
-                | false ↦
-                    elim d [
-                      | true ↦ Some (base double_quoted, [])
-                      | false ↦
-                          elim o [
-                            | true ↦ Some (naming unquoted [], [])
-                            | false ↦
-                                elim t [
-                                  | true ↦ Some (in_tail, [])
-                                  | false ↦ Some (base unquoted, Text (c ∷ []) ∷ [])
-                                ]
-                          ]
-                    ]
-              ]
-        ]
+    at : (b s d o t : Bool) → goes_outside b s d o t c
         ≡ goes_kind
         (if b then Backslash else if s then SingleQuote else if d then DoubleQuote else if o then Dollar else if
         t then SpaceOrTab else Plain) unquoted c
@@ -262,19 +244,7 @@ kind_goes Unquoted c = at (c == backslash) (c == single_quote) (c == double_quot
     at false false false false false = refl
 kind_goes DoubleQuoted c = at (c == backslash) (c == double_quote) (c == dollar)
   where
-    at : (b d o : Bool) →
-        elim b as (λ _. ValueStep) [
-          | true ↦ Some (escaping double_quoted, [])
-          | false ↦
-              elim d [
-                | true ↦ Some (base unquoted, [])
-                | false ↦
-                    elim o [
-                      | true ↦ Some (naming double_quoted [], [])
-                      | false ↦ Some (base double_quoted, Text (c ∷ []) ∷ [])
-                    ]
-              ]
-        ]
+    at : (b d o : Bool) → goes_inside b d o c
         ≡ goes_kind (if b then Backslash else if d then DoubleQuote else if o then Dollar else Plain)
         double_quoted c
     at true d o = refl

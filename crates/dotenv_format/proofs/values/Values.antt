@@ -100,6 +100,8 @@ use Rattle.dotenv_format.specs.inside.ReadValue.{
   ValueStep,
   given,
   is_brace_first,
+  goes_outside,
+  goes_inside,
   goes_base,
   with_pieces,
   value_goes,
@@ -134,38 +136,30 @@ silent : (dialect : Dialect) (m : ValueMode) (c : ℕ) (cs : List ℕ) (n : Valu
     value_goes dialect m c ≡ Some (n, []) → read_value dialect (c ∷ cs) m ≡ read_value dialect cs n
 silent dialect m c cs n h = stepped dialect m c cs (Some (n, [])) h ∙ sym (given-nil (read_value dialect cs n))
 
--- of what is chosen by five tests in turn, the last is chosen where none of them passes
-outside_plain : (b s d o t : Bool) (x y z w u v : ValueStep) → not ((((b || s) || d) || o) || t) ≡ true →
-    elim b [
-      | true ↦ x
-      | false ↦
-          elim s [
-            | true ↦ y
-            | false ↦ elim d [ true ↦ z | false ↦ elim o [ true ↦ w | false ↦ elim t [ true ↦ u | false ↦ v ] ] ]
-          ]
-    ] ≡ v
-outside_plain false false false false false x y z w u v h = refl
-outside_plain true s d o t x y z w u v h = cc
-outside_plain false true d o t x y z w u v h = cc
-outside_plain false false true o t x y z w u v h = cc
-outside_plain false false false true t x y z w u v h = cc
-outside_plain false false false false true x y z w u v h = cc
+-- outside quotes, a character that passes no test gives itself as text
+outside_plain : (b s d o t : Bool) (c : ℕ) → not ((((b || s) || d) || o) || t) ≡ true →
+    goes_outside b s d o t c ≡ Some (base unquoted, Text (c ∷ []) ∷ [])
+outside_plain false false false false false c h = refl
+outside_plain true s d o t c h = cc
+outside_plain false true d o t c h = cc
+outside_plain false false true o t c h = cc
+outside_plain false false false true t c h = cc
+outside_plain false false false false true c h = cc
 
--- of what is chosen by three tests in turn, the last is chosen where none of them passes
-inside_plain : (b d o : Bool) (x y z v : ValueStep) → not ((b || d) || o) ≡ true →
-    elim b [ true ↦ x | false ↦ elim d [ true ↦ y | false ↦ elim o [ true ↦ z | false ↦ v ] ] ] ≡ v
-inside_plain false false false x y z v h = refl
-inside_plain true d o x y z v h = cc
-inside_plain false true o x y z v h = cc
-inside_plain false false true x y z v h = cc
+-- in double quotes, a character that passes no test gives itself as text
+inside_plain : (b d o : Bool) (c : ℕ) → not ((b || d) || o) ≡ true →
+    goes_inside b d o c ≡ Some (base double_quoted, Text (c ∷ []) ∷ [])
+inside_plain false false false c h = refl
+inside_plain true d o c h = cc
+inside_plain false true o c h = cc
+inside_plain false false true c h = cc
 
 -- where a part may begin, a plain character gives itself as text, and a part may begin behind it
 pub plain_goes : (dialect : Dialect) (q : Quoting) (c : ℕ) → is_plain q c ≡ true →
     value_goes dialect (base q) c ≡ Some (base q, Text (c ∷ []) ∷ [])
-plain_goes dialect double_quoted c h = inside_plain (c == backslash) (c == double_quote) (c == dollar) _ _ _ _ h
+plain_goes dialect double_quoted c h = inside_plain (c == backslash) (c == double_quote) (c == dollar) c h
 plain_goes dialect unquoted c h =
-    outside_plain (c == backslash) (c == single_quote) (c == double_quote) (c == dollar) (is_space_or_tab c) _ _ _ _
-    _ _ h
+    outside_plain (c == backslash) (c == single_quote) (c == double_quote) (c == dollar) (is_space_or_tab c) c h
 
 -- where a part may begin, a plain character is given before what is read behind it
 read_plain : (dialect : Dialect) (q : Quoting) (c : ℕ) (cs : List ℕ) → is_plain q c ≡ true →
@@ -346,18 +340,10 @@ read_blanks dialect (c ∷ blanks) comment h k =
     (when_true _ _ (is_space_or_tab c) (and_left (is_space_or_tab c) (list_all is_space_or_tab blanks) h))
     ∙ read_blanks dialect blanks comment (and_right (is_space_or_tab c) (list_all is_space_or_tab blanks) h) k
 
--- of what is chosen by five tests in turn, the fifth is chosen where its test is the first that passes
-tail_tests : (b s d o t : Bool) (x y z w u v : ValueStep) → b ≡ false → s ≡ false → d ≡ false → o ≡ false →
-    t ≡ true →
-    elim b [
-      | true ↦ x
-      | false ↦
-          elim s [
-            | true ↦ y
-            | false ↦ elim d [ true ↦ z | false ↦ elim o [ true ↦ w | false ↦ elim t [ true ↦ u | false ↦ v ] ] ]
-          ]
-    ] ≡ u
-tail_tests b s d o t x y z w u v hb hs hd ho ht = rw (hb, hs, hd, ho, ht) refl
+-- outside quotes, a space or tab that passes none of the tests before leads to a tail
+outside_blank : (b s d o t : Bool) (c : ℕ) → b ≡ false → s ≡ false → d ≡ false → o ≡ false → t ≡ true →
+    goes_outside b s d o t c ≡ Some (in_tail, [])
+outside_blank b s d o t c hb hs hd ho ht = rw (hb, hs, hd, ho, ht) refl
 
 -- a space or tab is no character of a code from 33 on
 not_special : (c d : ℕ) → is_space_or_tab c ≡ true → 33 ≤ d → (c == d) ≡ false
@@ -368,8 +354,8 @@ read_blank : (dialect : Dialect) (c : ℕ) (cs : List ℕ) → is_space_or_tab c
     read_value dialect (c ∷ cs) (base unquoted) ≡ read_value dialect cs in_tail
 read_blank dialect c cs h =
     silent dialect (base unquoted) c cs in_tail
-    (tail_tests (c == backslash) (c == single_quote) (c == double_quote) (c == dollar) (is_space_or_tab c) _ _ _ _ _
-    _ (not_special c backslash h (omega arith)) (not_special c single_quote h (omega arith))
+    (outside_blank (c == backslash) (c == single_quote) (c == double_quote) (c == dollar) (is_space_or_tab c) c
+    (not_special c backslash h (omega arith)) (not_special c single_quote h (omega arith))
     (not_special c double_quote h (omega arith)) (not_special c dollar h (omega arith)) h)
 
 -- outside quotes a space or tab, more of them, then nothing or a comment, give nothing
@@ -611,26 +597,8 @@ ValueLater dialect cs = (m : ValueMode) → IsValueMode dialect m → IsValueRea
 outside_step : (dialect : Dialect) (c : ℕ) (cs : List ℕ) (b s d o t : Bool) → (c == backslash) ≡ b →
     (c == single_quote) ≡ s → (c == double_quote) ≡ d → (c == dollar) ≡ o → is_space_or_tab c ≡ t →
     ValueLater dialect cs →
-    IsValueRead dialect (base unquoted) (c ∷ cs) (read_after (elim b [
-      | true ↦ Some (escaping unquoted, [])
-      | false ↦
-          elim s [
-            | true ↦ Some (in_single [], [])
-            | false ↦
-                elim d [
-                  | true ↦ Some (base double_quoted, [])
-                  | false ↦
-                      elim o [
-                        | true ↦ Some (naming unquoted [], [])
-                        | false ↦
-                            elim t [
-                              | true ↦ Some (in_tail, [])
-                              | false ↦ Some (base unquoted, Text (c ∷ []) ∷ [])
-                            ]
-                      ]
-                ]
-          ]
-    ]) (λ n. read_value dialect cs n))
+    IsValueRead dialect (base unquoted) (c ∷ cs)
+    (read_after (goes_outside b s d o t c) (λ n. read_value dialect cs n))
 outside_step dialect c cs true s d o t hb hs hd ho ht later =
     rw (same_from c backslash hb)
     (from_escaping dialect unquoted cs (read_value dialect cs (escaping unquoted)) (later (escaping unquoted) tt))
@@ -652,18 +620,8 @@ outside_step dialect c cs false false false false false hb hs hd ho ht later =
 -- where a text is read right from every sound mode, so is it in double quotes with a character in front
 inside_step : (dialect : Dialect) (c : ℕ) (cs : List ℕ) (b d o : Bool) → (c == backslash) ≡ b →
     (c == double_quote) ≡ d → (c == dollar) ≡ o → ValueLater dialect cs →
-    IsValueRead dialect (base double_quoted) (c ∷ cs) (read_after (elim b [
-      | true ↦ Some (escaping double_quoted, [])
-      | false ↦
-          elim d [
-            | true ↦ Some (base unquoted, [])
-            | false ↦
-                elim o [
-                  | true ↦ Some (naming double_quoted [], [])
-                  | false ↦ Some (base double_quoted, Text (c ∷ []) ∷ [])
-                ]
-          ]
-    ]) (λ n. read_value dialect cs n))
+    IsValueRead dialect (base double_quoted) (c ∷ cs)
+    (read_after (goes_inside b d o c) (λ n. read_value dialect cs n))
 inside_step dialect c cs true d o hb hd ho later =
     rw (same_from c backslash hb) (from_escaping dialect double_quoted cs
     (read_value dialect cs (escaping double_quoted))

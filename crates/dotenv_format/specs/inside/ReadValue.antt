@@ -65,42 +65,30 @@ value_at_end (naming double_quoted name) = None
 value_at_end (bracing q name) = None
 value_at_end (in_single inner) = None
 
+-- where a character leads outside quotes, by the first of the tests that it passes: backslash,
+-- single quote, double quote, dollar, blank
+abbrev pub goes_outside : (b s d o t : Bool) → ℕ → ValueStep
+goes_outside true s d o t c = Some (escaping unquoted, [])
+goes_outside false true d o t c = Some (in_single [], [])
+goes_outside false false true o t c = Some (base double_quoted, [])
+goes_outside false false false true t c = Some (naming unquoted [], [])
+goes_outside false false false false true c = Some (in_tail, [])
+goes_outside false false false false false c = Some (base unquoted, Text (c ∷ []) ∷ [])
+
+-- where a character leads in double quotes, by the first of the tests that it passes: backslash,
+-- double quote, dollar
+abbrev pub goes_inside : (b d o : Bool) → ℕ → ValueStep
+goes_inside true d o c = Some (escaping double_quoted, [])
+goes_inside false true o c = Some (base unquoted, [])
+goes_inside false false true c = Some (naming double_quoted [], [])
+goes_inside false false false c = Some (base double_quoted, Text (c ∷ []) ∷ [])
+
 -- where a character leads where a part may begin, and the pieces that it completes
 abbrev pub goes_base : Quoting → ℕ → ValueStep
 goes_base unquoted c =
-    elim (c == backslash) [
-      | true ↦ Some (escaping unquoted, [])
-      | false ↦
-          elim (c == single_quote) [
-            | true ↦ Some (in_single [], [])
-            | false ↦
-                elim (c == double_quote) [
-                  | true ↦ Some (base double_quoted, [])
-                  | false ↦
-                      elim (c == dollar) [
-                        | true ↦ Some (naming unquoted [], [])
-                        | false ↦
-                            elim (is_space_or_tab c) [
-                              | true ↦ Some (in_tail, [])
-                              | false ↦ Some (base unquoted, Text (c ∷ []) ∷ [])
-                            ]
-                      ]
-                ]
-          ]
-    ]
-goes_base double_quoted c =
-    elim (c == backslash) [
-      | true ↦ Some (escaping double_quoted, [])
-      | false ↦
-          elim (c == double_quote) [
-            | true ↦ Some (base unquoted, [])
-            | false ↦
-                elim (c == dollar) [
-                  | true ↦ Some (naming double_quoted [], [])
-                  | false ↦ Some (base double_quoted, Text (c ∷ []) ∷ [])
-                ]
-          ]
-    ]
+    goes_outside (c == backslash) (c == single_quote) (c == double_quote) (c == dollar)
+    (is_space_or_tab c) c
+goes_base double_quoted c = goes_inside (c == backslash) (c == double_quote) (c == dollar) c
 
 -- pieces before those that a step completes
 abbrev pub with_pieces : List Piece → ValueStep → ValueStep
