@@ -172,23 +172,21 @@ cut_bytes : (cs : List ℕ) → AreCut (map Some (physical_lines cs))
 cut_bytes [] = tt
 cut_bytes (c ∷ cs) = cut_with_one_more c (physical_lines cs) (c == 10) refl (cut_bytes cs)
 
--- some bytes are a line with its line feed just where they are with bytes without one before them
-skip_whole : (bs : List ℕ) (d : ℕ) (ds : List ℕ) → no_line_feed bs ≡ true →
-    is_whole_line (bs ++ d ∷ ds) ≡ is_whole_line (d ∷ ds)
-skip_whole [] d ds h = refl
-skip_whole (b ∷ []) d ds h = ap (λ t. t && is_whole_line (d ∷ ds)) (and_left (not (b == 10)) true h)
-skip_whole (b ∷ c ∷ bs) d ds h =
-    ap (λ t. t && is_whole_line ((c ∷ bs) ++ d ∷ ds)) (and_left (not (b == 10)) (no_line_feed (c ∷ bs)) h)
-    ∙ skip_whole (c ∷ bs) d ds (and_right (not (b == 10)) (no_line_feed (c ∷ bs)) h)
+-- a test of one line: no line feed stands before the last character, and the bytes of that one pass as it does itself
+record IsLineTest (test : List ℕ → Bool) : Type 0 where
+  before : (c d : ℕ) (cs : List ℕ) → test (c ∷ d ∷ cs) ≡ (not (c == 10) && test (d ∷ cs))
+  at_end : (c : ℕ) (b : Bool) → (c == 10) ≡ b → test (encode c ++ []) ≡ test (c ∷ [])
 
--- some bytes are one line, ended or not, just where they are with bytes without a line feed before them
-skip_last : (bs : List ℕ) (d : ℕ) (ds : List ℕ) → no_line_feed bs ≡ true →
-    is_last_line (bs ++ d ∷ ds) ≡ is_last_line (d ∷ ds)
-skip_last [] d ds h = refl
-skip_last (b ∷ []) d ds h = ap (λ t. t && is_last_line (d ∷ ds)) (and_left (not (b == 10)) true h)
-skip_last (b ∷ c ∷ bs) d ds h =
-    ap (λ t. t && is_last_line ((c ∷ bs) ++ d ∷ ds)) (and_left (not (b == 10)) (no_line_feed (c ∷ bs)) h)
-    ∙ skip_last (c ∷ bs) d ds (and_right (not (b == 10)) (no_line_feed (c ∷ bs)) h)
+-- what is tested behind bytes without a line feed passes just where it passes alone
+skip_line : (test : List ℕ → Bool) → ((c d : ℕ) (cs : List ℕ) → test (c ∷ d ∷ cs) ≡ (not (c == 10) && test (d ∷ cs))) →
+    (bs : List ℕ) (d : ℕ) (ds : List ℕ) → no_line_feed bs ≡ true → test (bs ++ d ∷ ds) ≡ test (d ∷ ds)
+skip_line test before [] d ds h = refl
+skip_line test before (b ∷ []) d ds h =
+    before b d ds ∙ ap (λ t. t && test (d ∷ ds)) (and_left (not (b == 10)) true h)
+skip_line test before (b ∷ c ∷ bs) d ds h =
+    before b c (bs ++ d ∷ ds)
+    ∙ ap (λ t. t && test ((c ∷ bs) ++ d ∷ ds)) (and_left (not (b == 10)) (no_line_feed (c ∷ bs)) h)
+    ∙ skip_line test before (c ∷ bs) d ds (and_right (not (b == 10)) (no_line_feed (c ∷ bs)) h)
 
 -- bytes without a line feed are not one line with its line feed
 no_whole : (b : ℕ) (bs : List ℕ) → no_line_feed (b ∷ bs) ≡ true → is_whole_line (b ∷ bs) ≡ false
@@ -226,30 +224,13 @@ pub ten : (c : ℕ) (more : List ℕ) → (c == 10) ≡ true → encode c ++ mor
 ten c more h = ap (λ d. encode d ++ more) (same_from c 10 h) ∙ ap (λ e. e ++ more) (encode_ascii 10 (omega arith))
 
 -- the bytes of one character are a line with its line feed just where it is a line feed
-one_char_whole : (c : ℕ) (b : Bool) → (c == 10) ≡ b → is_whole_line (encode c ++ []) ≡ b
-one_char_whole c true h = ap is_whole_line (ten c [] h)
+one_char_whole : (c : ℕ) (b : Bool) → (c == 10) ≡ b → is_whole_line (encode c ++ []) ≡ (c == 10)
+one_char_whole c true h = ap is_whole_line (ten c [] h) ∙ sym h
 one_char_whole c false h =
     let s = spelled c h in
     ap is_whole_line (append-nil (encode c) ∙ s.is)
     ∙ no_whole s.first s.others (ap no_line_feed (sym s.is) ∙ s.none)
-
--- a character's bytes and some more are a whole line just where it is no line feed and those are a whole line
-more_whole : (c : ℕ) (xs : List ℕ) (w b : Bool) → (c == 10) ≡ b → IsSpelled xs → is_whole_line xs ≡ w →
-    is_whole_line (encode c ++ xs) ≡ (not b && w)
-more_whole c xs w true h s e = ap is_whole_line (ten c xs h ∙ ap (λ t. 10 ∷ t) s.is)
-more_whole c xs w false h s e =
-    ap (λ t. is_whole_line (encode c ++ t)) s.is
-    ∙ skip_whole (encode c) s.first s.others (let t = spelled c h in t.none)
-    ∙ ap is_whole_line (sym s.is)
-    ∙ e
-
--- a text is one line with its line feed by its bytes just where it is by its characters
-whole_same : (cs : List ℕ) → is_whole_line (encode_utf8_all cs) ≡ is_whole_line cs
-whole_same [] = refl
-whole_same (c ∷ []) = one_char_whole c (c == 10) refl
-whole_same (c ∷ d ∷ cs) =
-    more_whole c (encode_utf8_all (d ∷ cs)) (is_whole_line (d ∷ cs)) (c == 10) refl
-    (encode_some d (encode_utf8_all cs) (d == 10) refl) (whole_same (d ∷ cs))
+    ∙ sym h
 
 -- the bytes of one character are one line, which may lack its line feed
 one_char_last : (c : ℕ) (b : Bool) → (c == 10) ≡ b → is_last_line (encode c ++ []) ≡ true
@@ -258,33 +239,39 @@ one_char_last c false h =
     let s = spelled c h in
     ap is_last_line (append-nil (encode c) ∙ s.is) ∙ one_last s.first s.others (ap no_line_feed (sym s.is) ∙ s.none)
 
--- a character's bytes and some more are one line, ended or not, just where it is no line feed and those are
-more_last : (c : ℕ) (xs : List ℕ) (w b : Bool) → (c == 10) ≡ b → IsSpelled xs → is_last_line xs ≡ w →
-    is_last_line (encode c ++ xs) ≡ (not b && w)
-more_last c xs w true h s e = ap is_last_line (ten c xs h ∙ ap (λ t. 10 ∷ t) s.is)
-more_last c xs w false h s e =
-    ap (λ t. is_last_line (encode c ++ t)) s.is
-    ∙ skip_last (encode c) s.first s.others (let t = spelled c h in t.none)
-    ∙ ap is_last_line (sym s.is)
-    ∙ e
+-- a character's bytes and some more pass just where it is no line feed and those pass
+more_tested : (test : List ℕ → Bool) → IsLineTest test → (c : ℕ) (xs : List ℕ) (b : Bool) → (c == 10) ≡ b →
+    IsSpelled xs → test (encode c ++ xs) ≡ (not b && test xs)
+more_tested test is c xs true h s =
+    ap test (ten c xs h ∙ ap (λ t. 10 ∷ t) s.is) ∙ is.before 10 s.first s.others
+more_tested test is c xs false h s =
+    ap (λ t. test (encode c ++ t)) s.is
+    ∙ skip_line test is.before (encode c) s.first s.others (let t = spelled c h in t.none)
+    ∙ ap test (sym s.is)
 
--- a text is one line, which may lack its line feed, by its bytes just where it is by its characters
-last_same : (cs : List ℕ) → is_last_line (encode_utf8_all cs) ≡ is_last_line cs
-last_same [] = refl
-last_same (c ∷ []) = one_char_last c (c == 10) refl
-last_same (c ∷ d ∷ cs) =
-    more_last c (encode_utf8_all (d ∷ cs)) (is_last_line (d ∷ cs)) (c == 10) refl
-    (encode_some d (encode_utf8_all cs) (d == 10) refl) (last_same (d ∷ cs))
+-- a text passes by its bytes just where it does by its characters
+same_tested : (test : List ℕ → Bool) → IsLineTest test → (cs : List ℕ) → test (encode_utf8_all cs) ≡ test cs
+same_tested test is [] = refl
+same_tested test is (c ∷ []) = is.at_end c (c == 10) refl
+same_tested test is (c ∷ d ∷ cs) =
+    more_tested test is c (encode_utf8_all (d ∷ cs)) (c == 10) refl
+    (encode_some d (encode_utf8_all cs) (d == 10) refl)
+    ∙ ap (λ t. not (c == 10) && t) (same_tested test is (d ∷ cs))
+    ∙ sym (is.before c d cs)
+
+-- where bytes are a text and pass, their characters pass
+tested_chars : (test : List ℕ → Bool) → IsLineTest test → (line : List ℕ) → is_utf8 line ≡ true → test line ≡ true →
+    test (chars line) ≡ true
+tested_chars test is line u h =
+    sym (same_tested test is (chars line)) ∙ ap test (encodes-chars line (IsUtf8-from_is_utf8 line u)) ∙ h
 
 -- where bytes are a text and a line with its line feed, their characters are such a line
 pub whole_chars : (line : List ℕ) → is_utf8 line ≡ true → is_whole_line line ≡ true → is_whole_line (chars line) ≡ true
-whole_chars line u h =
-    sym (whole_same (chars line)) ∙ ap is_whole_line (encodes-chars line (IsUtf8-from_is_utf8 line u)) ∙ h
+whole_chars = tested_chars is_whole_line (record { before = λ c d cs. refl; at_end = one_char_whole })
 
 -- where bytes are a text and one line, which may lack its line feed, their characters are one line
 last_chars : (line : List ℕ) → is_utf8 line ≡ true → is_last_line line ≡ true → is_last_line (chars line) ≡ true
-last_chars line u h =
-    sym (last_same (chars line)) ∙ ap is_last_line (encodes-chars line (IsUtf8-from_is_utf8 line u)) ∙ h
+last_chars = tested_chars is_last_line (record { before = λ c d cs. refl; at_end = one_char_last })
 
 -- one line, which may lack its line feed, may stand last, as a text or as a broken line
 last_cut : (line : List ℕ) (b : Bool) → is_utf8 line ≡ b → is_last_line line ≡ true →
