@@ -173,11 +173,30 @@ at_after_key key (c ∷ cs) = at (is_whitespace c) (c == equals_sign) refl refl 
         (white_after_key key c h) later
     at false e h k later = here (c == equals_sign) h refl
 
+-- within a key, a character that continues it is taken, and before another the key is what was taken so far
+key_goes : (first : Bool) (after : List ℕ → List ℕ → Parsed) (acc : List ℕ) (c : ℕ) (cs : List ℕ) (k : Bool) →
+    continues_key c ≡ k →
+    (continues_key c ≡ false → Matches (in_key first acc) (c ∷ cs) (after acc (skip_leading_whitespace (c ∷ cs)))) →
+    Matches (in_key first (acc ++ c ∷ [])) cs
+    (after ((acc ++ c ∷ []) ++ key_run cs) (skip_leading_whitespace (key_left cs))) →
+    Matches (in_key first acc) (c ∷ cs)
+    (after (acc ++ cond k (c ∷ key_run cs) []) (skip_leading_whitespace (cond k (key_left cs) (c ∷ cs))))
+key_goes first after acc c cs true h ends later =
+    go (in_key first acc) c cs (in_key first (acc ++ c ∷ []))
+    (after (acc ++ c ∷ key_run cs) (skip_leading_whitespace (key_left cs))) tt (when_true _ _ (continues_key c) h)
+    (subst (λ key. Matches (in_key first (acc ++ c ∷ [])) cs (after key (skip_leading_whitespace (key_left cs))))
+    (append_assoc acc (c ∷ []) (key_run cs)) later)
+key_goes first after acc c cs false h ends later =
+    subst (λ key. Matches (in_key first acc) (c ∷ cs) (after key (skip_leading_whitespace (c ∷ cs))))
+    (sym (append-nil acc)) (ends h)
+
 -- within a key after a prefix, taking its other characters and expecting `=` is reading on from there
 at_second : (acc cs : List ℕ) →
     Matches (in_key false acc) cs (after_plain_key (acc ++ key_run cs) (skip_leading_whitespace (key_left cs)))
 at_second acc [] = end (in_key false acc) tt
-at_second acc (c ∷ cs) = at (continues_key c) refl (at_second (acc ++ c ∷ []) cs)
+at_second acc (c ∷ cs) =
+    key_goes false after_plain_key acc c cs (continues_key c) refl (λ h. here (is_whitespace c) h refl)
+    (at_second (acc ++ c ∷ []) cs)
   where
     equals : (e : Bool) → continues_key c ≡ false → is_whitespace c ≡ false → (c == equals_sign) ≡ e →
         Matches (in_key false acc) (c ∷ cs) (cond e (after_equals acc cs) (fails (c ∷ cs)))
@@ -196,22 +215,6 @@ at_second acc (c ∷ cs) = at (continues_key c) refl (at_second (acc ++ c ∷ []
         ∙ when_false _ _ (c == equals_sign) (white_no_equals c w)
         ∙ when_true _ _ (is_whitespace c) w) (at_after_key acc cs)
     here false h w = equals (c == equals_sign) h w refl
-
-    at : (k : Bool) → continues_key c ≡ k →
-        Matches (in_key false (acc ++ c ∷ [])) cs
-        (after_plain_key ((acc ++ c ∷ []) ++ key_run cs) (skip_leading_whitespace (key_left cs))) →
-        Matches (in_key false acc) (c ∷ cs) (after_plain_key (acc ++ cond k (c ∷ key_run cs) [])
-        (skip_leading_whitespace (cond k (key_left cs) (c ∷ cs))))
-    at true h later =
-        go (in_key false acc) c cs (in_key false (acc ++ c ∷ []))
-        (after_plain_key (acc ++ c ∷ key_run cs) (skip_leading_whitespace (key_left cs))) tt
-        (when_true _ _ (continues_key c) h) (subst
-        (λ key.
-        Matches (in_key false (acc ++ c ∷ [])) cs (after_plain_key key (skip_leading_whitespace (key_left cs))))
-        (append_assoc acc (c ∷ []) (key_run cs)) later)
-    at false h later =
-        subst (λ key. Matches (in_key false acc) (c ∷ cs) (after_plain_key key (skip_leading_whitespace (c ∷ cs))))
-        (sym (append-nil acc)) (here (is_whitespace c) h refl)
 
 -- what may follow `export` and white space: `=`, which makes `export` the key, or else a second key
 abbrev after_prefix : List ℕ → Parsed
@@ -264,7 +267,9 @@ at_first acc [] = at (bytes_eq (acc ++ []) export)
     at : (x : Bool) → Matches (in_key true acc) [] (cond x (fails []) (fails []))
     at true = end (in_key true acc) tt
     at false = end (in_key true acc) tt
-at_first acc (c ∷ cs) = at (continues_key c) refl (at_first (acc ++ c ∷ []) cs)
+at_first acc (c ∷ cs) =
+    key_goes true after_first_key acc c cs (continues_key c) refl (λ h. here (is_whitespace c) h refl)
+    (at_first (acc ++ c ∷ []) cs)
   where
     stops : continues_key c ≡ false → is_whitespace c ≡ false → (c == equals_sign) ≡ false →
         Matches (in_key true acc) (c ∷ cs) (fails (c ∷ cs))
@@ -322,22 +327,6 @@ at_first acc (c ∷ cs) = at (continues_key c) refl (at_first (acc ++ c ∷ []) 
         Matches (in_key true acc) (c ∷ cs) (after_first_key acc (cond w (skip_leading_whitespace cs) (c ∷ cs)))
     here true h w = word (bytes_eq acc export) refl h w
     here false h w = equals (c == equals_sign) (bytes_eq acc export) h w refl
-
-    at : (k : Bool) → continues_key c ≡ k →
-        Matches (in_key true (acc ++ c ∷ [])) cs
-        (after_first_key ((acc ++ c ∷ []) ++ key_run cs) (skip_leading_whitespace (key_left cs))) →
-        Matches (in_key true acc) (c ∷ cs) (after_first_key (acc ++ cond k (c ∷ key_run cs) [])
-        (skip_leading_whitespace (cond k (key_left cs) (c ∷ cs))))
-    at true h later =
-        go (in_key true acc) c cs (in_key true (acc ++ c ∷ []))
-        (after_first_key (acc ++ c ∷ key_run cs) (skip_leading_whitespace (key_left cs))) tt
-        (when_true _ _ (continues_key c) h) (subst
-        (λ key.
-        Matches (in_key true (acc ++ c ∷ [])) cs (after_first_key key (skip_leading_whitespace (key_left cs))))
-        (append_assoc acc (c ∷ []) (key_run cs)) later)
-    at false h later =
-        subst (λ key. Matches (in_key true acc) (c ∷ cs) (after_first_key key (skip_leading_whitespace (c ∷ cs))))
-        (sym (append-nil acc)) (here (is_whitespace c) h refl)
 
 -- what is parsed of a line is what is read from its start
 pub parse-is : (line : List ℕ) → Matches start line (parse line)
