@@ -6,6 +6,7 @@ use Rattle.std.specs.Str.{chars, encode_utf8_all, IsUtf8}
 use Rattle.std.specs.FinMap as fin
 use Rattle.std.specs.Ordering.{nat_cmp}
 use Rattle.std.specs.Cmp.Lexicographic.{slice_cmp}
+use Rattle.std.specs.Option.{option_flatten}
 use Rattle.std.proofs.lemmas.Bool.{true≢false}
 use Rattle.std.proofs.lemmas.Str.{encodes-chars, encodes_same}
 use Rattle.std.specs.declared.io.ErrorKind.{ErrorKind}
@@ -13,7 +14,7 @@ use Rattle.dotenv_format.specs.declared.dialect.Dialect.{Dialect}
 use Rattle.dotenv_base.specs.declared.errors.Error.{Error}
 use Rattle.dotenv_format.specs.Statement.{is_key}
 use Rattle.dotenv_base.specs.Errors.{IsMemory, IsMemoryErr}
-use Rattle.dotenv_format.specs.Entries.{Failure}
+use Rattle.dotenv_format.specs.Entries.{Entry, Failure}
 use Rattle.dotenv_format.specs.Run.{Keep, Loaded}
 use Rattle.dotenv_format.proofs.loads.LoadLaws.{run-keep}
 use Rattle.dotenv_format.specs.Items.{LookUp, no_values}
@@ -32,7 +33,7 @@ use Rattle.dotenv_base.specs.Environment.{AreTexts}
 use Rattle.dotenvy.specs.Listed.{pairs_of, Lists, WritesLoaded}
 use Rattle.dotenvy.specs.Laws.{HoldsLoaded, ListsByRule, ListsLoaded, ListsValues}
 use Rattle.dotenvy.proofs.LoadSteps.{fresh_load, refused_by}
-use Rattle.dotenvy.proofs.WholeLoads.{load_takes_all}
+use Rattle.dotenvy.proofs.WholeLoads.{fresh_takes_all, load_takes_all}
 use Rattle.dotenv_lines.specs.Reading.{told_fault}
 
 -- memory that is refused before the load is as refused at its start: it is the answer, and the sink is as it was
@@ -59,6 +60,18 @@ first_load rule ahead calls dialect s old new answer same empty loads =
 -- in an empty environment every name is absent
 empty_values : values_of fin.empty ≡ no_values
 empty_values = λ i name. ap (option_map chars) (fin.get-empty (slice_cmp nat_cmp) (encode_utf8_all name)) i
+
+-- where nothing is remembered, no name has a remembered text
+empty_recalled : recalled_of fin.empty ≡ no_values
+empty_recalled =
+    λ i name. ap (λ o. option_map chars (option_flatten o)) (fin.get-empty (slice_cmp nat_cmp)
+    (encode_utf8_all name)) i
+
+-- a load into an empty environment, where nothing is remembered, is one over no values
+empty_rule : (read : List Entry) →
+    load_result (values_of fin.empty) (recalled_of fin.empty) read ≡ load_result no_values no_values read
+empty_rule read = ap (λ look. load_result look (recalled_of fin.empty) read) empty_values
+    ∙ ap (λ look. load_result no_values look read) empty_recalled
 
 -- a value that is a text, if there is one, is spelled by the bytes of its own characters
 text_again : (o : Option (List ℕ)) → ((text : List ℕ) → o ≡ Some text → IsUtf8 text) →
@@ -129,12 +142,17 @@ load_not_refused held last_fault calls old new names (Ok done) answer writes not
 load_not_refused held last_fault calls old new names (Err e) answer writes not_refused =
     subst (λ r. ¬ (IsMemoryErr r)) writes.0 not_refused
 
--- a listing that was not refused memory is that of what the rule of a load leaves, of all that is left
+-- a listing by a fresh iterator, not refused memory, is that of what the rule of a load leaves of all that is told
 pub lists_by_rule : {A W : Type 0} → ListsByRule A W
-lists_by_rule {A = A} = λ s a held last_fault calls old new answer entries can has lists not_refused.
+lists_by_rule {A = A} =
+    λ dialect a reads held last_fault calls old new answer entries can has lists not_refused.
+    let left =
+    fresh_takes_all load_result dialect a fin.empty lists.0 lists.1 entries load_takes_all can has
+    (record {
+      calls = reads;
+      loads = lists.2;
+      not_refused = load_not_refused held last_fault calls old new lists.0 lists.1 answer lists.3 not_refused;
+    }) in
     listed_loaded held last_fault calls old new _ lists.0 lists.1 answer
-    (subst (λ look. Leaves {A = A} (load_result look (recalled_of s.remembered) (entries ++ told_fault a.fault))
-    lists.0 lists.1) empty_values
-    (load_takes_all {A = A} s a fin.empty lists.0 lists.1 entries can has lists.2
-    (load_not_refused held last_fault calls old new lists.0 lists.1 answer lists.3 not_refused)))
+    (subst (λ loaded. Leaves {A = A} loaded lists.0 lists.1) (empty_rule (entries ++ told_fault a.fault)) left)
     lists.3

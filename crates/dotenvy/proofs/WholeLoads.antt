@@ -154,7 +154,7 @@ pub override_takes_all : {A : Type 0} → LoadsAllLeft override_result A
 override_takes_all = loads_all override_result override_stops
 
 -- a load by a fresh iterator that can read all, by such a rule, is the load of all that its source tells
-fresh_takes_all : {A : Type 0} (rule : Rule) (dialect : Dialect) (a : Ahead) (old new : Texts)
+pub fresh_takes_all : {A : Type 0} (rule : Rule) (dialect : Dialect) (a : Ahead) (old new : Texts)
     (answer : Result (Unit {0}) (Error A)) (entries : List Entry) → LoadsAllLeft rule A → IsReadable a →
     HasLeft dialect a.fault (without_mark a.bytes) entries → LoadsFresh rule dialect a old answer new →
     Leaves (rule (values_of old) (recalled_of empty) (entries ++ told_fault a.fault)) new answer
