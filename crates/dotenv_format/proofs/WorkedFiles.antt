@@ -1,6 +1,7 @@
 -- Worked files.
 use Rattle.std.proofs.Common.{◌≡◌, ℕ, List, refl, subst, arith, length}
 use Rattle.std.specs.List.{flat_map}
+use Rattle.std.specs.Prelude.{codes}
 use Rattle.std.specs.Str.{is_utf8, chars}
 use Rattle.unicode.proofs.DerivedComputing.{ucd_derived}
 use Rattle.unicode.proofs.CategoryComputing.{ucd_category}
@@ -14,6 +15,7 @@ use Rattle.dotenv_format.specs.WorkedFiles.{
   HaveLines,
   HaveStatements,
   HaveValues,
+  HaveOpenQuotes,
   HaveDialects,
   HaveMarks,
   HaveWritten,
@@ -21,6 +23,7 @@ use Rattle.dotenv_format.specs.WorkedFiles.{
 }
 use Rattle.dotenv_format.specs.WorkedLoads.{HaveRepeats, HaveNuls}
 use Rattle.dotenv_format.specs.Decided.{up_to_last_line_feed, without_open_end, HasDecided}
+use Rattle.dotenv_format.proofs.statements.Outcomes.{outcome_of-is}
 use Rattle.dotenv_format.proofs.lines.EntriesOnce.{cut_line_texts}
 use Rattle.dotenv_format.proofs.lines.NextEntries.{
   lines_of,
@@ -89,6 +92,18 @@ values = (
   computed V15 _ _ refl,
   computed V15 _ _ refl,
   computed V15 _ _ refl,
+)
+
+-- the worked lines with an open quote: faults of values that lack their end, and quotes behind names
+pub open_quotes : HaveOpenQuotes
+unfolding is_name_character ucd_derived ucd_category encode is_utf8 chars
+open_quotes = (
+  outcome_of-is V15 (codes "KEY3='please stop''"),
+  outcome_of-is V15 (codes "KEY=é\"é"),
+  outcome_of-is V15 (codes "KEY=é'é"),
+  outcome_of-is V15 (codes "KEY=\"é\\"),
+  outcome_of-is Next (codes "F=$A\""),
+  outcome_of-is Next (codes "E=\"$\"x"),
 )
 
 -- the worked files of dialects: what a file says in each of the two

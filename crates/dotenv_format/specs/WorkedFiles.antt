@@ -4,6 +4,7 @@ use Rattle.std.specs.Prelude.{◌≡◌, ℕ, List, [], ◌∷◌, ◌++◌, cod
 use Rattle.std.specs.declared.io.ErrorKind.TheVariants.{InvalidData}
 use Rattle.dotenv_format.specs.declared.dialect.Dialect.TheVariants.{V15, Next}
 use Rattle.dotenv_format.specs.Value.{Piece, Text, Name}
+use Rattle.dotenv_format.specs.Outcome.{Says, Pair, Fault}
 use Rattle.dotenv_format.specs.Entries.{Entry, Declares, Fails, LineParse, Io, HasEntries}
 use Rattle.dotenv_format.specs.Marks.{without_mark}
 use Rattle.dotenv_format.specs.Written.{written_pair}
@@ -124,6 +125,18 @@ HaveValues =
     ∷ declares "E" (name_of "A" ∷ text_piece " " ∷ text_piece "b" ∷ [])
     ∷ fault_in "${A" 2
     ∷ [])
+
+-- lines with a quote that is open at their end, which no file has: a value that lacks its end, or a quote that a name takes
+abbrev pub HaveOpenQuotes : Type 0
+HaveOpenQuotes =
+    Says V15 (codes "KEY3='please stop''") (Fault (codes "'please stop''") 13)
+    -- the index is the number of bytes less one
+    × Says V15 (codes "KEY=é\"é") (Fault (codes "é\"é") 4)
+    × Says V15 (codes "KEY=é'é") (Fault (codes "é'é") 4)
+    × Says V15 (codes "KEY=\"é\\") (Fault (codes "\"é\\") 3)
+    -- outside quotes the quote behind a bare name is text, in double quotes it closes them
+    × Says Next (codes "F=$A\"") (Pair (codes "F") (name_of "A" ∷ text_piece "\"" ∷ []))
+    × Says Next (codes "E=\"$\"x") (Pair (codes "E") (name_of "" ∷ text_piece "x" ∷ []))
 
 -- one file under each dialect
 abbrev pub HaveDialects : Type 0

@@ -4,7 +4,7 @@
 //! examples of the definitions: docs/GRAMMAR.md has such examples for every rule.
 
 ghost use Rattle.dotenv_format.specs.Laws.{DecidesFront, HasOneDecision, HasOneMeaning, HasOneNext, HasOneOutcome, HasOneReading, LinesAreCut, LoadKeeps, LoadsInTurn, LoadsTwice, NamesDecideItems, OverridesDeclared, PlacesAreLongest, ReadsBack};
-ghost use Rattle.dotenv_format.specs.WorkedFiles.{HaveDecisions, HaveDialects, HaveLines, HaveMarks, HaveStatements, HaveValues, HaveWritten};
+ghost use Rattle.dotenv_format.specs.WorkedFiles.{HaveDecisions, HaveDialects, HaveLines, HaveMarks, HaveOpenQuotes, HaveStatements, HaveValues, HaveWritten};
 ghost use Rattle.dotenv_format.specs.WorkedLoads.{HaveNuls, HaveRepeats};
 
 /// The physical lines of any bytes are cut as physical lines are: each text ends with its line feed, but the last may lack it.
@@ -90,6 +90,11 @@ pub fn worked_statements()
 /// Worked files: values, and the places of faults in them.
 pub fn worked_values()
     ensures { HaveValues }
+{}
+
+/// Worked lines: quotes that are open at the end of a line.
+pub fn worked_open_quotes()
+    ensures { HaveOpenQuotes }
 {}
 
 /// Worked files: one file under each dialect.

@@ -394,6 +394,3 @@ pub fn from_read_iter<R: Source + Drop, A: Allocator + Clone>(
 {
     Iter::new(alloc, reader)
 }
-
-#[cfg(test)]
-mod tests;

@@ -210,6 +210,3 @@ pub(crate) fn parse_line<A: Allocator + Clone>(
     remember(remembered, remembered_key, remembered_value)?;
     Ok(Some((key, value)))
 }
-
-#[cfg(test)]
-mod tests;

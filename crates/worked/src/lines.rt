@@ -7,6 +7,7 @@ use std::fmt::Write;
 use std::io;
 use std::io::ErrorKind;
 use std::test::Fail;
+use support::reader::{Cut, PlayedReader, steps};
 
 // Gives its bytes in pieces, every second read interrupted, and then a fault, if it has one, or the end.
 #[derive(Drop)]
@@ -184,6 +185,18 @@ fn listed_by<R: Source + Drop>(alloc: Global, reader: R, reads: u64) -> Result<S
 fn the_bound_on_reads(rt: HostRuntime) -> std::result::Result<(), Fail> {
     for (reads, wanted) in [(1, "[A]<Other>"), (2, "[A][B]")] {
         let all = listed_by(rt.alloc(), Bytes::new(b"A\nB"), reads)?;
+        assert_eq!(rt; all.as_str(), wanted);
+    }
+    Ok(())
+}
+
+// So many bytes, one a read, as reads are allowed.
+#[test]
+fn three_reads(rt: HostRuntime) -> std::result::Result<(), Fail> {
+    let alloc = rt.alloc();
+    for (bytes, wanted) in [("A=1", "<Other>"), ("A=%0a", "[A=]<Other>")] {
+        let steps = steps(alloc, bytes)?;
+        let all = listed_by(alloc, PlayedReader::new(&steps, Cut::ByByte), 3)?;
         assert_eq!(rt; all.as_str(), wanted);
     }
     Ok(())
