@@ -1,14 +1,8 @@
 //! Runs a command in the environment that files give it, or lists that environment.
 #![tactic(auto)]
 
-mod command_line;
-mod failure;
-mod laws;
-mod run;
-mod start;
-
+use dotenv_command::run::run;
 use dotenvy::Plain;
-use run::run;
 use std::process::ExitCode;
 use std::rt::Env;
 use std::{env, io};

@@ -2,7 +2,8 @@
 
 use crate::answer::push_answer;
 use crate::{
-    cut, file, layers, notation, reads, refused, refused_call, scene, search, used, written,
+    command, cut, file, layers, notation, reads, refused, refused_call, scene, search, used,
+    written,
 };
 use anyhow::{Context, Result, bail};
 use comparison::{Comparison, differences};
@@ -35,6 +36,8 @@ fn play_library(
         "steps" => notation::play_steps(answers, fields),
         "files" => scene::play(answers, rt, fields),
         "process" => scene::play_process(answers, rt, fields),
+        "words" => command::play_words(answers, fields),
+        "run" => command::play_run(answers, rt, fields),
         "refused_call" => refused_call::play(answers, rt, fields),
         _ => bail!("no kind of row is called {kind}"),
     }

@@ -4,6 +4,7 @@
 
 mod answer;
 mod call;
+mod command;
 mod counts;
 mod cut;
 mod file;

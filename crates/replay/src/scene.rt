@@ -13,6 +13,7 @@ use std::path::PathBuf;
 use std::{env, fs};
 use support::answers::{fault, pairs};
 use support::notation::{bytes, kind, list, text};
+use support::process::Start;
 use support::system::PlayedSystem;
 
 /// Where calls on files are played: a folder of their own, which is the current directory, and a system that may fail.
@@ -75,8 +76,9 @@ impl Scene {
         )
     }
 
-    fn path(&self, name: &str) -> Result<PathBuf> {
-        Ok(self.folder.join(self.rt.alloc(), name)?)
+    fn path(&self, written: &str) -> Result<PathBuf> {
+        let name = text(self.rt.alloc(), written)?;
+        Ok(self.folder.join(self.rt.alloc(), name.as_str())?)
     }
 
     /// Plays a step on the folder or the system, and tells whether this was one.
@@ -93,10 +95,29 @@ impl Scene {
             "closed" => self.system.closed = Some(kind(name)?),
             "hidden" => self.system.hidden = Some((self.path(name)?.into_string(), kind(more)?)),
             "mended" => self.system = PlayedSystem::new(self.rt),
-            _ => return Ok(false),
+            "entry" => {
+                let entry = bytes(self.rt.alloc(), rest)?;
+                self.system.entries.push(entry)?;
+            }
+            _ => match start_of(word, name)? {
+                Some(start) => self.system.start = start,
+                None => return Ok(false),
+            },
         }
         Ok(true)
     }
+}
+
+// What becomes of a command, where the step says that.
+fn start_of(word: &str, name: &str) -> Result<Option<Start>> {
+    Ok(Some(match word {
+        "runs" => Start::Runs,
+        "exits" => Start::Ends(i32::from(name.parse::<u8>()?) * 256),
+        "killed" => Start::Ends(i32::from(name.parse::<u8>()?)),
+        "fails" => Start::Fails(kind(name)?),
+        "unseen" => Start::IsLost(kind(name)?),
+        _ => return Ok(None),
+    }))
 }
 
 /// The pairs of an environment, and `loaded` where its mark is set.

@@ -6,6 +6,7 @@ pub mod answers;
 pub mod environment;
 pub mod looks;
 pub mod notation;
+pub mod process;
 pub mod reader;
 pub mod system;
 pub mod telling;

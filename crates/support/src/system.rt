@@ -1,12 +1,16 @@
-//! A system that fails where a test wants it, in a current directory and with entries of the process that a test wants.
+//! A system that fails where a test wants it, in a current directory and with entries of the process that a test wants. It
+//! notes what is opened and started.
 
 ghost use Rattle.std.specs.Io.{WritesAtMost};
 
+use crate::process::{PlayedProcess, Start, described};
 use std::alloc::{Alloc, Allocator, Global};
+use std::cell::RefCell;
 use std::env::{Env, FillError};
 use std::fs::{File, Files, Metadata, OpenOptions};
-use std::io;
 use std::io::ErrorKind;
+use std::process::{Child, Command, Processes, Stdio};
+use std::{io, mem};
 
 /// The system of a test, which opens its files and looks at them. It has the current directory and the entries of the process
 /// that are given here.
@@ -23,10 +27,13 @@ pub struct PlayedSystem {
     pub hidden: Option<(String, ErrorKind)>,
     /// The entries of the process.
     pub entries: Vec<Vec<u8>>,
+    /// What becomes of a command.
+    pub start: Start,
+    notes: RefCell<Vec<String>>,
 }
 
 impl PlayedSystem {
-    /// Nothing fails, and the process has no entries.
+    /// Nothing fails, the process has no entries, and a command ends with the status 0.
     pub fn new(rt: HostRuntime) -> PlayedSystem {
         PlayedSystem {
             rt,
@@ -35,7 +42,44 @@ impl PlayedSystem {
             closed: None,
             hidden: None,
             entries: Vec::new(rt.alloc()),
+            start: Start::Ends(0),
+            notes: RefCell::new(Vec::new(rt.alloc())),
         }
+    }
+
+    /// The paths that were opened since the last call, and the commands that were started, as
+    /// `start [sh][-c][exit] A=[1] P=[0]`.
+    pub fn take_notes(&mut self) -> Vec<String> {
+        mem::replace(self.notes.get_mut(), Vec::new(self.rt.alloc()))
+    }
+
+    fn note(&self, text: String) -> io::Result<()> {
+        let Ok(mut notes) = self.notes.try_borrow_mut() else {
+            return Err(io::Error::from(ErrorKind::Other));
+        };
+        Ok(notes.push(text)?)
+    }
+}
+
+impl Processes for PlayedSystem {
+    type Started = PlayedProcess;
+
+    fn spawn<B: Allocator + Clone>(
+        &self,
+        command: &Command<B>,
+        stdin: &Stdio,
+        stdout: &Stdio,
+        stderr: &Stdio,
+    ) -> io::Result<Child<PlayedProcess>> {
+        let alloc = self.rt.alloc();
+        self.note(format!(in alloc; "start {}", described(alloc, command)?)?)?;
+        let process = match self.start {
+            Start::Runs => PlayedProcess::ended(self.rt.spawn(command, stdin, stdout, stderr)?),
+            Start::Ends(status) => PlayedProcess::with(status),
+            Start::Fails(kind) => return Err(io::Error::from(kind)),
+            Start::IsLost(kind) => PlayedProcess::lost(kind),
+        };
+        Ok(Child::from_parts(process, None, None, None))
     }
 }
 
@@ -92,6 +136,7 @@ impl Files for PlayedSystem {
     type Dir = File;
 
     fn open_file(&self, how: &OpenOptions, path: &str) -> io::Result<File> {
+        self.note(String::from_str(self.rt.alloc(), path)?)?;
         match self.closed {
             Some(kind) => Err(io::Error::from(kind)),
             None => self.rt.open_file(how, path),

@@ -7,6 +7,8 @@ mod environments;
 #[cfg(test)]
 mod errors;
 #[cfg(test)]
+mod failures;
+#[cfg(test)]
 mod faults_of_std;
 #[cfg(test)]
 mod first_use;

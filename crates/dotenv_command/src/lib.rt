@@ -1,0 +1,8 @@
+//! What the program `dotenvy_run` does: it runs a command in the environment that files give it, or lists that environment.
+#![tactic(auto)]
+
+pub mod command_line;
+pub mod failure;
+pub mod laws;
+pub mod run;
+mod start;
