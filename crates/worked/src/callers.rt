@@ -1,8 +1,10 @@
 //! Small callers, as users of the library write them: what the library gives they hand back to `set`, and need no test
 //! of their own for it.
 
+use crate::shown::{environment, pairs, vars_without_files};
 use dotenvy::{Bytes, Environment, Iter, Result, Vars, is_key};
 use std::alloc::Global;
+use std::test::Fail;
 
 /// The names of an environment with their values, in one of its own whose mark isn't set.
 pub fn copied(alloc: Global, environment: &Environment) -> Result<Environment> {
@@ -57,47 +59,56 @@ pub fn set_items(
     Ok(())
 }
 
-#[cfg(test)]
-mod tests {
-    use super::*;
-    use crate::shown::{environment, pairs};
-    use dotenvy::vars;
-    use std::io::ErrorKind;
-    use std::test::Fail;
-    use support::system::PlayedSystem;
+fn two_names(alloc: Global) -> std::result::Result<Environment, Fail> {
+    environment(alloc, &[("A", "1"), ("not a key", "")])
+}
 
-    #[test]
-    fn what_is_given_can_be_set(rt: HostRuntime) -> std::result::Result<(), Fail> {
-        let alloc = rt.alloc();
-        let two = environment(alloc, &[("A", "1"), ("not a key", "")])?;
-        let copy = copied(alloc, &two)?;
-        assert_eq!(rt; pairs(alloc, &copy)?.as_str(), "A=1; not a key=");
+#[test]
+fn names_can_be_copied(rt: HostRuntime) -> std::result::Result<(), Fail> {
+    let copy = copied(rt.alloc(), &two_names(rt.alloc())?)?;
+    assert_eq!(rt; pairs(rt.alloc(), &copy)?.as_str(), "A=1; not a key=");
+    Ok(())
+}
 
-        let mut set = environment(alloc, &[("A", "0"), ("B", "2")])?;
-        set_all(alloc, &mut set, &two)?;
-        assert_eq!(rt; pairs(alloc, &set)?.as_str(), "A=1; B=2; not a key=");
+#[test]
+fn names_of_another_environment_can_be_set(rt: HostRuntime) -> std::result::Result<(), Fail> {
+    let mut set = environment(rt.alloc(), &[("A", "0"), ("B", "2")])?;
+    set_all(rt.alloc(), &mut set, &two_names(rt.alloc())?)?;
+    assert_eq!(rt; pairs(rt.alloc(), &set)?.as_str(), "A=1; B=2; not a key=");
+    Ok(())
+}
 
-        let mut vars_set = Environment::new(alloc);
-        let mut system = PlayedSystem::new(rt);
-        system.lost = Some(ErrorKind::NotFound);
-        set_vars(&mut vars_set, vars(&system, &mut copied(alloc, &two)?)?)?;
-        assert_eq!(rt; pairs(alloc, &vars_set)?.as_str(), "A=1; not a key=");
-        Ok(())
+#[test]
+fn names_of_a_snapshot_can_be_set(rt: HostRuntime) -> std::result::Result<(), Fail> {
+    let vars = vars_without_files(rt, &mut two_names(rt.alloc())?)?;
+    let mut set = Environment::new(rt.alloc());
+    set_vars(&mut set, vars)?;
+    assert_eq!(rt; pairs(rt.alloc(), &set)?.as_str(), "A=1; not a key=");
+    Ok(())
+}
+
+// Whether the name was set, to 1.
+fn set_one(alloc: Global, environment: &mut Environment, name: &str) -> Result<bool> {
+    let name = String::from_str(alloc, name)?;
+    set_key(environment, name, String::from_str(alloc, "1")?)
+}
+
+#[test]
+fn keys_can_be_set(rt: HostRuntime) -> std::result::Result<(), Fail> {
+    let mut set = Environment::new(rt.alloc());
+    for (name, want) in [("A", true), ("not a key", false), ("", false)] {
+        let is_set = set_one(rt.alloc(), &mut set, name)?;
+        assert_eq!(rt; is_set, want, "{name}");
     }
+    assert_eq!(rt; pairs(rt.alloc(), &set)?.as_str(), "A=1");
+    Ok(())
+}
 
-    #[test]
-    fn keys_and_items_can_be_set(rt: HostRuntime) -> std::result::Result<(), Fail> {
-        let alloc = rt.alloc();
-        let mut set = Environment::new(alloc);
-        for (name, want) in [("A", true), ("not a key", false), ("", false)] {
-            let name = String::from_str(alloc, name)?;
-            assert_eq!(rt;
-                set_key(&mut set, name, String::from_str(alloc, "1")?)?,
-                want
-            );
-        }
-        set_items(alloc, &mut set, b"B=$A\nC=$B\n", &Environment::new(alloc))?;
-        assert_eq!(rt; pairs(alloc, &set)?.as_str(), "A=1; B=; C=");
-        Ok(())
-    }
+#[test]
+fn items_can_be_set(rt: HostRuntime) -> std::result::Result<(), Fail> {
+    let alloc = rt.alloc();
+    let mut set = environment(alloc, &[("A", "1")])?;
+    set_items(alloc, &mut set, b"B=$A\nC=$B\n", &Environment::new(alloc))?;
+    assert_eq!(rt; pairs(alloc, &set)?.as_str(), "A=1; B=; C=");
+    Ok(())
 }

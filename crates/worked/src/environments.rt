@@ -1,11 +1,10 @@
 //! Environments and their names.
 
-use crate::shown::{environment, pairs};
-use dotenvy::{Bytes, Dialect, Environment, Iter, is_key, is_name, vars};
-use std::io::ErrorKind;
+use crate::shown::{environment, pairs, vars_without_files};
+use dotenvy::{Bytes, Dialect, Environment, Iter, is_key, is_name};
+use std::alloc::{AllocError, Global};
 use std::test::Fail;
-use support::answers::answer;
-use support::system::PlayedSystem;
+use support::answers::{answer, next_item};
 
 #[test]
 fn pairs_that_are_passed_by(rt: HostRuntime) -> Result<(), Fail> {
@@ -28,22 +27,34 @@ fn pairs_that_are_passed_by(rt: HostRuntime) -> Result<(), Fail> {
     Ok(())
 }
 
+// What it answers to set `A` to the value, and the pairs then.
+fn set_a(alloc: Global, environment: &mut Environment, value: &str) -> Result<String, AllocError> {
+    let key = String::from_str(alloc, "A")?;
+    let set = environment.set(key, String::from_str(alloc, value)?);
+    let answer = answer(alloc, &set)?;
+    format!(in alloc; "{answer}: {}", pairs(alloc, environment)?)
+}
+
 #[test]
 fn names_are_set_and_replaced(rt: HostRuntime) -> Result<(), Fail> {
-    let alloc = rt.alloc();
-    let mut environment = Environment::new(alloc);
-    for (value, want, names) in [
-        ("x\0y", "nul A", ""),
-        ("1", "ok", "A=1"),
-        ("", "ok", "A="),
-        ("2", "ok", "A=2"),
-        ("\0", "nul A", "A=2"),
+    let mut environment = Environment::new(rt.alloc());
+    for (value, want) in [
+        ("x\0y", "nul A: "),
+        ("1", "ok: A=1"),
+        ("", "ok: A="),
+        ("2", "ok: A=2"),
+        ("\0", "nul A: A=2"),
     ] {
-        let key = String::from_str(alloc, "A")?;
-        let set = environment.set(key, String::from_str(alloc, value)?);
-        assert_eq!(rt; answer(alloc, &set)?.as_str(), want, "at {value:?}");
-        assert_eq!(rt; pairs(alloc, &environment)?.as_str(), names, "at {value:?}");
+        let got = set_a(rt.alloc(), &mut environment, value)?;
+        assert_eq!(rt; got.as_str(), want, "at {value:?}");
     }
+    Ok(())
+}
+
+#[test]
+fn names_that_were_set_are_there(rt: HostRuntime) -> Result<(), Fail> {
+    let mut environment = Environment::new(rt.alloc());
+    let _ = set_a(rt.alloc(), &mut environment, "2")?;
     assert!(rt; environment.len() == 1 && environment.contains("A"));
     assert!(rt; !environment.contains("B"));
     assert_eq!(rt; environment.get("A"), Some("2"));
@@ -55,7 +66,16 @@ fn names_are_set_and_replaced(rt: HostRuntime) -> Result<(), Fail> {
 fn equal_environments(rt: HostRuntime) -> Result<(), Fail> {
     let alloc = rt.alloc();
     let one = environment(alloc, &[("A", "1"), ("B", "")])?;
-    assert!(rt; one == one.try_clone()? && one == environment(alloc, &[("B", ""), ("A", "1")])?);
+    assert!(rt; one == one.try_clone()?);
+    assert!(rt; one == environment(alloc, &[("B", ""), ("A", "1")])?);
+    assert!(rt; Environment::new(alloc).is_empty() && !one.is_empty());
+    Ok(())
+}
+
+#[test]
+fn environments_that_differ(rt: HostRuntime) -> Result<(), Fail> {
+    let alloc = rt.alloc();
+    let one = environment(alloc, &[("A", "1"), ("B", "")])?;
     let others: [&[(&str, &str)]; 4] = [
         &[],
         &[("A", "1")],
@@ -65,12 +85,15 @@ fn equal_environments(rt: HostRuntime) -> Result<(), Fail> {
     for other in others {
         assert!(rt; one != environment(alloc, other)?, "at {other:?}");
     }
+    Ok(())
+}
+
+#[test]
+fn environments_whose_marks_differ(rt: HostRuntime) -> Result<(), Fail> {
+    let one = environment(rt.alloc(), &[("A", "1"), ("B", "")])?;
     let mut marked = one.try_clone()?;
-    let mut system = PlayedSystem::new(rt);
-    system.lost = Some(ErrorKind::NotFound);
-    let _ = vars(&system, &mut marked)?;
+    let _ = vars_without_files(rt, &mut marked)?;
     assert!(rt; marked.loaded() && marked != one);
-    assert!(rt; Environment::new(alloc).is_empty() && !one.is_empty());
     Ok(())
 }
 
@@ -116,11 +139,10 @@ fn keys_and_names(rt: HostRuntime) {
 fn another_environment_at_each_item(rt: HostRuntime) -> Result<(), Fail> {
     let alloc = rt.alloc();
     let mut entries = Iter::new(alloc, Bytes::new(b"A=$X\nB=$X\n"))?;
-    for want in [("A", "1"), ("B", "2")] {
-        let (_, value) = want;
+    for (value, want) in [("1", "A=1"), ("2", "B=2")] {
         let environment = environment(alloc, &[("X", value)])?;
-        let (key, text) = entries.next_item(&environment).ok_or("no item")??;
-        assert!(rt; (key.as_str(), text.as_str()) == want);
+        let item = next_item(alloc, &mut entries, &environment)?.ok_or("no item")?;
+        assert_eq!(rt; item.as_str(), want);
     }
     Ok(())
 }

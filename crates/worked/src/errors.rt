@@ -1,7 +1,7 @@
 //! What errors print, and which of them say that nothing was found.
 
 use dotenvy::{Bytes, Environment, Error, Iter, VarError};
-use std::alloc::AllocError;
+use std::alloc::{AllocError, Global};
 use std::io;
 use std::io::ErrorKind;
 use std::test::Fail;
@@ -49,6 +49,12 @@ fn texts(rt: HostRuntime) -> Result<(), Fail> {
     Ok(())
 }
 
+// What a fault at this place prints.
+fn printed_at(alloc: Global, index: usize) -> Result<String, AllocError> {
+    let error: Error = Error::LineParse(String::from_str(alloc, "a b")?, index);
+    error.to_string(alloc)
+}
+
 #[test]
 fn places_of_each_number_of_digits(rt: HostRuntime) -> Result<(), Fail> {
     let alloc = rt.alloc();
@@ -69,9 +75,8 @@ fn places_of_each_number_of_digits(rt: HostRuntime) -> Result<(), Fail> {
         (10_000_000_000_000_000_000, "10000000000000000000"),
         (usize::MAX, "18446744073709551615"),
     ] {
-        let error: Error = Error::LineParse(String::from_str(alloc, "a b")?, index);
         let want = format!(in alloc; "Error parsing line: 'a b', error at line index: {digits}")?;
-        assert_eq!(rt; error.to_string(alloc)?.as_str(), want.as_str());
+        assert_eq!(rt; printed_at(alloc, index)?.as_str(), want.as_str());
     }
     Ok(())
 }
@@ -89,15 +94,18 @@ fn a_fault_inside_prints_as_itself(rt: HostRuntime) -> Result<(), Fail> {
     Ok(())
 }
 
+// What the fault of the first line prints.
+fn first_fault(alloc: Global, bytes: &[u8]) -> Result<String, Fail> {
+    let mut entries = Iter::new(alloc, Bytes::new(bytes))?;
+    match entries.next_item(&Environment::new(alloc)) {
+        Some(Err(error)) => Ok(error.to_string(alloc)?),
+        _ => Err(Fail::from("no fault")),
+    }
+}
+
 #[test]
 fn a_line_that_is_no_text_says_so(rt: HostRuntime) -> Result<(), Fail> {
-    let alloc = rt.alloc();
-    let mut entries = Iter::new(alloc, Bytes::new(b"K=\xf0\x9f\x98"))?;
-    match entries.next_item(&Environment::new(alloc)) {
-        Some(Err(error)) => {
-            assert_eq!(rt; error.to_string(alloc)?.as_str(), "the line is not UTF-8");
-        }
-        _ => panic!(rt; "a broken line gives a pair"),
-    }
+    let printed = first_fault(rt.alloc(), b"K=\xf0\x9f\x98")?;
+    assert_eq!(rt; printed.as_str(), "the line is not UTF-8");
     Ok(())
 }

@@ -2,57 +2,78 @@
 
 use dotenv_command::failure::{Failure, Usage};
 use dotenvy::{Error, VarError};
-use std::alloc::AllocError;
+use std::alloc::{AllocError, Global};
 use std::io;
 use std::io::ErrorKind;
 use std::test::Fail;
 
+// What a refusal prints by itself and as a failure, with a semicolon between.
+fn printed(alloc: Global, usage: Usage) -> Result<String, AllocError> {
+    let text = usage.to_string(alloc)?;
+    format!(in alloc; "{text}; {}", Failure::Usage(usage))
+}
+
 #[test]
-fn texts_of_failures(rt: HostRuntime) -> Result<(), Fail> {
+fn texts_of_refused_words(rt: HostRuntime) -> Result<(), Fail> {
     let alloc = rt.alloc();
     let word = String::from_str(alloc, "-é 'x'")?;
-    let line = String::from_str(alloc, "\"$A\"")?;
-    let key = String::from_str(alloc, "A")?;
-    let refusals = [
+    for (usage, text) in [
         (Usage::MissingCommand, "missing required argument <COMMAND>"),
         (Usage::MissingFile, "missing value of <FILE>"),
         (Usage::UnknownOption(word), "unknown option '-é 'x''"),
         (Usage::Memory(AllocError), "out of memory"),
-    ];
-    for (usage, text) in refusals {
-        assert_eq!(rt; usage.to_string(alloc)?.as_str(), text);
-        let wanted = format!(in alloc; "error: {text}")?;
-        assert_eq!(rt;
-            Failure::Usage(usage).to_string(alloc)?.as_str(),
-            wanted.as_str()
-        );
+    ] {
+        let wanted = format!(in alloc; "{text}; error: {text}")?;
+        assert_eq!(rt; printed(alloc, usage)?.as_str(), wanted.as_str());
     }
-    let io_text = io::Error::from(ErrorKind::BrokenPipe).to_string(alloc)?;
-    let faults = [
+    Ok(())
+}
+
+#[test]
+fn texts_of_faults_of_a_load(rt: HostRuntime) -> Result<(), Fail> {
+    let alloc = rt.alloc();
+    let line = String::from_str(alloc, "\"$A\"")?;
+    let key = String::from_str(alloc, "A")?;
+    for (fault, text) in [
         (
             Error::LineParse(line, 3),
-            "Error parsing line: '\"$A\"', error at line index: 3",
-        ),
-        (
-            Error::Io(io::Error::from(ErrorKind::BrokenPipe)),
-            io_text.as_str(),
+            "error: failed to load environment: Error parsing line: '\"$A\"', error at line index: 3",
         ),
         (
             Error::EnvVar(VarError::NotPresent),
-            "environment variable not found",
+            "error: failed to load environment: environment variable not found",
         ),
-        (Error::Nul(key), "value of 'A' contains a NUL"),
-        (Error::Memory(AllocError), "out of memory"),
-    ];
-    for (fault, text) in faults {
-        let wanted = format!(in alloc; "error: failed to load environment: {text}")?;
-        assert_eq!(rt;
-            Failure::Load(fault).to_string(alloc)?.as_str(),
-            wanted.as_str()
-        );
+        (
+            Error::Nul(key),
+            "error: failed to load environment: value of 'A' contains a NUL",
+        ),
+        (
+            Error::Memory(AllocError),
+            "error: failed to load environment: out of memory",
+        ),
+    ] {
+        assert_eq!(rt; Failure::Load(fault).to_string(alloc)?.as_str(), text);
     }
-    let fault: Failure = Failure::Start(io::Error::from(ErrorKind::BrokenPipe));
-    let wanted = format!(in alloc; "fatal: {io_text}")?;
-    assert_eq!(rt; fault.to_string(alloc)?.as_str(), wanted.as_str());
+    Ok(())
+}
+
+#[test]
+fn texts_of_faults_of_the_system(rt: HostRuntime) -> Result<(), Fail> {
+    let alloc = rt.alloc();
+    let text = io::Error::from(ErrorKind::BrokenPipe).to_string(alloc)?;
+    let faults: [(Failure, &str); 2] = [
+        (
+            Failure::Load(Error::Io(io::Error::from(ErrorKind::BrokenPipe))),
+            "error: failed to load environment",
+        ),
+        (
+            Failure::Start(io::Error::from(ErrorKind::BrokenPipe)),
+            "fatal",
+        ),
+    ];
+    for (failure, beginning) in faults {
+        let wanted = format!(in alloc; "{beginning}: {text}")?;
+        assert_eq!(rt; failure.to_string(alloc)?.as_str(), wanted.as_str());
+    }
     Ok(())
 }

@@ -2,10 +2,11 @@
 //! kind, its text and its system code, and nothing more is asked of who failed.
 
 use crate::shown::pairs;
-use dotenvy::{Bytes, Environment, Error, Iter, Plain, Result, is_key};
+use dotenvy::{Bytes, Environment, Error, Iter, Plain, Result, Source, is_key};
 use std::alloc::{AllocError, Global};
 use std::io;
 use std::io::{ErrorKind, Read, Write};
+use std::process::Abort;
 use std::test::Fail;
 
 /// Gives the bytes before the fault, then the fault, once, and then the bytes after it.
@@ -132,12 +133,9 @@ fn stands_at_its_fault(source: Plain<FailingReader<'_>>) -> bool {
     reader.fault.is_none() && reader.after.len() == AFTER.len()
 }
 
-/// What ends the items of a reader that fails once after these bytes. Items before it must be
-/// pairs, and after it there must be none.
-fn last_item(alloc: Global, before: &[u8], fault: io::Error) -> std::result::Result<String, Fail> {
+/// How many pairs the items begin with, and what the fault behind them is.
+fn listed<S: Source>(alloc: Global, entries: &mut Iter<S>) -> std::result::Result<String, Fail> {
     let environment = Environment::new(alloc);
-    let mut source = failing(before, fault);
-    let mut entries = Iter::new(alloc, &mut source)?;
     let mut last = String::from_str(alloc, "no item")?;
     let mut pairs = 0u8;
     for item in entries.items(&environment) {
@@ -147,47 +145,92 @@ fn last_item(alloc: Global, before: &[u8], fault: io::Error) -> std::result::Res
             last = answered(alloc, item)?;
         }
     }
-    drop(entries);
-    let stands = stands_at_its_fault(source);
-    Ok(format!(in alloc; "{pairs} pairs, {last}, {stands}")?)
+    Ok(format!(in alloc; "{pairs} pairs, {last}")?)
 }
 
-#[test]
-fn a_fault_of_a_read_ends_the_items_as_it_is(rt: HostRuntime) -> std::result::Result<(), Fail> {
-    let alloc = rt.alloc();
-    for fault in faults() {
-        let told = played(alloc, fault)?;
-        let befores: [(&[u8], &str); 3] = [(b"", "0"), (b"A=1\n", "1"), (b"A=1\nB=", "1")];
-        for (before, pairs) in befores {
-            let want = format!(in alloc; "{pairs} pairs, {told}, true")?;
-            let got = last_item(alloc, before, fault)?;
-            assert_eq!(rt; got.as_str(), want.as_str(), "after {before:?}");
-        }
+/// What ends the items of a reader that fails once after these bytes, and whether it stands there.
+fn last_item(alloc: Global, before: &[u8], fault: io::Error) -> std::result::Result<String, Fail> {
+    let mut source = failing(before, fault);
+    let mut entries = Iter::new(alloc, &mut source)?;
+    let listed = listed(alloc, &mut entries)?;
+    drop(entries);
+    Ok(format!(in alloc; "{listed}, {}", stands_at_its_fault(source))?)
+}
+
+/// Sees what ends the items of readers that fail once.
+fn sees_last_items(
+    rt: &impl Abort,
+    alloc: Global,
+    fault: io::Error,
+) -> std::result::Result<(), Fail> {
+    let told = played(alloc, fault)?;
+    let befores: [(&[u8], &str); 3] = [(b"", "0"), (b"A=1\n", "1"), (b"A=1\nB=", "1")];
+    for (before, pairs) in befores {
+        let want = format!(in alloc; "{pairs} pairs, {told}, true")?;
+        let got = last_item(alloc, before, fault)?;
+        assert_eq!(rt; got.as_str(), want.as_str(), "after {before:?}");
     }
     Ok(())
 }
 
-/// What both loads and `list` answer over a reader that fails once after `A=1` and part of a
-/// line, and what they leave.
-fn calls_over(alloc: Global, fault: io::Error) -> std::result::Result<[String; 3], Fail> {
-    let before = b"A=1\nB=";
-    let mut kept = Environment::new(alloc);
-    let load = dotenvy::from_read(alloc, failing(before, fault), &mut kept);
-    let load = answered(alloc, load)?;
-    let left = pairs(alloc, &kept)?;
-    let mut replaced = Environment::new(alloc);
-    let load_override = dotenvy::from_read_override(alloc, failing(before, fault), &mut replaced);
-    let load_override = answered(alloc, load_override)?;
-    let left_by_override = pairs(alloc, &replaced)?;
+#[test]
+fn a_fault_of_a_read_ends_the_items_as_it_is(rt: HostRuntime) -> std::result::Result<(), Fail> {
+    for fault in faults() {
+        sees_last_items(&rt, rt.alloc(), fault)?;
+    }
+    Ok(())
+}
+
+/// A reader that fails once after `A=1` and part of a line.
+fn failing_in_a_line(fault: io::Error) -> Plain<FailingReader<'static>> {
+    failing(b"A=1\nB=", fault)
+}
+
+/// What a load answered, and what it left.
+fn left(
+    alloc: Global,
+    answer: Result<()>,
+    environment: &Environment,
+) -> std::result::Result<String, AllocError> {
+    let answer = answered(alloc, answer)?;
+    format!(in alloc; "{answer}: {}", pairs(alloc, environment)?)
+}
+
+/// What `from_read` answers over a reader that fails once, and what it leaves.
+fn loaded(alloc: Global, fault: io::Error) -> std::result::Result<String, AllocError> {
+    let mut environment = Environment::new(alloc);
+    let answer = dotenvy::from_read(alloc, failing_in_a_line(fault), &mut environment);
+    left(alloc, answer, &environment)
+}
+
+/// The same of `from_read_override`.
+fn overridden(alloc: Global, fault: io::Error) -> std::result::Result<String, AllocError> {
+    let mut environment = Environment::new(alloc);
+    let answer = dotenvy::from_read_override(alloc, failing_in_a_line(fault), &mut environment);
+    left(alloc, answer, &environment)
+}
+
+/// What `list` answers over a reader that fails once, and how many bytes it writes.
+fn list_over(alloc: Global, fault: io::Error) -> std::result::Result<String, AllocError> {
     let mut writer = Plain::new(Vec::new(alloc));
-    let list = dotenvy::list(alloc, failing(before, fault), &mut writer);
-    let list = answered(alloc, list)?;
-    let listed: Vec<u8> = writer.into_inner();
-    Ok([
-        format!(in alloc; "{load}: {left}")?,
-        format!(in alloc; "{load_override}: {left_by_override}")?,
-        format!(in alloc; "{list}: {}", listed.len())?,
-    ])
+    let answer = dotenvy::list(alloc, failing_in_a_line(fault), &mut writer);
+    let answer = answered(alloc, answer)?;
+    let taken: Vec<u8> = writer.into_inner();
+    format!(in alloc; "{answer}: {}", taken.len())
+}
+
+/// Sees that both loads answer this and leave these pairs, and that a list answers this and writes so many bytes.
+fn sees_calls(
+    rt: &impl Abort,
+    alloc: Global,
+    fault: io::Error,
+    left: &str,
+    listed: &str,
+) -> std::result::Result<(), Fail> {
+    assert_eq!(rt; loaded(alloc, fault)?.as_str(), left, "{fault:?}");
+    assert_eq!(rt; overridden(alloc, fault)?.as_str(), left, "{fault:?}");
+    assert_eq!(rt; list_over(alloc, fault)?.as_str(), listed, "{fault:?}");
+    Ok(())
 }
 
 #[test]
@@ -195,12 +238,9 @@ fn a_fault_of_a_read_is_the_answer_as_it_is(rt: HostRuntime) -> std::result::Res
     let alloc = rt.alloc();
     for fault in faults() {
         let told = played(alloc, fault)?;
-        let [load, load_override, list] = calls_over(alloc, fault)?;
-        let loaded = format!(in alloc; "{told}: A=1")?;
-        assert_eq!(rt; load.as_str(), loaded.as_str());
-        assert_eq!(rt; load_override.as_str(), loaded.as_str());
-        let nothing = format!(in alloc; "{told}: 0")?;
-        assert_eq!(rt; list.as_str(), nothing.as_str());
+        let left = format!(in alloc; "{told}: A=1")?;
+        let listed = format!(in alloc; "{told}: 0")?;
+        sees_calls(&rt, alloc, fault, left.as_str(), listed.as_str())?;
     }
     Ok(())
 }
@@ -244,42 +284,64 @@ fn writes_over(
     Ok([pair, list])
 }
 
+/// What is written of `K="v"`.
+const WRITTEN: &str = "K=\"v\"\n";
+
+/// Sees that both calls answer and write this over a writer that fails once.
+fn sees_writes(
+    rt: &impl Abort,
+    alloc: Global,
+    room: usize,
+    fault: io::Error,
+    wanted: &str,
+) -> std::result::Result<(), Fail> {
+    let [pair, list] = writes_over(alloc, room, fault)?;
+    assert_eq!(rt; pair.as_str(), wanted, "{fault:?} after {room} bytes");
+    assert_eq!(rt; list.as_str(), wanted, "{fault:?} after {room} bytes");
+    Ok(())
+}
+
 #[test]
 fn a_fault_of_a_write_is_the_answer_as_it_is(rt: HostRuntime) -> std::result::Result<(), Fail> {
     let alloc = rt.alloc();
-    let text = "K=\"v\"\n";
     for fault in faults() {
         let told = played(alloc, fault)?;
-        for room in 0..text.len() {
-            let want = format!(in alloc; "{told}: {}", &text[..room])?;
-            let [pair, list] = writes_over(alloc, room, fault)?;
-            assert_eq!(rt; pair.as_str(), want.as_str(), "after {room} bytes");
-            assert_eq!(rt; list.as_str(), want.as_str(), "after {room} bytes");
+        for room in 0..WRITTEN.len() {
+            let wanted = format!(in alloc; "{told}: {}", &WRITTEN[..room])?;
+            sees_writes(&rt, alloc, room, fault, wanted.as_str())?;
         }
     }
     Ok(())
 }
 
-#[test]
-fn an_interruption_is_no_answer(rt: HostRuntime) -> std::result::Result<(), Fail> {
-    let alloc = rt.alloc();
-    for fault in [
+/// Interruptions, made in each way.
+fn interruptions() -> [io::Error; 3] {
+    [
         io::Error::from(ErrorKind::Interrupted),
         io::Error::new(ErrorKind::Interrupted, "a signal came"),
         io::Error::from_raw_os_error(4),
-    ] {
-        let [load, load_override, list] = calls_over(alloc, fault)?;
-        assert_eq!(rt; load.as_str(), "no fault: A=1; B=2; C=3", "{fault:?}");
-        assert_eq!(rt; load_override.as_str(), load.as_str(), "{fault:?}");
-        assert_eq!(rt; list.as_str(), "no fault: 18", "{fault:?}");
+    ]
+}
+
+#[test]
+fn an_interrupted_read_is_no_answer(rt: HostRuntime) -> std::result::Result<(), Fail> {
+    for fault in interruptions() {
+        sees_calls(
+            &rt,
+            rt.alloc(),
+            fault,
+            "no fault: A=1; B=2; C=3",
+            "no fault: 18",
+        )?;
+    }
+    Ok(())
+}
+
+#[test]
+fn an_interrupted_write_is_no_answer(rt: HostRuntime) -> std::result::Result<(), Fail> {
+    for fault in interruptions() {
         for room in 0..6usize {
-            let [pair, list] = writes_over(alloc, room, fault)?;
-            assert_eq!(rt;
-                pair.as_str(),
-                "no fault: K=\"v\"\n",
-                "{fault:?} after {room}"
-            );
-            assert_eq!(rt; list.as_str(), pair.as_str(), "{fault:?} after {room}");
+            sees_writes(&rt, rt.alloc(), room, fault, "no fault: K=\"v\"\n")?;
         }
     }
     Ok(())

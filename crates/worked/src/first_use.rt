@@ -1,20 +1,22 @@
 //! The pairs that `vars` gives.
 
-use crate::shown::{environment, pairs, pairs_of};
-use dotenvy::vars;
-use std::io::ErrorKind;
+use crate::shown::{environment, pairs, pairs_of, vars_without_files};
+use dotenvy::{Environment, Result};
+use std::alloc::Global;
 use std::test::Fail;
-use support::system::PlayedSystem;
+
+// Sets `A` to `new`.
+fn renew(alloc: Global, environment: &mut Environment) -> Result<()> {
+    let key = String::from_str(alloc, "A")?;
+    environment.set(key, String::from_str(alloc, "new")?)
+}
 
 #[test]
-fn vars_are_a_snapshot(rt: HostRuntime) -> Result<(), Fail> {
+fn vars_are_a_snapshot(rt: HostRuntime) -> std::result::Result<(), Fail> {
     let alloc = rt.alloc();
-    let mut system = PlayedSystem::new(rt);
-    system.lost = Some(ErrorKind::NotFound);
     let mut environment = environment(alloc, &[("B", "2"), ("A", "1")])?;
-    let snapshot = vars(&system, &mut environment)?;
-    let key = String::from_str(alloc, "A")?;
-    environment.set(key, String::from_str(alloc, "new")?)?;
+    let snapshot = vars_without_files(rt, &mut environment)?;
+    renew(alloc, &mut environment)?;
     assert_eq!(rt; pairs_of(alloc, snapshot)?.as_str(), "A=1; B=2");
     assert_eq!(rt; pairs(alloc, &environment)?.as_str(), "A=new; B=2");
     Ok(())

@@ -1,6 +1,9 @@
 //! Tests of what a row of text cannot ask: environments, errors and what they print, faults of std, and callers. Tests alone.
 #![tactic(auto)]
 
+#[cfg(test)]
+mod allocator;
+#[cfg(test)]
 mod callers;
 #[cfg(test)]
 mod environments;

@@ -6,6 +6,7 @@ use std::alloc::Global;
 use std::fmt::Write;
 use std::io;
 use std::io::ErrorKind;
+use std::process::Abort;
 use std::test::Fail;
 use support::reader::{Cut, PlayedReader, steps};
 
@@ -65,7 +66,7 @@ fn listed<R: Source + Drop>(alloc: Global, splitter: Splitter<R, Global>) -> Res
     Ok(all)
 }
 
-// Each line until `None`, as the splitter holds it.
+// Each line until `None`, as the splitter holds it, and `<more>` where something comes behind that.
 fn listed_in_place<R: Source>(alloc: Global, splitter: &mut Splitter<R, Global>) -> Result<String> {
     let mut all = String::new(alloc);
     for _ in 0..1000 {
@@ -74,6 +75,9 @@ fn listed_in_place<R: Source>(alloc: Global, splitter: &mut Splitter<R, Global>)
             Some(Ok(())) => list(&mut all, Ok(splitter.line()))?,
             Some(Err(e)) => list(&mut all, Err(e))?,
         }
+    }
+    if splitter.advance().is_some() {
+        write!(all, "<more>")?;
     }
     Ok(all)
 }
@@ -87,14 +91,28 @@ fn one_byte_a_read(bytes: &[u8]) -> Pieces<'_> {
     }
 }
 
-fn listed_both_ways(alloc: Global, bytes: &[u8], has_mark: bool) -> Result<(String, String)> {
-    let mut whole = Splitter::new(alloc, Bytes::new(bytes))?;
-    let mut cut = Splitter::new(alloc, one_byte_a_read(bytes))?;
-    if has_mark {
-        whole.drop_mark()?;
-        cut.drop_mark()?;
+// The lines of this reader, without its mark where that is dropped.
+fn listed_of<R: Source + Drop>(alloc: Global, reader: R, drops_mark: bool) -> Result<String> {
+    let mut splitter = Splitter::new(alloc, reader)?;
+    if drops_mark {
+        splitter.drop_mark()?;
     }
-    Ok((listed(alloc, whole)?, listed(alloc, cut)?))
+    listed(alloc, splitter)
+}
+
+// Sees that the bytes give these lines, read as one piece and byte by byte.
+fn sees_lines(
+    rt: &impl Abort,
+    alloc: Global,
+    bytes: &[u8],
+    drops_mark: bool,
+    wanted: &str,
+) -> std::result::Result<(), Fail> {
+    let whole = listed_of(alloc, Bytes::new(bytes), drops_mark)?;
+    assert_eq!(rt; whole.as_str(), wanted, "whole");
+    let cut = listed_of(alloc, one_byte_a_read(bytes), drops_mark)?;
+    assert_eq!(rt; cut.as_str(), wanted, "in pieces");
+    Ok(())
 }
 
 #[test]
@@ -136,9 +154,7 @@ fn logical_lines(rt: HostRuntime) -> std::result::Result<(), Fail> {
         (b"A\xC2\xA0#a'\nB", "[A\u{a0}][B]"),
     ];
     for (bytes, wanted) in rows {
-        let (whole, cut) = listed_both_ways(rt.alloc(), bytes, false)?;
-        assert_eq!(rt; whole.as_str(), wanted, "whole");
-        assert_eq!(rt; cut.as_str(), wanted, "in pieces");
+        sees_lines(&rt, rt.alloc(), bytes, false, wanted)?;
     }
     Ok(())
 }
@@ -154,9 +170,7 @@ fn byte_order_marks(rt: HostRuntime) -> std::result::Result<(), Fail> {
         (b"", ""),
     ];
     for (bytes, wanted) in rows {
-        let (whole, cut) = listed_both_ways(rt.alloc(), bytes, true)?;
-        assert_eq!(rt; whole.as_str(), wanted, "whole");
-        assert_eq!(rt; cut.as_str(), wanted, "in pieces");
+        sees_lines(&rt, rt.alloc(), bytes, true, wanted)?;
     }
     Ok(())
 }
@@ -224,29 +238,29 @@ fn nothing_comes_once_it_has_failed(rt: HostRuntime) -> std::result::Result<(), 
     Ok(())
 }
 
+// A comment is skipped, also one that is read in pieces, and leaves none of the long line before it; the lines behind it are
+// shorter, and each is there alone.
+const LONG_LINE_FIRST: &[u8] =
+    b"A='long\nquoted'\n# c\nB=1\n\n  # d\nC # e\nK=\xC3\nD\n\xFF 'x\nE='\n\xEF\xBB\xBF";
+
+const EACH_ALONE: &str = "[A='long\nquoted'][][B=1][][][C ]<InvalidData>[D]<InvalidData>\
+    <Error parsing line: 'E='\n\u{FEFF}', error at line index: 7>";
+
 #[test]
 fn the_line_buffer_holds_the_last_line(rt: HostRuntime) -> std::result::Result<(), Fail> {
-    let alloc = rt.alloc();
-    // A comment is skipped, also one that is read in pieces, and leaves none of the long line before
-    // it; the lines behind it are shorter, and each is there alone.
-    let bytes =
-        b"A='long\nquoted'\n# c\nB=1\n\n  # d\nC # e\nK=\xC3\nD\n\xFF 'x\nE='\n\xEF\xBB\xBF";
-    let wanted = "[A='long\nquoted'][][B=1][][][C ]<InvalidData>[D]<InvalidData>\
-        <Error parsing line: 'E='\n\u{FEFF}', error at line index: 7>";
-    let mut whole = Splitter::new(alloc, Bytes::new(bytes))?;
-    assert_eq!(rt;
-        listed_in_place(alloc, &mut whole)?.as_str(),
-        wanted,
-        "whole"
-    );
-    let mut cut = Splitter::new(alloc, one_byte_a_read(bytes))?;
-    assert_eq!(rt;
-        listed_in_place(alloc, &mut cut)?.as_str(),
-        wanted,
-        "in pieces"
-    );
-    assert!(rt; whole.advance().is_none());
-    assert!(rt; cut.advance().is_none());
+    let mut splitter = Splitter::new(rt.alloc(), Bytes::new(LONG_LINE_FIRST))?;
+    let all = listed_in_place(rt.alloc(), &mut splitter)?;
+    assert_eq!(rt; all.as_str(), EACH_ALONE);
+    Ok(())
+}
+
+#[test]
+fn the_line_buffer_holds_a_line_that_comes_in_pieces(
+    rt: HostRuntime,
+) -> std::result::Result<(), Fail> {
+    let mut splitter = Splitter::new(rt.alloc(), one_byte_a_read(LONG_LINE_FIRST))?;
+    let all = listed_in_place(rt.alloc(), &mut splitter)?;
+    assert_eq!(rt; all.as_str(), EACH_ALONE);
     Ok(())
 }
 

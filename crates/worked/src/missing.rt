@@ -2,13 +2,20 @@
 
 use crate::shown::environment;
 use env_layers::{Layers, Missing};
-use std::alloc::AllocError;
+use std::alloc::{AllocError, Global};
 use std::test::Fail;
+
+// What is printed where these names are required of A, B and E.
+fn printed(alloc: Global, names: &[&str]) -> Result<String, Fail> {
+    let layers = Layers::new(environment(alloc, &[("A", "0"), ("B", "0"), ("E", "")])?);
+    match layers.require(alloc, names) {
+        Ok(()) => Err(Fail::from("all are there")),
+        Err(missing) => Ok(missing.to_string(alloc)?),
+    }
+}
 
 #[test]
 fn absent_names_stand_in_a_row(rt: HostRuntime) -> Result<(), Fail> {
-    let alloc = rt.alloc();
-    let layers = Layers::new(environment(alloc, &[("A", "0"), ("B", "0"), ("E", "")])?);
     let rows: [(&[&str], &str); 5] = [
         (&["A", "C", "C"], "environment variables not found: C, C"),
         (&["Z", "A", "Y"], "environment variables not found: Z, Y"),
@@ -20,12 +27,14 @@ fn absent_names_stand_in_a_row(rt: HostRuntime) -> Result<(), Fail> {
         (&["", "A=0", "B"], "environment variables not found: , A=0"),
     ];
     for (names, want) in rows {
-        match layers.require(alloc, names) {
-            Ok(()) => panic!(rt; "all are there of {names:?}"),
-            Err(missing) => assert_eq!(rt; missing.to_string(alloc)?.as_str(), want),
-        }
+        assert_eq!(rt; printed(rt.alloc(), names)?.as_str(), want);
     }
+    Ok(())
+}
+
+#[test]
+fn refused_memory_is_no_absent_name(rt: HostRuntime) -> Result<(), Fail> {
     let refused: Missing = Missing::from(AllocError);
-    assert_eq!(rt; refused.to_string(alloc)?.as_str(), "out of memory");
+    assert_eq!(rt; refused.to_string(rt.alloc())?.as_str(), "out of memory");
     Ok(())
 }

@@ -1,10 +1,12 @@
 //! What calls answer and leave, in the words of docs/ROWS.md.
 
-use dotenvy::Environment;
 use dotenvy::environment::Vars;
+use dotenvy::{Environment, Result, vars};
 use std::alloc::{AllocError, Allocator, Global};
+use std::io::ErrorKind;
 use std::test::Fail;
 use support::answers;
+use support::system::PlayedSystem;
 
 /// The names and values, as `A=1; B=2`.
 pub fn pairs<A: Allocator>(
@@ -21,6 +23,13 @@ pub fn pairs_of(alloc: Global, vars: Vars) -> std::result::Result<String, AllocE
         pairs.push(format!(in alloc; "{name}={value}")?)?;
     }
     pairs.join(alloc, "; ")
+}
+
+/// What `vars` gives where the system finds no file.
+pub fn vars_without_files(rt: HostRuntime, environment: &mut Environment) -> Result<Vars> {
+    let mut system = PlayedSystem::new(rt);
+    system.lost = Some(ErrorKind::NotFound);
+    vars(&system, environment)
 }
 
 /// An environment of these names and values.

@@ -86,10 +86,18 @@ fn clones_names(
     if !is_done(rt, ration, &answer) {
         return Ok(false);
     }
-    let environment = answer?;
-    let before = pairs(alloc, &environment)?;
+    clones(rt, alloc, ration, &answer?)
+}
+
+fn clones<A: Allocator + Clone>(
+    rt: &impl Abort,
+    alloc: Global,
+    ration: &Rationed<Global>,
+    environment: &Environment<A>,
+) -> std::result::Result<bool, Fail> {
+    let before = pairs(alloc, environment)?;
     let copy = environment.try_clone();
-    assert_eq!(rt; pairs(alloc, &environment)?.as_str(), before.as_str());
+    assert_eq!(rt; pairs(alloc, environment)?.as_str(), before.as_str());
     if let Ok(copy) = &copy {
         assert_eq!(rt; pairs(alloc, copy)?.as_str(), before.as_str());
     }
