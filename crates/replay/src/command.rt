@@ -5,6 +5,7 @@ use crate::scene::Scene;
 use anyhow::{Context, Result, bail};
 use comparison::Comparison;
 use dotenv_command::command_line::command_line;
+use dotenv_command::failure::Failure;
 use dotenv_command::run::run;
 use dotenvy::{Dialect, Plain};
 use std::alloc::{Alloc, AllocError, Global};
@@ -93,6 +94,13 @@ fn play_steps(scene: &mut Scene, steps: &[&str]) -> Result<()> {
 }
 
 impl Run<'_> {
+    fn play_in_scene(self, rt: HostRuntime) -> Result<Outcome> {
+        let mut scene = Scene::enter(rt)?;
+        let played = self.play(&mut scene);
+        scene.leave()?;
+        played
+    }
+
     fn play(self, scene: &mut Scene) -> Result<Outcome> {
         let alloc = scene.system.alloc();
         let Run {
@@ -105,16 +113,7 @@ impl Run<'_> {
         let mut reader = Telling::new(alloc, PlayedReader::new(&input, Cut::Whole));
         let mut writer = Plain::new(PlayedWriter::new(alloc, output));
         let answered = run(&scene.system, &words, &mut reader, &mut writer);
-        let mut answer = vec![in alloc;
-            match answered {
-                Ok(status) => format!(in alloc; "status {status}")?,
-                Err(failure) => failure.to_string(alloc)?,
-            },
-        ]?;
-        let written = String::from_utf8(writer.into_inner().into_taken())?;
-        if !written.is_empty() {
-            answer.push(written)?;
-        }
+        let answer = answer(alloc, answered, writer.into_inner().into_taken())?;
         let notes = scene.system.take_notes();
         Ok(Outcome {
             answer,
@@ -122,6 +121,24 @@ impl Run<'_> {
             notes: scene.all_below(&notes)?,
         })
     }
+}
+
+// The status or the failure, and what was written, if anything was.
+fn answer(
+    alloc: Global,
+    answered: std::result::Result<u8, Failure>,
+    written: Vec<u8>,
+) -> Result<Vec<String>> {
+    let mut answer = vec![in alloc;
+        match answered {
+            Ok(status) => format!(in alloc; "status {status}")?,
+            Err(failure) => failure.to_string(alloc)?,
+        },
+    ]?;
+    if !written.is_empty() {
+        answer.push(String::from_utf8(written)?)?;
+    }
+    Ok(answer)
 }
 
 /// Plays a row of kind `run`.
@@ -136,10 +153,7 @@ pub fn play_run(answers: &mut Vec<Comparison>, rt: HostRuntime, fields: &[&str])
         input: reader::steps(alloc, input)?,
         output: writer::steps(alloc, output)?,
     };
-    let mut scene = Scene::enter(rt)?;
-    let played = run.play(&mut scene);
-    scene.leave()?;
-    let outcome = played?;
+    let outcome = run.play_in_scene(rt)?;
     push_answer(answers, "run", "answered", answer, outcome.answer)?;
     push_answer(answers, "run", "read", reads, outcome.reads)?;
     push_answer(answers, "run", "opened and started", notes, outcome.notes)

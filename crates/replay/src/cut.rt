@@ -67,28 +67,42 @@ pub fn play_items(answers: &mut Vec<Comparison>, fields: &[&str]) -> Result<()> 
     for cut in CUTS {
         for before in 0..=back.len() {
             let file = fill_up(alloc, &front, cut.saturating_sub(before), &back)?;
-            let wanted = with_letters(alloc, wanted, file.letters)?;
-            let got = items(alloc, Bytes::new(&file.bytes))?;
-            push_answer(answers, "items", "of a cut", wanted.as_str(), got)?;
+            push_items(answers, &file, wanted)?;
         }
     }
-    let file = fill_up(alloc, &front, 8_192, &back)?;
+    push_items_by_byte(answers, fill_up(alloc, &front, 8_192, &back)?, wanted)
+}
+
+fn push_items(answers: &mut Vec<Comparison>, file: &Filled, wanted: &str) -> Result<()> {
+    let alloc = *answers.allocator();
+    let wanted = with_letters(alloc, wanted, file.letters)?;
+    let got = items(alloc, Bytes::new(&file.bytes))?;
+    push_answer(answers, "items", "of a cut", wanted.as_str(), got)
+}
+
+fn push_items_by_byte(answers: &mut Vec<Comparison>, file: Filled, wanted: &str) -> Result<()> {
+    let alloc = *answers.allocator();
     let wanted = with_letters(alloc, wanted, file.letters)?;
     let got = items_by_byte(alloc, file.bytes)?;
-    push_answer(answers, "items", "one byte a read", wanted.as_str(), got)?;
-    Ok(())
+    push_answer(answers, "items", "one byte a read", wanted.as_str(), got)
 }
 
 // What a load gives of the file behind its first item.
 fn load_behind_an_item(alloc: Global, file: &[u8]) -> Result<Vec<String>> {
-    let mut environment = Environment::new(alloc);
     let mut entries = Iter::new(alloc, Bytes::new(file))?;
-    let first = next_item(alloc, &mut entries, &environment)?.context("no item")?;
+    see_letters(alloc, &mut entries)?;
+    let mut environment = Environment::new(alloc);
+    let answer = entries.load(&mut environment);
+    Ok(loaded(alloc, &answer, &environment)?)
+}
+
+// Sees that the first item has the letters.
+fn see_letters(alloc: Global, entries: &mut Iter<Bytes<'_>>) -> Result<()> {
+    let first = next_item(alloc, entries, &Environment::new(alloc))?.context("no item")?;
     if !first.starts_with("F=a") {
         bail!("another item: {first}");
     }
-    let answer = entries.load(&mut environment);
-    Ok(loaded(alloc, &answer, &environment)?)
+    Ok(())
 }
 
 /// Plays a row of kind `cut_load`.

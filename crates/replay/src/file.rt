@@ -84,6 +84,43 @@ impl File<'_> {
     fn listing(&self, alloc: Global, cut: Cut) -> Result<Vec<String>> {
         listing(alloc, PlayedReader::new(&self.steps, cut), self.dialect)
     }
+
+    // Adds the items and the listing, where they are asked for.
+    fn compare_items(
+        &self,
+        answers: &mut Vec<Comparison>,
+        (cut, way): (Cut, &'static str),
+        items: &str,
+        listing: &str,
+    ) -> Result<()> {
+        let alloc = *answers.allocator();
+        if is_asked(items) {
+            push_answer(answers, "items", way, items, self.items(alloc, cut)?)?;
+        }
+        if is_asked(listing) {
+            push_answer(answers, "listing", way, listing, self.listing(alloc, cut)?)?;
+        }
+        Ok(())
+    }
+
+    // Adds what both loads answer and leave, where it is asked for.
+    fn compare_loads(
+        &self,
+        answers: &mut Vec<Comparison>,
+        (cut, way): (Cut, &'static str),
+        load: &str,
+        load_override: &str,
+    ) -> Result<()> {
+        let alloc = *answers.allocator();
+        if is_asked(load) {
+            push_answer(answers, "load", way, load, self.load(alloc, cut)?)?;
+        }
+        if is_asked(load_override) {
+            let got = self.load_override(alloc, cut)?;
+            push_answer(answers, "load_override", way, load_override, got)?;
+        }
+        Ok(())
+    }
 }
 
 /// What `list` answers and writes of a reader, and `list_with` in the second dialect.
@@ -120,21 +157,9 @@ pub fn play(answers: &mut Vec<Comparison>, fields: &[&str]) -> Result<()> {
         environment,
         steps: steps(alloc, steps_field)?,
     };
-    for (cut, way) in CUTS {
-        if is_asked(items) {
-            push_answer(answers, "items", way, items, file.items(alloc, cut)?)?;
-        }
-        if is_asked(load) {
-            push_answer(answers, "load", way, load, file.load(alloc, cut)?)?;
-        }
-        if is_asked(load_override) {
-            let got = file.load_override(alloc, cut)?;
-            push_answer(answers, "load_override", way, load_override, got)?;
-        }
-        if is_asked(listing) {
-            let got = file.listing(alloc, cut)?;
-            push_answer(answers, "listing", way, listing, got)?;
-        }
+    for cut in CUTS {
+        file.compare_items(answers, cut, items, listing)?;
+        file.compare_loads(answers, cut, load, load_override)?;
     }
     Ok(())
 }

@@ -63,18 +63,27 @@ fn required(alloc: Global, layers: &Layers, field: &str) -> Result<Vec<String>> 
 
 /// Plays a row, and adds its answers.
 pub fn play(answers: &mut Vec<Comparison>, fields: &[&str]) -> Result<()> {
+    for cut in CUTS {
+        play_cut(answers, fields, cut)?;
+    }
+    Ok(())
+}
+
+// Plays a row where the bytes of each reader are cut so.
+fn play_cut(
+    answers: &mut Vec<Comparison>,
+    fields: &[&str],
+    (cut, way): (Cut, &'static str),
+) -> Result<()> {
     let alloc = *answers.allocator();
     let [before, added_field, answered, after, names, required_field] = fields else {
         bail!("{} fields in place of 6", fields.len());
     };
-    for (cut, way) in CUTS {
-        let mut layers = Layers::new(environment(alloc, before)?);
-        let got = added(alloc, &mut layers, added_field, cut)?;
-        push_answer(answers, "layers", way, answered, got)?;
-        let got = required(alloc, &layers, names)?;
-        push_answer(answers, "required", way, required_field, got)?;
-        let got = pairs(alloc, &layers.into_environment())?;
-        push_answer(answers, "environment", way, after, got)?;
-    }
-    Ok(())
+    let mut layers = Layers::new(environment(alloc, before)?);
+    let got = added(alloc, &mut layers, added_field, cut)?;
+    push_answer(answers, "layers", way, answered, got)?;
+    let got = required(alloc, &layers, names)?;
+    push_answer(answers, "required", way, required_field, got)?;
+    let got = pairs(alloc, &layers.into_environment())?;
+    push_answer(answers, "environment", way, after, got)
 }

@@ -65,18 +65,10 @@ impl File {
         alloc: A,
         items: &mut Vec<String>,
     ) -> dotenvy::Result<(), A> {
-        let mut environment = environment_of(alloc.clone()?, &self.names)?;
-        let before = environment.len();
+        let environment = environment_of(alloc.clone()?, &self.names)?;
         let mut entries = self.open(alloc)?;
         let answer = push_items(items, &mut entries, &environment);
-        let room = *items.allocator();
-        if let Some(item) = next_item(room, &mut entries, &environment)? {
-            items.push(item)?;
-        }
-        entries.load(&mut environment)?;
-        if environment.len() != before {
-            items.push(String::from_str(room, "a name after the end")?)?;
-        }
+        push_more(items, entries, environment)?;
         answer
     }
 
@@ -126,6 +118,24 @@ impl File {
     }
 }
 
+// Adds what an iterator that has ended gives, which is to be nothing.
+fn push_more<A: Allocator + Clone>(
+    items: &mut Vec<String>,
+    mut entries: Iter<Bytes<'_>, A>,
+    mut environment: Environment<A>,
+) -> dotenvy::Result<(), A> {
+    let room = *items.allocator();
+    if let Some(item) = next_item(room, &mut entries, &environment)? {
+        items.push(item)?;
+    }
+    let before = environment.len();
+    entries.load(&mut environment)?;
+    if environment.len() != before {
+        items.push(String::from_str(room, "a name after the end")?)?;
+    }
+    Ok(())
+}
+
 // Whether a request was refused: then the answer must be `Memory`, and else it must not.
 pub fn is_refused<T, A: Allocator>(
     ration: &Rationed<Global>,
@@ -158,18 +168,32 @@ pub fn play_items(answers: &mut Vec<Comparison>, fields: &[&str]) -> Result<()> 
         bail!("{} fields in place of 4", fields.len());
     };
     let file = File::parse(alloc, dialect, names, file)?;
-    let all = texts(alloc, wanted)?;
     for number in 1..MOST_REQUESTS {
-        let ration = Rationed::refusing(alloc, number);
-        let mut items = Vec::new(alloc);
-        let answer = file.push_items(&ration, &mut items);
-        if !is_refused(&ration, &answer)? {
-            return push_answer(answers, "items", "in all", wanted, items);
+        if compare_items(answers, &file, number, wanted)? {
+            return Ok(());
         }
-        let front = front_of(alloc, &all, &items)?;
-        push_compared(answers, "items", "before a refusal", front, items)?;
     }
     bail!("each run met a refusal")
+}
+
+// Takes the items with the request of this number refused, and tells whether none was.
+fn compare_items(
+    answers: &mut Vec<Comparison>,
+    file: &File,
+    number: u64,
+    wanted: &str,
+) -> Result<bool> {
+    let alloc = *answers.allocator();
+    let ration = Rationed::refusing(alloc, number);
+    let mut items = Vec::new(alloc);
+    let answer = file.push_items(&ration, &mut items);
+    if !is_refused(&ration, &answer)? {
+        push_answer(answers, "items", "in all", wanted, items)?;
+        return Ok(true);
+    }
+    let front = front_of(alloc, &texts(alloc, wanted)?, &items)?;
+    push_compared(answers, "items", "before a refusal", front, items)?;
+    Ok(false)
 }
 
 // The state that is the one left, or the last one.
@@ -196,16 +220,25 @@ struct RefusedLoad<'a> {
 impl RefusedLoad<'_> {
     // Loads with the request of this number refused, and tells whether none was.
     fn run(&self, answers: &mut Vec<Comparison>, number: u64) -> Result<bool> {
-        let alloc = *answers.allocator();
-        let ration = Rationed::refusing(alloc, number);
+        let ration = Rationed::refusing(*answers.allocator(), number);
         let before = environment_of(&ration, &self.file.names);
         if is_refused(&ration, &before)? {
             return Ok(false);
         }
-        let mut environment = before?;
-        let answered = self.file.load(&mut environment, &ration, self.load);
+        self.compare(answers, &ration, before?)
+    }
+
+    // Loads into the environment, and tells whether no request was refused.
+    fn compare<'r>(
+        &self,
+        answers: &mut Vec<Comparison>,
+        ration: &'r Rationed<Global>,
+        mut environment: Environment<&'r Rationed<Global>>,
+    ) -> Result<bool> {
+        let alloc = *answers.allocator();
+        let answered = self.file.load(&mut environment, ration, self.load);
         let left = pairs(alloc, &environment)?;
-        let is_refused = is_refused(&ration, &answered)?;
+        let is_refused = is_refused(ration, &answered)?;
         if is_refused {
             self.push_refused(answers, left)?;
         } else {
@@ -261,16 +294,29 @@ pub fn play_list(answers: &mut Vec<Comparison>, fields: &[&str]) -> Result<()> {
     };
     let file = File::parse(alloc, dialect, "", file)?;
     for number in 1..MOST_REQUESTS {
-        let ration = Rationed::refusing(alloc, number);
-        let mut writer = Plain::new(Vec::new(alloc));
-        let answered = file.list(&ration, &mut writer);
-        let got = written(alloc, &answered, writer.into_inner())?;
-        if !is_refused(&ration, &answered)? {
-            return push_answer(answers, "listing", "in all", wanted, got);
+        if compare_list(answers, &file, number, wanted)? {
+            return Ok(());
         }
-        push_answer(answers, "listing", "at a refusal", "memory", got)?;
     }
     bail!("each run met a refusal")
+}
+
+// Lists with the request of this number refused, and tells whether none was.
+fn compare_list(
+    answers: &mut Vec<Comparison>,
+    file: &File,
+    number: u64,
+    wanted: &str,
+) -> Result<bool> {
+    let alloc = *answers.allocator();
+    let ration = Rationed::refusing(alloc, number);
+    let mut writer = Plain::new(Vec::new(alloc));
+    let answered = file.list(&ration, &mut writer);
+    let got = written(alloc, &answered, writer.into_inner())?;
+    let is_refused = is_refused(&ration, &answered)?;
+    let wanted = if is_refused { "memory" } else { wanted };
+    push_answer(answers, "listing", "up to a refusal", wanted, got)?;
+    Ok(!is_refused)
 }
 
 // How many requests a call makes.
@@ -292,15 +338,19 @@ pub fn play_requests(answers: &mut Vec<Comparison>, fields: &[&str]) -> Result<(
         bail!("{} fields in place of 6", fields.len());
     };
     let call = call_named(name)?;
-    let mut file = File::parse(alloc, dialect, names, before)?;
-    let alone = if before.is_empty() {
+    let file = File::parse(alloc, dialect, names, before)?;
+    let requests = requests_of_lines(alloc, call, file, lines)?;
+    let got = vec![in alloc; requests.to_string(alloc)?]?;
+    push_answer(answers, "requests", "of the lines", wanted, got)
+}
+
+// How many requests more a call makes where these lines stand behind the file.
+fn requests_of_lines(alloc: Global, call: Call, mut file: File, lines: &str) -> Result<u64> {
+    let alone = if file.bytes.is_empty() {
         0
     } else {
         requests_of(alloc, call, &file)?
     };
     file.bytes.extend_from_slice(&bytes(alloc, lines)?)?;
-    let requests = requests_of(alloc, call, &file)?.saturating_sub(alone);
-    let got = vec![in alloc; requests.to_string(alloc)?]?;
-    push_answer(answers, "requests", "of the lines", wanted, got)?;
-    Ok(())
+    Ok(requests_of(alloc, call, &file)?.saturating_sub(alone))
 }

@@ -28,6 +28,18 @@ enum Run {
     Done,
 }
 
+// Uses the environment where the system finds no file.
+fn use_without_files<'r>(
+    rt: HostRuntime,
+    ration: Ration<'r>,
+    environment: &mut Environment<Ration<'r>>,
+) -> dotenvy::Result<(), Ration<'r>> {
+    let mut system = PlayedSystem::new(rt);
+    system.lost = Some(ErrorKind::NotFound);
+    vars(&(&system, ration), environment)?;
+    Ok(())
+}
+
 // A call, what stands before it, and what it answers and leaves.
 #[derive(Clone, Copy)]
 struct Refused<'a> {
@@ -48,9 +60,7 @@ impl Refused<'_> {
     ) -> dotenvy::Result<Environment<Ration<'r>>, Ration<'r>> {
         let mut environment = environment_of(ration, self.names)?;
         if self.is_used {
-            let mut system = PlayedSystem::new(self.rt);
-            system.lost = Some(ErrorKind::NotFound);
-            vars(&(&system, ration), &mut environment)?;
+            use_without_files(self.rt, ration, &mut environment)?;
         }
         Ok(environment)
     }
@@ -64,34 +74,34 @@ impl Refused<'_> {
     ) -> Result<bool> {
         let alloc = *answers.allocator();
         let mut given = Vec::new(alloc);
-        let answered = self
-            .call
-            .make(&(&self.scene.system, ration), environment, &mut given);
+        let system = (&self.scene.system, ration);
+        let answered = self.call.make(&system, environment, &mut given);
         let mut got = self.scene.all_below(&given)?;
         match answered {
             Ok(()) => {}
             Err(Error::Memory(_)) => {
-                let wanted = front_of(alloc, &texts(alloc, self.wanted)?, &got)?;
-                push_compared(answers, "call", "before a refusal", wanted, got)?;
+                self.push_refused(answers, got)?;
                 return Ok(false);
             }
             Err(error) => got.push(fault(alloc, &error)?)?,
         }
         push_answer(answers, "call", "answered", self.wanted, got)?;
-        push_answer(
-            answers,
-            "call",
-            "left",
-            self.left,
-            state(alloc, environment)?,
-        )?;
+        let left = state(alloc, environment)?;
+        push_answer(answers, "call", "left", self.left, left)?;
         Ok(true)
+    }
+
+    // Adds what a call gave before a request was refused: the first of its texts.
+    fn push_refused(&self, answers: &mut Vec<Comparison>, got: Vec<String>) -> Result<()> {
+        let alloc = *answers.allocator();
+        let wanted = front_of(alloc, &texts(alloc, self.wanted)?, &got)?;
+        push_compared(answers, "call", "before a refusal", wanted, got)?;
+        Ok(())
     }
 
     // Refuses the request of this number. A call to which it was refused is made once more.
     fn run(&self, answers: &mut Vec<Comparison>, number: u64) -> Result<Run> {
-        let alloc = *answers.allocator();
-        let ration = Rationed::refusing(alloc, number);
+        let ration = Rationed::refusing(*answers.allocator(), number);
         let before = self.environment(&ration);
         if is_refused(&ration, &before)? {
             return Ok(Run::NotYet);
@@ -104,11 +114,22 @@ impl Refused<'_> {
         if is_done {
             return Ok(Run::Done);
         }
+        Ok(Run::Refused(self.make_again(answers, &ration, environment)?))
+    }
+
+    // Makes the call once more, for which there is memory, and answers the state before that.
+    fn make_again<'r>(
+        &self,
+        answers: &mut Vec<Comparison>,
+        ration: Ration<'r>,
+        mut environment: Environment<Ration<'r>>,
+    ) -> Result<String> {
+        let alloc = *answers.allocator();
         let left = state(alloc, &environment)?.join(alloc, "; ")?;
-        if !self.make(answers, &ration, &mut environment)? {
+        if !self.make(answers, ration, &mut environment)? {
             bail!("memory is refused where there is enough");
         }
-        Ok(Run::Refused(left))
+        Ok(left)
     }
 
     // Refuses each request of the call in turn, and compares the states that are left with these.

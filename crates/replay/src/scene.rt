@@ -89,8 +89,17 @@ impl Scene {
             "write" => fs::write(&self.rt, self.path(name)?, bytes(self.rt.alloc(), more)?)?,
             "folder" => fs::create_dir(&self.rt, self.path(name)?)?,
             "link" => symlink(&self.rt, more, self.path(name)?)?,
-            "at" => self.system.directory = Some(self.path(name)?.into_string()),
             "enter" => env::set_current_dir(&self.rt, self.path(name)?)?,
+            _ => return self.play_on_system(word, rest),
+        }
+        Ok(true)
+    }
+
+    // Plays a step on the system.
+    fn play_on_system(&mut self, word: &str, rest: &str) -> Result<bool> {
+        let (name, more) = word_and_rest(rest);
+        match word {
+            "at" => self.system.directory = Some(self.path(name)?.into_string()),
             "lost" => self.system.lost = Some(kind(name)?),
             "closed" => self.system.closed = Some(kind(name)?),
             "hidden" => self.system.hidden = Some((self.path(name)?.into_string(), kind(more)?)),
@@ -177,14 +186,22 @@ impl Act<'_> {
         let call = Call::named(word, given.as_str()).context("no step")?;
         let mut texts = Vec::new(alloc);
         let answered = call.make(&self.scene.system, &mut self.environment, &mut texts);
-        match answered {
-            Ok(()) => {}
-            Err(error) if self.prints => texts.push(printed(alloc, &error)?)?,
-            Err(error) => texts.push(fault(alloc, &error)?)?,
+        if let Err(error) = answered {
+            texts.push(self.fault(&error)?)?;
         }
         self.answers.append(&mut self.scene.all_below(&texts)?)?;
         self.answers.append(&mut state(alloc, &self.environment)?)?;
         Ok(())
+    }
+
+    // The fault as the row asks for it.
+    fn fault(&self, error: &Error) -> Result<String> {
+        let alloc = self.scene.rt.alloc();
+        if self.prints {
+            printed(alloc, error)
+        } else {
+            Ok(fault(alloc, error)?)
+        }
     }
 }
 
@@ -193,14 +210,18 @@ pub fn play_process(answers: &mut Vec<Comparison>, rt: HostRuntime, fields: &[&s
     let [entries, wanted] = fields else {
         bail!("{} fields in place of 2", fields.len());
     };
-    let alloc = rt.alloc();
+    let system = with_entries(rt, entries)?;
+    let got = state(rt.alloc(), &Environment::from_process(&system)?)?;
+    push_answer(answers, "process", "read", wanted, got)
+}
+
+// A system whose process has these entries.
+fn with_entries(rt: HostRuntime, entries: &str) -> Result<PlayedSystem> {
     let mut system = PlayedSystem::new(rt);
-    for entry in list(alloc, entries)? {
-        system.entries.push(bytes(alloc, entry)?)?;
+    for entry in list(rt.alloc(), entries)? {
+        system.entries.push(bytes(rt.alloc(), entry)?)?;
     }
-    let got = state(alloc, &Environment::from_process(&system)?)?;
-    push_answer(answers, "process", "read", wanted, got)?;
-    Ok(())
+    Ok(system)
 }
 
 /// Plays a row of kind `files`.

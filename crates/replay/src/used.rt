@@ -27,27 +27,60 @@ struct Got {
 }
 
 impl Used<'_> {
-    fn play(&self, alloc: Global, cut: Cut, replaces: bool) -> Result<Got> {
+    // The items that are taken, and `none` where there is none.
+    fn take(&self, alloc: Global, entries: &mut Iter<PlayedReader<'_>>) -> Result<Vec<String>> {
         let under = environment(alloc, self.under)?;
-        let reader = PlayedReader::new(&self.steps, cut);
-        let mut entries = Iter::with_dialect(alloc, reader, self.dialect)?;
         let mut items = Vec::new(alloc);
         for _ in 0..self.taken {
-            items.push(match next_item(alloc, &mut entries, &under)? {
+            items.push(match next_item(alloc, entries, &under)? {
                 Some(item) => item,
                 None => String::from_str(alloc, "none")?,
             })?;
         }
+        Ok(items)
+    }
+
+    // What a load of the rest answers and leaves.
+    fn load(
+        &self,
+        alloc: Global,
+        entries: Iter<PlayedReader<'_>>,
+        replaces: bool,
+    ) -> Result<Vec<String>> {
         let mut into = environment(alloc, self.into)?;
         let answer = if replaces {
             entries.load_override(&mut into)
         } else {
             entries.load(&mut into)
         };
+        Ok(loaded(alloc, &answer, &into)?)
+    }
+
+    fn play(&self, alloc: Global, cut: Cut, replaces: bool) -> Result<Got> {
+        let reader = PlayedReader::new(&self.steps, cut);
+        let mut entries = Iter::with_dialect(alloc, reader, self.dialect)?;
+        let items = self.take(alloc, &mut entries)?;
         Ok(Got {
             items,
-            load: loaded(alloc, &answer, &into)?,
+            load: self.load(alloc, entries, replaces)?,
         })
+    }
+
+    // Adds what the items and both loads answer where the bytes are cut so.
+    fn compare(
+        &self,
+        answers: &mut Vec<Comparison>,
+        (cut, way): (Cut, &'static str),
+        items: &str,
+        [load, load_override]: [&str; 2],
+    ) -> Result<()> {
+        let alloc = *answers.allocator();
+        let kept = self.play(alloc, cut, false)?;
+        push_answer(answers, "items", way, items, kept.items)?;
+        push_answer(answers, "load", way, load, kept.load)?;
+        let replaced = self.play(alloc, cut, true)?;
+        push_answer(answers, "items", way, items, replaced.items)?;
+        push_answer(answers, "load_override", way, load_override, replaced.load)
     }
 }
 
@@ -74,13 +107,8 @@ pub fn play(answers: &mut Vec<Comparison>, fields: &[&str]) -> Result<()> {
         steps: steps(alloc, steps_field)?,
         into,
     };
-    for (cut, way) in CUTS {
-        let kept = used.play(alloc, cut, false)?;
-        push_answer(answers, "items", way, items, kept.items)?;
-        push_answer(answers, "load", way, load, kept.load)?;
-        let replaced = used.play(alloc, cut, true)?;
-        push_answer(answers, "items", way, items, replaced.items)?;
-        push_answer(answers, "load_override", way, load_override, replaced.load)?;
+    for cut in CUTS {
+        used.compare(answers, cut, items, [load, load_override])?;
     }
     Ok(())
 }

@@ -1,10 +1,10 @@
 //! Rows of the kinds `written`, `pair`, `list` and `writes`: what is written, to which writer, and what it reads back as.
 
 use crate::answer::{push_answer, push_compared};
-use crate::file::{CUTS, dialect, listing};
+use crate::file::{CUTS, dialect, environment, listing};
 use anyhow::{Result, bail};
 use comparison::Comparison;
-use dotenvy::{Bytes, Dialect, Environment, Iter, Plain, Sink, is_key};
+use dotenvy::{Bytes, Dialect, Iter, Plain, Sink, is_key};
 use std::alloc::Global;
 use support::answers::{items, written};
 use support::notation::{pair, pairs};
@@ -36,11 +36,7 @@ fn written_pairs(alloc: Global, field: &str) -> Result<Vec<u8>> {
 
 // The items of the bytes, where some names are there: nothing is substituted.
 fn read_back(alloc: Global, bytes: &[u8]) -> Result<Vec<String>> {
-    let mut environment = Environment::new(alloc);
-    for name in ["A", "K", "n"] {
-        let name = String::from_str(alloc, name)?;
-        environment.set(name, String::from_str(alloc, "there")?)?;
-    }
+    let environment = environment(alloc, "A=there; K=there; n=there")?;
     let mut entries = Iter::new(alloc, Bytes::new(bytes))?;
     Ok(items(alloc, &mut entries, &environment)?)
 }
