@@ -1,7 +1,7 @@
 #!/usr/bin/env bash
-# Sees that the documents say what is played and built: that crates/replay/data/grammar.rows has the examples of
-# docs/GRAMMAR.md, and that each block of Rust in README.md and docs/LIBRARY.md stands in a source file of the crates that
-# run them, crates/examples and crates/check_file.
+# Sees that the documents say what is played, built and proved: that crates/replay/data/grammar.rows has the examples of
+# docs/GRAMMAR.md, that each block of Rust in README.md and docs/LIBRARY.md stands in a source file of the crates that run
+# them, crates/examples and crates/check_file, and that the contract in README.md is that of the code.
 # It takes a second, and no proof. The last line is `N passed, M failed`.
 set -euo pipefail
 cd "$(dirname "$0")/.."
@@ -28,13 +28,14 @@ has_examples() {
     python3 tests/grammar_rows.py | diff - crates/replay/data/grammar.rows
 }
 
-# Writes each block of Rust of a document to a file of its own, whose name is the number of the block's first line.
+# Writes each block of a document that has this label, such as rust, to a file of its own, whose name is the number of the
+# block's first line.
 cut_blocks() {
     rm -rf "$room/blocks"
     mkdir "$room/blocks"
-    awk -v blocks="$room/blocks" '
+    awk -v blocks="$room/blocks" -v label="$2" '
         /^```/ && inside { inside = 0; file = ""; next }
-        /^```/ { inside = 1; file = $0 == "```rust" ? blocks "/" (FNR + 1) : ""; next }
+        /^```/ { inside = 1; file = $0 == "```" label ? blocks "/" (FNR + 1) : ""; next }
         file != "" { print >file }
     ' "$1"
 }
@@ -62,9 +63,29 @@ stands_in_examples() {
 
 check_blocks() {
     local line
-    cut_blocks "$1"
+    cut_blocks "$1" rust
     for line in $(ls "$room/blocks" | sort -n); do
         check "$1, the block at line $line stands in an example" stands_in_examples "$room/blocks/$line"
+    done
+}
+
+# A file without white space and without lines of comment.
+squeezed() {
+    sed '/^ *\/\//d' "$1" | tr -d ' \n'
+}
+
+# Whether the text of a block stands in a source file, however both are broken into lines.
+stands_squeezed_in() {
+    squeezed "$2" | grep -qF -- "$(squeezed "$1")"
+}
+
+# The document has one contract at least, and each is one of this source file.
+check_contracts() {
+    local line
+    cut_blocks "$1" contract
+    check "$1 has a contract" test -n "$(ls "$room/blocks")"
+    for line in $(ls "$room/blocks" | sort -n); do
+        check "$1, the contract at line $line is that of $2" stands_squeezed_in "$room/blocks/$line" "$2"
     done
 }
 
@@ -76,6 +97,7 @@ if [ -d crates/examples ]; then
         fi
     done
 fi
+check_contracts README.md crates/dotenv_base/src/environment.rt
 
 echo "$passed passed, $failed failed"
 [ "$failed" -eq 0 ]
