@@ -48,8 +48,8 @@ pub fn differences(alloc: Global, comparisons: &[Comparison]) -> Result<Vec<Stri
     Ok(found)
 }
 
-/// Prints each difference behind a name, and tells whether there is one.
-pub fn tell_differences<R: AllocGlobal + Print>(
+/// Prints each difference behind a name on standard error, and tells whether there is one.
+pub fn tell_differences<R: AllocGlobal + Eprint>(
     rt: &R,
     name: &str,
     comparisons: &[Comparison],
@@ -59,7 +59,7 @@ pub fn tell_differences<R: AllocGlobal + Print>(
 {
     let differences = differences(rt.alloc(), comparisons)?;
     for difference in &differences {
-        println!(rt; "{name}, {difference}")?;
+        eprintln!(rt; "{name}, {difference}")?;
     }
     Ok(!differences.is_empty())
 }
