@@ -1,10 +1,1 @@
-pub mod Remembered
-pub mod inside
-pub mod Iter
-pub mod Meaning
-pub mod NextItem
-pub mod LoadsLeft
-pub mod Listed
 pub mod FirstUse
-pub mod Iteration
-pub mod Laws

@@ -4,15 +4,15 @@ ghost use Rattle.std.specs.Path.{path_bytes, path_buf_bytes};
 ghost use Rattle.dotenv_base.specs.Environment.{KeepsNames};
 ghost use Rattle.dotenv_base.specs.Errors.{IsFileFault};
 ghost use Rattle.dotenv_base.specs.Find.{IsPathOf};
-ghost use Rattle.dotenvy.specs.Iter.{fresh};
-ghost use Rattle.dotenvy.specs.LoadsLeft.{ChangesKeys};
+ghost use Rattle.dotenv_items.specs.Iter.{fresh};
+ghost use Rattle.dotenv_items.specs.LoadsLeft.{ChangesKeys};
 
 use crate::find::{Finder, open};
-use crate::iter::{Iter, from_read, from_read_iter, from_read_override};
 use dotenv_base::environment::Environment;
 use dotenv_base::errors::Result;
 use dotenv_base::source::Plain;
 use dotenv_format::dialect::Dialect;
+use dotenv_items::iter::{Iter, from_read, from_read_iter, from_read_override};
 use std::alloc::{Alloc, Allocator};
 use std::env::Env;
 use std::fs::Files;

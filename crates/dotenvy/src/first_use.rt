@@ -4,7 +4,7 @@ ghost use Rattle.std.specs.FinMap as fin;
 ghost use Rattle.dotenv_base.specs.Environment.{KeepsNames};
 ghost use Rattle.dotenv_base.specs.Errors.{IsMemory, IsMemoryErr};
 ghost use Rattle.dotenvy.specs.FirstUse.{AnswersVar};
-ghost use Rattle.dotenvy.specs.LoadsLeft.{ChangesKeys};
+ghost use Rattle.dotenv_items.specs.LoadsLeft.{ChangesKeys};
 
 use crate::files::dotenv;
 use dotenv_base::environment::{Environment, Vars, mark_loaded, snapshot};

@@ -4,25 +4,19 @@
 mod files;
 mod find;
 mod first_use;
-mod iter;
 pub mod laws;
-mod loads;
-mod meaning;
-mod parse;
-mod remembered;
-mod written;
 
 pub use dotenv_base::environment::{Environment, Pairs, Vars, is_key, is_name};
 pub use dotenv_base::errors::{Error, Result, VarError};
 pub use dotenv_base::source::{Bytes, Plain, Sink, Source};
 pub use dotenv_format::dialect::Dialect;
+pub use dotenv_items::iter::{Items, Iter, from_read, from_read_iter, from_read_override};
+pub use dotenv_items::written::{list, list_with, write_pair};
 pub use files::{
     dotenv, dotenv_iter, dotenv_override, from_filename, from_filename_iter,
     from_filename_override, from_filename_with, from_path, from_path_iter, from_path_override,
 };
 pub use first_use::{var, vars};
-pub use iter::{Items, Iter, from_read, from_read_iter, from_read_override};
-pub use written::{list, list_with, write_pair};
 
 /// Environments: names with their values.
 pub mod environment {

@@ -6,9 +6,9 @@ use Rattle.dotenv_format.specs.Entries.{Fails, Memory}
 use Rattle.dotenv_base.specs.Environment.{Texts}
 use Rattle.dotenv_base.specs.Errors.{IsMemory}
 use Rattle.dotenv_format.specs.Items.{LookUp}
-use Rattle.dotenvy.specs.Iter.{fresh}
-use Rattle.dotenvy.specs.LoadsLeft.{Rule, Leaves, LoadsLeft}
-use Rattle.dotenvy.specs.Meaning.{values_of, recalled_of}
+use Rattle.dotenv_items.specs.Iter.{fresh}
+use Rattle.dotenv_items.specs.LoadsLeft.{Rule, Leaves, LoadsLeft}
+use Rattle.dotenv_items.specs.Meaning.{values_of, recalled_of}
 use Rattle.dotenv_base.specs.Source.{Ahead}
 use Rattle.std.specs.Option.{option_or}
 use Rattle.env_layers.specs.declared.layers.Mode.{Mode}

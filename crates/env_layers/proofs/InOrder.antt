@@ -33,14 +33,14 @@ use Rattle.dotenv_format.specs.declared.dialect.Dialect.TheVariants.{V15}
 use Rattle.dotenv_base.specs.declared.errors.Error.{Error}
 use Rattle.dotenv_format.specs.Entries.{Failure, Entry}
 use Rattle.dotenv_base.specs.Environment.{Texts}
-use Rattle.dotenvy.specs.Laws.{LoadsAllLeft, LoadsTakeAll}
-use Rattle.dotenvy.specs.Iteration.{CanRead}
+use Rattle.dotenv_items.specs.Laws.{LoadsAllLeft, LoadsTakeAll}
+use Rattle.dotenv_items.specs.Iteration.{CanRead}
 use Rattle.dotenv_format.specs.Items.{no_values}
-use Rattle.dotenvy.specs.Iter.{fresh}
+use Rattle.dotenv_items.specs.Iter.{fresh}
 use Rattle.dotenv_format.specs.Laws.{HasOneReading}
-use Rattle.dotenvy.specs.LoadsLeft.{IsAnswer, Leaves}
+use Rattle.dotenv_items.specs.LoadsLeft.{IsAnswer, Leaves}
 use Rattle.dotenv_format.specs.Marks.{without_mark}
-use Rattle.dotenvy.specs.Meaning.{values_of, recalled_of}
+use Rattle.dotenv_items.specs.Meaning.{values_of, recalled_of}
 use Rattle.env_layers.specs.declared.layers.Mode.{Mode}
 use Rattle.env_layers.specs.declared.layers.Mode.TheVariants.{Keep, Override}
 use Rattle.env_layers.specs.Layers.{after_load, rule_of}

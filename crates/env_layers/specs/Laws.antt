@@ -8,7 +8,7 @@ use Rattle.dotenv_base.specs.Environment.{Texts}
 use Rattle.dotenv_base.specs.Errors.{IsMemoryErr}
 use Rattle.dotenv_format.specs.Items.{LookUp, no_values}
 use Rattle.dotenv_format.specs.Marks.{without_mark}
-use Rattle.dotenvy.specs.Meaning.{values_of}
+use Rattle.dotenv_items.specs.Meaning.{values_of}
 use Rattle.dotenv_format.specs.Run.{Loaded}
 use Rattle.dotenv_base.specs.Source.{Ahead}
 use Rattle.env_layers.specs.declared.layers.Mode.{Mode}

@@ -3,9 +3,9 @@ use Rattle.std.specs.Prelude.{◌≡◌, Option, None, Result, Ok, Err}
 use Rattle.dotenv_format.specs.declared.dialect.Dialect.TheVariants.{V15}
 use Rattle.dotenv_base.specs.declared.errors.Error.{Error}
 use Rattle.dotenv_base.specs.Environment.{Texts}
-use Rattle.dotenvy.specs.Iter.{fresh}
+use Rattle.dotenv_items.specs.Iter.{fresh}
 use Rattle.dotenv_format.specs.Loads.{load_result, override_result}
-use Rattle.dotenvy.specs.LoadsLeft.{Rule, LoadsLeft}
+use Rattle.dotenv_items.specs.LoadsLeft.{Rule, LoadsLeft}
 use Rattle.dotenv_base.specs.Source.{Ahead}
 use Rattle.env_layers.specs.declared.layers.Mode.{Mode}
 use Rattle.env_layers.specs.declared.layers.Mode.TheVariants.{Keep, Override}

@@ -314,8 +314,12 @@ fn compare_list(
     let answered = file.list(&ration, &mut writer);
     let got = written(alloc, &answered, writer.into_inner())?;
     let is_refused = is_refused(&ration, &answered)?;
-    let wanted = if is_refused { "memory" } else { wanted };
-    push_answer(answers, "listing", "up to a refusal", wanted, got)?;
+    let (when, wanted) = if is_refused {
+        ("at a refusal", "memory")
+    } else {
+        ("in all", wanted)
+    };
+    push_answer(answers, "listing", when, wanted, got)?;
     Ok(!is_refused)
 }
 

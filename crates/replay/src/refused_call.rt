@@ -8,7 +8,6 @@ use anyhow::{Context, Result, bail};
 use comparison::Comparison;
 use dotenvy::{Environment, Error, vars};
 use std::alloc::Global;
-use std::io::ErrorKind;
 use support::Rationed;
 use support::answers::fault;
 use support::environment::environment_of;
@@ -26,18 +25,6 @@ enum Run {
     Refused(String),
     // The call made fewer requests.
     Done,
-}
-
-// Uses the environment where the system finds no file.
-fn use_without_files<'r>(
-    rt: HostRuntime,
-    ration: Ration<'r>,
-    environment: &mut Environment<Ration<'r>>,
-) -> dotenvy::Result<(), Ration<'r>> {
-    let mut system = PlayedSystem::new(rt);
-    system.lost = Some(ErrorKind::NotFound);
-    vars(&(&system, ration), environment)?;
-    Ok(())
 }
 
 // A call, what stands before it, and what it answers and leaves.
@@ -60,7 +47,8 @@ impl Refused<'_> {
     ) -> dotenvy::Result<Environment<Ration<'r>>, Ration<'r>> {
         let mut environment = environment_of(ration, self.names)?;
         if self.is_used {
-            use_without_files(self.rt, ration, &mut environment)?;
+            let system = PlayedSystem::without_files(self.rt);
+            vars(&(&system, ration), &mut environment)?;
         }
         Ok(environment)
     }

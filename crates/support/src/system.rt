@@ -47,6 +47,13 @@ impl PlayedSystem {
         }
     }
 
+    /// As `new`, but no file is found, since there is no current directory.
+    pub fn without_files(rt: HostRuntime) -> PlayedSystem {
+        let mut system = PlayedSystem::new(rt);
+        system.lost = Some(ErrorKind::NotFound);
+        system
+    }
+
     /// The paths that were opened since the last call, and the commands that were started, as
     /// `start [sh][-c][exit] A=[1] P=[0]`.
     pub fn take_notes(&mut self) -> Vec<String> {

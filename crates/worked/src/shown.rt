@@ -3,7 +3,6 @@
 use dotenvy::environment::Vars;
 use dotenvy::{Environment, Result, vars};
 use std::alloc::{AllocError, Allocator, Global};
-use std::io::ErrorKind;
 use std::test::Fail;
 use support::answers;
 use support::system::PlayedSystem;
@@ -27,9 +26,7 @@ pub fn pairs_of(alloc: Global, vars: Vars) -> std::result::Result<String, AllocE
 
 /// What `vars` gives where the system finds no file.
 pub fn vars_without_files(rt: HostRuntime, environment: &mut Environment) -> Result<Vars> {
-    let mut system = PlayedSystem::new(rt);
-    system.lost = Some(ErrorKind::NotFound);
-    vars(&system, environment)
+    vars(&PlayedSystem::without_files(rt), environment)
 }
 
 /// An environment of these names and values.

@@ -1,0 +1,107 @@
+use Rattle.std.proofs.Common.{rules, ◌∙◌, Err, Ok, ap, refl, subst}
+use Rattle.std.specs.Prelude.{is_some}
+use Rattle.std.specs.Str.{chars}
+use Rattle.std.proofs.lemmas.Result.{err_from_is_err_and}
+use Rattle.dotenv_format.specs.Run.{run}
+use Rattle.dotenv_items.specs.Iter.{IterState}
+use Rattle.dotenv_items.specs.LoadsLeft.{LoadsLeft}
+use Rattle.dotenv_items.specs.inside.LoadStep.{mode_of, LoadsLine}
+use Rattle.dotenv_items.specs.Remembered.{remembered_of}
+use Rattle.dotenv_items.specs.inside.ItemStep.{state_of}
+use Rattle.dotenv_items.proofs.LoadSteps.{
+  CameTo,
+  came_start,
+  came_line,
+  loads_line,
+  loads_none,
+  loads_fault,
+  loads_mark,
+}
+use Rattle.dotenv_items.proofs.iter.Iter.load_lines.Goals as goal
+
+pub returns-in_err-drop_mark-clause-told : goal.returns-in_err-drop_mark-clause-told
+returns-in_err-drop_mark-clause-told g c = λ opened.
+    let p = err_from_is_err_and c.from_residual.result c.from_residual.ensures.1 in
+    let e = c.in_err-drop_mark.field-0.0 in
+    let names = c.args.env.now.names in
+    let mode = mode_of c.args.mode in
+    let view = c.self.view_is in
+    let inside =
+    state_of c.self.inside.lines.lines (remembered_of c.self.inside.remembered.entries) c.self.inside.dialect
+    c.self.inside.item_lines in
+    rw (p.1, p.2) (subst (λ s. LoadsLeft (run mode) s names (Err e) names) view
+    (loads_mark mode inside c.drop_mark.new.self.lines.input names e
+    (λ a told. c.in_err-drop_mark.ensures.told a (ap (λ (s : IterState). s.lines.stage) view ∙ opened) told)))
+
+pub loading-init : goal.loading-init
+loading-init g c =
+    let names = c.args.env.now.names in
+    let mode = mode_of c.args.mode in
+    let inside =
+    state_of c.self.inside.lines.lines (remembered_of c.self.inside.remembered.entries) c.self.inside.dialect
+    c.self.inside.item_lines in
+    let start : IterState = record inside { lines = c.drop_mark.new.self.lines } in record {
+      shut = λ shut. search rules;
+      came =
+          subst (λ s. CameTo mode s names names start) c.self.view_is
+          (came_start g.row.A.Denot mode inside start names c.in_ok-drop_mark.ensures.ok refl refl
+          c.in_ok-drop_mark.ensures.told);
+      keeps = λ keep k there. refl;
+      keys = λ n other. refl;
+      mark = refl;
+    }
+
+pub loading-preserved : goal.loading-preserved
+loading-preserved g c =
+    let A = g.row.A.Denot in
+    let names = c.loading.env.names in
+    let new = c.load_line.new.env.names in
+    let mode = mode_of c.args.mode in
+    let self = c.loading.self-inside in
+    let now = state_of self.lines.lines (remembered_of self.remembered.entries) self.dialect self.item_lines in
+    let next : IterState = record now { lines = c.advance.new.self.lines } in record {
+      shut = λ shut. absurd (search rules);
+      came =
+          came_line mode c.args.self now next c.args.env.now.names names new c.in-Some.outcome c.advance.new.self.line
+          c.loading.invariant.came c.in_ok-outcome.was (λ shut. (c.in-Some.ensures.shut shut).0) c.in-Some.ensures.told
+          (subst (λ bytes. LoadsLine {A = A} mode now.dialect now.remembered (chars bytes) names (Ok tt) new)
+          c.line.ensures c.in_ok-load_line.ensures.loads) refl refl;
+      keeps = λ keep k there.
+          let before = c.loading.invariant.keeps keep k there in
+          c.load_line.ensures.keeps keep k (ap is_some before ∙ there) ∙ before;
+      keys = λ n other. c.load_line.ensures.keys n other ∙ c.loading.invariant.keys n other;
+      mark = search rules;
+    }
+
+pub returns-in_err-outcome-clause-told : goal.returns-in_err-outcome-clause-told
+returns-in_err-outcome-clause-told g c = λ opened.
+    let p = err_from_is_err_and c.from_residual-in_err-outcome.result c.from_residual-in_err-outcome.ensures.1 in
+    let self = c.loading.self-inside in
+    let now = state_of self.lines.lines (remembered_of self.remembered.entries) self.dialect self.item_lines in
+    rw (p.1, p.2) (loads_fault (mode_of c.args.mode) c.args.self now c.advance.new.self.lines c.args.env.now.names
+    c.loading.env.names c.in-Some.outcome c.advance.new.self.line c.in_err-outcome.field-0.0 opened
+    c.loading.invariant.came c.in_err-outcome.was
+    (λ shut. (c.in-Some.ensures.shut shut).0) c.in-Some.ensures.told)
+
+pub returns-in_err-load_line-clause-told : goal.returns-in_err-load_line-clause-told
+returns-in_err-load_line-clause-told g c = λ opened.
+    let p = err_from_is_err_and c.from_residual-in_err-load_line.result c.from_residual-in_err-load_line.ensures.1 in
+    let e = c.in_err-load_line.field-0.0 in
+    let names = c.loading.env.names in
+    let new = c.load_line.new.env.names in
+    let mode = mode_of c.args.mode in
+    let self = c.loading.self-inside in
+    let now = state_of self.lines.lines (remembered_of self.remembered.entries) self.dialect self.item_lines in
+    rw (p.1, p.2)
+    (loads_line mode c.args.self now c.advance.new.self.lines c.args.env.now.names names new c.in-Some.outcome
+    c.advance.new.self.line e opened c.loading.invariant.came c.in_ok-outcome.was
+    (λ shut. (c.in-Some.ensures.shut shut).0) c.in-Some.ensures.told
+    (subst (λ bytes. LoadsLine mode now.dialect now.remembered (chars bytes) names (Err e) new)
+    c.line.ensures c.in_err-load_line.ensures.loads))
+
+pub returns-clause-told : goal.returns-clause-told
+returns-clause-told g c = λ opened.
+    let self = c.loading.self-inside in
+    let now = state_of self.lines.lines (remembered_of self.remembered.entries) self.dialect self.item_lines in
+    loads_none {A = g.row.A.Denot} (mode_of c.args.mode) c.args.self now c.advance.new.self.lines c.args.env.now.names
+    c.loading.env.names c.advance.new.self.line opened c.loading.invariant.came c.in_default.ensures.told

@@ -1,0 +1,9 @@
+pub mod Remembered
+pub mod inside
+pub mod Iter
+pub mod Meaning
+pub mod NextItem
+pub mod LoadsLeft
+pub mod Listed
+pub mod Iteration
+pub mod Laws
