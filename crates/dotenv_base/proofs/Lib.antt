@@ -9,4 +9,3 @@ pub mod EnvironmentTexts
 pub mod GoodPairs
 pub mod SameEnvironments
 pub mod Keys
-pub mod Nuls

@@ -36,7 +36,7 @@ use Rattle.std.specs.List.{list_any, before_last, suffix_len}
 use Rattle.std.specs.Path.{path_join}
 use Rattle.std.proofs.lemmas.List.Folds.{list_any_at}
 use Rattle.std.proofs.lemmas.List.Sums.{suffix_len_is}
-use Rattle.dotenv_format.specs.Characters.{begins_with}
+use Rattle.dotenv_characters.specs.Characters.{begins_with}
 use Rattle.dotenv_base.specs.Search.{slash, is_slash, ends_with_slash, path_in, parent_part, parent_of}
 
 -- the last character is a slash, by its place

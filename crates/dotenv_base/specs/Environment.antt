@@ -28,7 +28,7 @@ use Rattle.std.specs.Cmp.Lexicographic.{slice_cmp, pointwise, lists_equiv, nat_l
 use Rattle.std.specs.Coded.{Coded, code_by, coded×, coded_ℕ, coded_list, coded_bool}
 use Rattle.std.specs.FinMap as fin
 use Rattle.std.specs.declared.string.String.{String}
-use Rattle.dotenv_format.specs.Characters.{equals_sign}
+use Rattle.dotenv_characters.specs.Characters.{equals_sign}
 
 -- names and their values, in the byte order of the names
 abbrev pub Texts : Type 0

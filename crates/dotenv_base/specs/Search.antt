@@ -29,7 +29,7 @@ use Rattle.std.specs.declared.io.ErrorKind.{ErrorKind}
 use Rattle.std.specs.declared.io.ErrorKind.TheVariants.{NotFound}
 use Rattle.dotenv_base.specs.declared.search.Look.{Look}
 use Rattle.dotenv_base.specs.declared.search.Look.TheVariants.{File, Other, Fault}
-use Rattle.dotenv_format.specs.Characters.{begins_with}
+use Rattle.dotenv_characters.specs.Characters.{begins_with}
 
 -- what parts the names in a path
 abbrev pub slash : ℕ

@@ -3,13 +3,13 @@ ghost use Rattle.std.specs.Prelude.{◌≡◌, IsTrue, filter, true, false, opti
 ghost use Rattle.std.specs.FinMap as fin;
 ghost use Rattle.std.specs.Iterator.{YieldsFirstBy, item_count};
 ghost use Rattle.std.specs.Str.{chars};
-ghost use Rattle.dotenv_format.specs.Statement.{is_key};
+ghost use Rattle.dotenv_characters.specs.Keys.{is_key};
 ghost use Rattle.dotenv_base.specs.Environment.{name_ok, value_ok, pair_ok, text_entries, IsEnvironment, AreTexts};
 ghost use Rattle.dotenv_base.specs.Errors.{IsMemory, IsNulOf};
 
 use crate::errors::{Error, Result};
 use crate::process::text_entries;
-use dotenv_format::text::{begins_key, continues_key};
+use dotenv_characters::classes::{begins_key, continues_key};
 use std::alloc::{Alloc, Allocator, Global};
 use std::collections::BTreeMap;
 use std::collections::btree_map::{IntoIter, Iter};

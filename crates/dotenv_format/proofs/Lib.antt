@@ -1,4 +1,3 @@
-pub mod Basics
 pub mod Fronts
 pub mod bytes
 pub mod lines

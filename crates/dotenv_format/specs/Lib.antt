@@ -1,4 +1,3 @@
-pub mod Characters
 pub mod PhysicalLines
 pub mod Tokens
 pub mod LogicalLine

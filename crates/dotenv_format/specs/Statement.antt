@@ -2,12 +2,8 @@
 use Rattle.std.specs.Prelude.{◌≡◌, ◌⊎◌, ℕ, Bool, false, not, ◌&&◌, List, [], ◌∷◌, ◌++◌, codes, IsTrue}
 use Rattle.std.specs.Char.{is_whitespace}
 use Rattle.std.specs.List.{list_all}
-use Rattle.dotenv_format.specs.Characters.{begins_key, continues_key, equals_sign}
-
--- the whole text is a key
-abbrev pub is_key : List ℕ → Bool
-is_key [] = false
-is_key (c ∷ cs) = begins_key c && list_all continues_key cs
+use Rattle.dotenv_characters.specs.Characters.{equals_sign}
+use Rattle.dotenv_characters.specs.Keys.{is_key}
 
 -- the text has white space alone
 abbrev pub is_white_space : List ℕ → Bool

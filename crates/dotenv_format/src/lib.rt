@@ -4,7 +4,6 @@
 //! public of it.
 #![tactic(auto)]
 
-pub mod dialect;
 pub mod laws;
 pub mod statement;
 pub mod text;

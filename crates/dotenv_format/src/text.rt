@@ -1,15 +1,14 @@
-// Texts cut at characters, and the classes of characters.
+// Texts cut at characters.
 ghost use Rattle.std.specs.Prelude.{◌≡◌, ◌==◌, ◌++◌, [], not, length, unwrap_or, MatchOption};
 ghost use Rattle.std.specs.Str.{chars, IsUtf8};
-ghost use Rattle.unicode.specs.GeneralCategory.{general_category, general_category_number};
-ghost use Rattle.dotenv_format.specs.Characters.{begins_key, double_quote, is_blank, is_space_or_tab, continues_key, is_number_category, allows_underscore, is_name_character, is_empty_or_comment};
+ghost use Rattle.dotenv_characters.specs.Characters.{continues_key, is_space_or_tab, is_empty_or_comment};
 ghost use Rattle.std.specs.List.{prefix_len, position_from};
 ghost use Rattle.dotenv_format.specs.inside.Slices.{BeginsWith, IsSpan, PassesBytes, PassesTo, has_character, is_name_byte, is_of_kind, is_token_byte, in_run};
 ghost use Rattle.dotenv_format.specs.Value.{is_plain_outside};
 
-use crate::dialect::Dialect;
+use dotenv_characters::classes::{allows_underscore, continues_key, is_blank, is_name_character};
+use dotenv_characters::dialect::Dialect;
 use memchr::{memchr2, memchr3};
-use unicode::properties::{GeneralCategory, is_alphabetic};
 
 /// Where a part of a value stands.
 #[derive(Clone, Copy)]
@@ -35,24 +34,6 @@ pub enum Class {
     Quoted(char),
 }
 
-pub fn begins_key(character: char) -> bool
-    ensures { result ≡ begins_key character }
-{
-    character.is_ascii_alphabetic() || character == '_'
-}
-
-pub fn continues_key(character: char) -> bool
-    ensures { result ≡ continues_key character }
-{
-    begins_key(character) || character.is_ascii_digit() || character == '.'
-}
-
-fn is_blank(c: char) -> bool
-    ensures { result ≡ is_blank c }
-{
-    c.is_whitespace() && c != '\n' && c != '\r'
-}
-
 impl Class {
     ghost use Rattle.dotenv_format.specs.inside.Slices.{has_character};
 
@@ -71,33 +52,6 @@ impl Class {
             Class::Quoted(quote) => c != quote && c != '\\',
         }
     }
-}
-
-fn is_number(c: char) -> bool
-    ensures { result ≡ is_number_category (general_category_number (general_category c)) }
-{
-    matches!(
-        GeneralCategory::for_char(c),
-        GeneralCategory::DecimalNumber
-            | GeneralCategory::LetterNumber
-            | GeneralCategory::OtherNumber
-    )
-}
-
-fn allows_underscore(dialect: Dialect) -> bool
-    ensures { result ≡ allows_underscore dialect }
-{
-    match dialect {
-        Dialect::V15 => false,
-        Dialect::Next => true,
-    }
-}
-
-#[tactic(auto, unfolding(crate::specs::Characters::is_name_character))]
-fn is_name_character(dialect: Dialect, c: char) -> bool
-    ensures { result ≡ is_name_character dialect c }
-{
-    is_alphabetic(c) || is_number(c) || (allows_underscore(dialect) && c == '_')
 }
 
 /// The first character, and what follows it.

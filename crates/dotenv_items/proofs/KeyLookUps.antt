@@ -28,7 +28,7 @@ use Rattle.std.proofs.lemmas.Slice.Eq.{bytes_eq-Decides}
 use Rattle.std.proofs.lemmas.Bool.Decides.{same_from_decides}
 use Rattle.dotenv_base.specs.Environment.{Texts}
 use Rattle.dotenv_items.specs.Remembered.{Remembered, recalled}
-use Rattle.dotenv_format.specs.Statement.{is_key}
+use Rattle.dotenv_characters.specs.Keys.{is_key}
 use Rattle.dotenv_format.specs.Items.{with_value}
 use Rattle.dotenv_items.specs.Meaning.{by_characters, values_of}
 use Rattle.dotenv_items.specs.LoadsLeft.{ChangesKeys}

@@ -10,3 +10,4 @@ pub mod NextItems
 pub mod KeyLookUps
 pub mod LineLoads
 pub mod LoadSteps
+pub mod Nuls

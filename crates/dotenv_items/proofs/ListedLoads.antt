@@ -10,9 +10,9 @@ use Rattle.std.specs.Option.{option_flatten}
 use Rattle.std.proofs.lemmas.Bool.{true≢false}
 use Rattle.std.proofs.lemmas.Str.{encodes-chars, encodes_same}
 use Rattle.std.specs.declared.io.ErrorKind.{ErrorKind}
-use Rattle.dotenv_format.specs.declared.dialect.Dialect.{Dialect}
+use Rattle.dotenv_characters.specs.declared.dialect.Dialect.{Dialect}
 use Rattle.dotenv_base.specs.declared.errors.Error.{Error}
-use Rattle.dotenv_format.specs.Statement.{is_key}
+use Rattle.dotenv_characters.specs.Keys.{is_key}
 use Rattle.dotenv_base.specs.Errors.{IsMemory, IsMemoryErr}
 use Rattle.dotenv_format.specs.Entries.{Entry, Failure}
 use Rattle.dotenv_format.specs.Run.{Keep, Loaded}

@@ -9,7 +9,7 @@ pub mod laws;
 pub use dotenv_base::environment::{Environment, Pairs, Vars, is_key, is_name};
 pub use dotenv_base::errors::{Error, Result, VarError};
 pub use dotenv_base::source::{Bytes, Plain, Sink, Source};
-pub use dotenv_format::dialect::Dialect;
+pub use dotenv_characters::dialect::Dialect;
 pub use dotenv_items::iter::{Items, Iter, from_read, from_read_iter, from_read_override};
 pub use dotenv_items::written::{list, list_with, write_pair};
 pub use files::{

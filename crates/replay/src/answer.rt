@@ -41,3 +41,16 @@ pub fn push_compared(
     })?;
     Ok(())
 }
+
+/// Adds what was got before a refusal: of the texts that the field stands for, the first ones are wanted.
+pub fn push_front(
+    answers: &mut Vec<Comparison>,
+    what: &'static str,
+    field: &str,
+    got: Vec<String>,
+) -> Result<()> {
+    let mut wanted = texts(*answers.allocator(), field)?;
+    wanted.truncate(got.len());
+    push_compared(answers, what, "before a refusal", wanted, got)?;
+    Ok(())
+}

@@ -1,5 +1,6 @@
 //! Calls by name: those that find a file, open one, or load one at the first use of an environment, and those on layers.
 
+use crate::layers::push_required;
 use dotenvy::{Bytes, Dialect, Environment, Iter, Plain, Result};
 use env_layers::{Layers, Missing, Mode};
 use std::alloc::{Alloc, Allocator};
@@ -204,15 +205,8 @@ impl<'a> Call<'a> {
         let answer = layers.require(rt.alloc(), &names);
         *environment = layers.into_environment();
         match answer {
-            Ok(()) => push(texts, "ok"),
             Err(Missing::Memory(refused)) => Err(refused.into()),
-            Err(Missing::Names(absent)) => {
-                push(texts, "missing")?;
-                for name in absent {
-                    push(texts, name.as_str())?;
-                }
-                Ok(())
-            }
+            _ => Ok(push_required(texts, &answer)?),
         }
     }
 }

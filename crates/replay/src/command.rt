@@ -1,15 +1,16 @@
 //! Rows of the kinds `words` and `run`: what words of the command line ask for, and what the program does of them.
 
 use crate::answer::push_answer;
+use crate::row::refuse_count;
 use crate::scene::Scene;
-use anyhow::{Context, Result, bail};
+use anyhow::{Context, Result};
 use comparison::Comparison;
 use dotenv_command::command_line::command_line;
 use dotenv_command::failure::Failure;
 use dotenv_command::run::run;
 use dotenvy::{Dialect, Plain};
-use std::alloc::{Alloc, AllocError, Global};
-use support::notation::{list, text};
+use std::alloc::{AllocError, Global};
+use support::notation::text;
 use support::reader::{Cut, PlayedReader};
 use support::telling::{Telling, spelled};
 use support::writer::PlayedWriter;
@@ -60,67 +61,11 @@ fn asked(alloc: Global, words: &[String]) -> Result<Vec<String>> {
 pub fn play_words(answers: &mut Vec<Comparison>, fields: &[&str]) -> Result<()> {
     let alloc = *answers.allocator();
     let [words_field, wanted] = fields else {
-        bail!("{} fields in place of 2", fields.len());
+        return refuse_count(fields, 2);
     };
     let words = words(alloc, words_field)?;
     let got = asked(alloc, words.as_slice())?;
     push_answer(answers, "words", "read", wanted, got)
-}
-
-// A run: the steps before it, its words, and what its reader and its writer do.
-#[derive(Drop)]
-struct Run<'a> {
-    steps: Vec<&'a str>,
-    words: Vec<String>,
-    input: Vec<reader::Step>,
-    output: Vec<writer::Step>,
-}
-
-// What a run answered and wrote, what it read, and what it opened and started.
-#[derive(Drop)]
-struct Outcome {
-    answer: Vec<String>,
-    reads: Vec<String>,
-    notes: Vec<String>,
-}
-
-fn play_steps(scene: &mut Scene, steps: &[&str]) -> Result<()> {
-    for step in steps {
-        if !scene.play(step)? {
-            bail!("no step: {step}");
-        }
-    }
-    Ok(())
-}
-
-impl Run<'_> {
-    fn play_in_scene(self, rt: HostRuntime) -> Result<Outcome> {
-        let mut scene = Scene::enter(rt)?;
-        let played = self.play(&mut scene);
-        scene.leave()?;
-        played
-    }
-
-    fn play(self, scene: &mut Scene) -> Result<Outcome> {
-        let alloc = scene.system.alloc();
-        let Run {
-            steps,
-            words,
-            input,
-            output,
-        } = self;
-        play_steps(scene, &steps)?;
-        let mut reader = Telling::new(alloc, PlayedReader::new(&input, Cut::Whole));
-        let mut writer = Plain::new(PlayedWriter::new(alloc, output));
-        let answered = run(&scene.system, &words, &mut reader, &mut writer);
-        let answer = answer(alloc, answered, writer.into_inner().into_taken())?;
-        let notes = scene.system.take_notes();
-        Ok(Outcome {
-            answer,
-            reads: spelled(alloc, reader.into_calls())?,
-            notes: scene.all_below(&notes)?,
-        })
-    }
 }
 
 // The status or the failure, and what was written, if anything was.
@@ -142,19 +87,27 @@ fn answer(
 }
 
 /// Plays a row of kind `run`.
-pub fn play_run(answers: &mut Vec<Comparison>, rt: HostRuntime, fields: &[&str]) -> Result<()> {
-    let alloc = rt.alloc();
-    let [steps, words_field, input, output, answer, reads, notes] = fields else {
-        bail!("{} fields in place of 7", fields.len());
+pub fn play_run(answers: &mut Vec<Comparison>, scene: &mut Scene, fields: &[&str]) -> Result<()> {
+    let [steps, words_field, input, output, wanted, reads, notes] = fields else {
+        return refuse_count(fields, 7);
     };
-    let run = Run {
-        steps: list(alloc, steps)?,
-        words: words(alloc, words_field)?,
-        input: reader::steps(alloc, input)?,
-        output: writer::steps(alloc, output)?,
-    };
-    let outcome = run.play_in_scene(rt)?;
-    push_answer(answers, "run", "answered", answer, outcome.answer)?;
-    push_answer(answers, "run", "read", reads, outcome.reads)?;
-    push_answer(answers, "run", "opened and started", notes, outcome.notes)
+    let alloc = *answers.allocator();
+    scene.play_all(steps)?;
+    let words = words(alloc, words_field)?;
+    let input = reader::steps(alloc, input)?;
+    let mut reader = Telling::new(alloc, PlayedReader::new(&input, Cut::Whole));
+    let mut writer = Plain::new(PlayedWriter::new(alloc, writer::steps(alloc, output)?));
+    let answered = run(&scene.system, &words, &mut reader, &mut writer);
+    let got = answer(alloc, answered, writer.into_inner().into_taken())?;
+    push_answer(answers, "run", "answered", wanted, got)?;
+    let got = spelled(alloc, reader.into_calls())?;
+    push_answer(answers, "run", "read", reads, got)?;
+    let noted = scene.system.take_notes();
+    push_answer(
+        answers,
+        "run",
+        "opened and started",
+        notes,
+        scene.all_below(&noted)?,
+    )
 }

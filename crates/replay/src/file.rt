@@ -1,6 +1,7 @@
 //! Rows of kind `file`: what a file gives in each way to read it.
 
 use crate::answer::{is_asked, push_answer};
+use crate::row::refuse_count;
 use anyhow::{Result, bail};
 use comparison::Comparison;
 use dotenvy::{
@@ -61,22 +62,14 @@ impl File<'_> {
         Ok(items)
     }
 
-    fn load(&self, alloc: Global, cut: Cut) -> Result<Vec<String>> {
+    // What one of the loads answers and leaves.
+    fn load(&self, alloc: Global, cut: Cut, replaces: bool) -> Result<Vec<String>> {
         let mut environment = environment(alloc, self.environment)?;
         let reader = PlayedReader::new(&self.steps, cut);
-        let answer = match (self.dialect, cut) {
-            (Dialect::V15, Cut::Whole) => from_read(alloc, reader, &mut environment),
-            _ => Iter::with_dialect(alloc, reader, self.dialect)?.load(&mut environment),
-        };
-        Ok(loaded(alloc, &answer, &environment)?)
-    }
-
-    fn load_override(&self, alloc: Global, cut: Cut) -> Result<Vec<String>> {
-        let mut environment = environment(alloc, self.environment)?;
-        let reader = PlayedReader::new(&self.steps, cut);
-        let answer = match (self.dialect, cut) {
-            (Dialect::V15, Cut::Whole) => from_read_override(alloc, reader, &mut environment),
-            _ => Iter::with_dialect(alloc, reader, self.dialect)?.load_override(&mut environment),
+        let answer = match (self.dialect, cut, replaces) {
+            (Dialect::V15, Cut::Whole, false) => from_read(alloc, reader, &mut environment),
+            (Dialect::V15, Cut::Whole, true) => from_read_override(alloc, reader, &mut environment),
+            _ => load_rest(self.open(alloc, cut)?, &mut environment, replaces),
         };
         Ok(loaded(alloc, &answer, &environment)?)
     }
@@ -112,14 +105,28 @@ impl File<'_> {
         load_override: &str,
     ) -> Result<()> {
         let alloc = *answers.allocator();
-        if is_asked(load) {
-            push_answer(answers, "load", way, load, self.load(alloc, cut)?)?;
-        }
-        if is_asked(load_override) {
-            let got = self.load_override(alloc, cut)?;
-            push_answer(answers, "load_override", way, load_override, got)?;
+        for (what, field, replaces) in [
+            ("load", load, false),
+            ("load_override", load_override, true),
+        ] {
+            if is_asked(field) {
+                push_answer(answers, what, way, field, self.load(alloc, cut, replaces)?)?;
+            }
         }
         Ok(())
+    }
+}
+
+/// Loads by `load_override` where values are to be replaced, and else by `load`.
+pub fn load_rest<S: Source + Drop>(
+    entries: Iter<S>,
+    environment: &mut Environment,
+    replaces: bool,
+) -> dotenvy::Result<()> {
+    if replaces {
+        entries.load_override(environment)
+    } else {
+        entries.load(environment)
     }
 }
 
@@ -150,7 +157,7 @@ pub fn play(answers: &mut Vec<Comparison>, fields: &[&str]) -> Result<()> {
         listing,
     ] = fields
     else {
-        bail!("{} fields in place of 7", fields.len());
+        return refuse_count(fields, 7);
     };
     let file = File {
         dialect: dialect(dialect_field)?,

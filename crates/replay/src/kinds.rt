@@ -1,12 +1,30 @@
 //! What each kind of row asks.
 
 use crate::answer::push_answer;
+use crate::scene::Scene;
 use crate::{
     command, cut, file, layers, notation, reads, refused, refused_call, scene, search, used,
     written,
 };
 use anyhow::{Context, Result, bail};
 use comparison::{Comparison, differences};
+
+// Plays a row in a folder of its own.
+fn play_in_scene(
+    answers: &mut Vec<Comparison>,
+    rt: HostRuntime,
+    kind: &str,
+    fields: &[&str],
+) -> Result<()> {
+    let mut scene = Scene::enter(rt)?;
+    let played = match kind {
+        "files" => scene::play(answers, &mut scene, fields),
+        "run" => command::play_run(answers, &mut scene, fields),
+        _ => refused_call::play(answers, rt, &mut scene, fields),
+    };
+    scene.leave()?;
+    played
+}
 
 // Plays a row that asks the library.
 fn play_library(
@@ -34,11 +52,9 @@ fn play_library(
         "requests" => refused::play_requests(answers, fields),
         "bytes" => notation::play_bytes(answers, fields),
         "steps" => notation::play_steps(answers, fields),
-        "files" => scene::play(answers, rt, fields),
         "process" => scene::play_process(answers, rt, fields),
         "words" => command::play_words(answers, fields),
-        "run" => command::play_run(answers, rt, fields),
-        "refused_call" => refused_call::play(answers, rt, fields),
+        "files" | "run" | "refused_call" => play_in_scene(answers, rt, kind, fields),
         _ => bail!("no kind of row is called {kind}"),
     }
 }

@@ -2,10 +2,11 @@
 
 use crate::answer::push_answer;
 use crate::file::{CUTS, environment};
+use crate::row::refuse_count;
 use anyhow::{Result, bail};
 use comparison::Comparison;
 use env_layers::{Layers, Missing, Mode};
-use std::alloc::Global;
+use std::alloc::{AllocError, Allocator, Global};
 use support::answers::{answer, pairs};
 use support::notation::{bytes, kind, list, texts};
 use support::reader::{Cut, PlayedReader, Step};
@@ -43,21 +44,31 @@ fn added(alloc: Global, layers: &mut Layers, field: &str, cut: Cut) -> Result<Ve
     Ok(texts)
 }
 
-// `ok`, or `missing` and the names.
+/// Adds what is answered to required names: `ok`, `memory`, or `missing` and the names.
+pub fn push_required<A: Allocator>(
+    texts: &mut Vec<String>,
+    answered: &std::result::Result<(), Missing<A>>,
+) -> std::result::Result<(), AllocError> {
+    let alloc = *texts.allocator();
+    let word = match answered {
+        Ok(()) => "ok",
+        Err(Missing::Memory(_)) => "memory",
+        Err(Missing::Names(_)) => "missing",
+    };
+    texts.push(String::from_str(alloc, word)?)?;
+    if let Err(Missing::Names(absent)) = answered {
+        for name in absent {
+            texts.push(String::from_str(alloc, name.as_str())?)?;
+        }
+    }
+    Ok(())
+}
+
 fn required(alloc: Global, layers: &Layers, field: &str) -> Result<Vec<String>> {
     let names = texts(alloc, field)?;
     let names: Vec<&str> = names.iter().map(String::as_str).collect(alloc)?;
     let mut texts = Vec::new(alloc);
-    match layers.require(alloc, &names) {
-        Ok(()) => texts.push(String::from_str(alloc, "ok")?)?,
-        Err(Missing::Memory(_)) => texts.push(String::from_str(alloc, "memory")?)?,
-        Err(Missing::Names(absent)) => {
-            texts.push(String::from_str(alloc, "missing")?)?;
-            for name in absent {
-                texts.push(name)?;
-            }
-        }
-    }
+    push_required(&mut texts, &layers.require(alloc, &names))?;
     Ok(texts)
 }
 
@@ -77,7 +88,7 @@ fn play_cut(
 ) -> Result<()> {
     let alloc = *answers.allocator();
     let [before, added_field, answered, after, names, required_field] = fields else {
-        bail!("{} fields in place of 6", fields.len());
+        return refuse_count(fields, 6);
     };
     let mut layers = Layers::new(environment(alloc, before)?);
     let got = added(alloc, &mut layers, added_field, cut)?;

@@ -1,7 +1,8 @@
 //! Rows of the kinds `bytes` and `steps`: what the notation of rows stands for, and what played readers give.
 
 use crate::answer::push_answer;
-use anyhow::{Result, bail};
+use crate::row::refuse_count;
+use anyhow::Result;
 use comparison::Comparison;
 use dotenvy::Source;
 use std::alloc::{AllocError, Global};
@@ -22,14 +23,13 @@ fn hex(alloc: Global, bytes: &[u8]) -> std::result::Result<String, AllocError> {
 pub fn play_bytes(answers: &mut Vec<Comparison>, fields: &[&str]) -> Result<()> {
     let alloc = *answers.allocator();
     let [texts, wanted] = fields else {
-        bail!("{} fields in place of 2", fields.len());
+        return refuse_count(fields, 2);
     };
     let mut got = Vec::new(alloc);
     for written in list(alloc, texts)? {
         got.push(hex(alloc, &bytes(alloc, written)?)?)?;
     }
-    push_answer(answers, "texts", "as bytes", wanted, got)?;
-    Ok(())
+    push_answer(answers, "texts", "as bytes", wanted, got)
 }
 
 // The first seven reads of two bytes each.
@@ -45,7 +45,7 @@ fn reads(alloc: Global, steps: &[Step], cut: Cut) -> Result<Vec<String>> {
 pub fn play_steps(answers: &mut Vec<Comparison>, fields: &[&str]) -> Result<()> {
     let alloc = *answers.allocator();
     let [steps_field, whole, by_byte, interrupted] = fields else {
-        bail!("{} fields in place of 4", fields.len());
+        return refuse_count(fields, 4);
     };
     let steps = steps(alloc, steps_field)?;
     for (cut, way, wanted) in [

@@ -1,7 +1,8 @@
 //! Rows of the kinds `reads` and `first`: which reads are made for items, for the first of them, and for a load.
 
 use crate::answer::{is_asked, push_answer};
-use crate::file::{dialect, listing};
+use crate::file::{dialect, listing, load_rest};
+use crate::row::refuse_count;
 use anyhow::{Result, bail};
 use comparison::Comparison;
 use dotenvy::{Dialect, Environment, Iter, Source};
@@ -42,11 +43,7 @@ fn of_load(alloc: Global, dialect: Dialect, steps: &[Step], replaces: bool) -> R
     let mut environment = Environment::new(alloc);
     {
         let entries = Iter::with_dialect(alloc, &mut telling, dialect)?;
-        let _ = if replaces {
-            entries.load_override(&mut environment)
-        } else {
-            entries.load(&mut environment)
-        };
+        let _ = load_rest(entries, &mut environment, replaces);
     }
     spelled(alloc, telling.into_calls())
 }
@@ -59,11 +56,8 @@ fn of_listing(alloc: Global, dialect: Dialect, steps: &[Step]) -> Result<Vec<Str
 
 // The first item, if there is one.
 fn first_of<S: Source + Drop>(alloc: Global, mut entries: Iter<S>) -> Result<Vec<String>> {
-    let mut items = Vec::new(alloc);
-    if let Some(item) = next_item(alloc, &mut entries, &Environment::new(alloc))? {
-        items.push(item)?;
-    }
-    Ok(items)
+    let first = next_item(alloc, &mut entries, &Environment::new(alloc))?;
+    Ok(first.into_iter().collect(alloc)?)
 }
 
 // What the first item is, and the reads for it.
@@ -77,20 +71,19 @@ fn of_first(alloc: Global, dialect: Dialect, steps: &[Step]) -> Result<(Vec<Stri
 pub fn play_first(answers: &mut Vec<Comparison>, fields: &[&str]) -> Result<()> {
     let alloc = *answers.allocator();
     let [dialect_field, steps_field, items_field, reads_field] = fields else {
-        bail!("{} fields in place of 4", fields.len());
+        return refuse_count(fields, 4);
     };
     let steps = steps(alloc, steps_field)?;
     let (items, reads) = of_first(alloc, dialect(dialect_field)?, &steps)?;
     push_answer(answers, "item", "first", items_field, items)?;
-    push_answer(answers, "reads", "of the first item", reads_field, reads)?;
-    Ok(())
+    push_answer(answers, "reads", "of the first item", reads_field, reads)
 }
 
 /// Plays a row of kind `reads`.
 pub fn play(answers: &mut Vec<Comparison>, fields: &[&str]) -> Result<()> {
     let alloc = *answers.allocator();
     let [dialect_field, steps_field, items, loads] = fields else {
-        bail!("{} fields in place of 4", fields.len());
+        return refuse_count(fields, 4);
     };
     let dialect = dialect(dialect_field)?;
     let steps = steps(alloc, steps_field)?;

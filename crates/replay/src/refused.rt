@@ -1,12 +1,13 @@
 //! Rows of the kinds `refused_items`, `refused_load`, `refused_list` and `requests`: each request for memory of a call is
 //! refused in turn, up to a run that meets no refusal.
 
-use crate::answer::{push_answer, push_compared};
+use crate::answer::{push_answer, push_compared, push_front};
 use crate::file::dialect;
+use crate::row::refuse_count;
 use anyhow::{Result, bail};
 use comparison::Comparison;
 use dotenvy::{Bytes, Dialect, Environment, Error, Iter, Plain};
-use std::alloc::{AllocError, Allocator, Global};
+use std::alloc::{Allocator, Global};
 use support::answers::{answer, next_item, pairs, push_items, written};
 use support::environment::environment_of;
 use support::notation::{bytes, texts};
@@ -148,52 +149,15 @@ pub fn is_refused<T, A: Allocator>(
     Ok(is_memory)
 }
 
-// As many of the texts as there are of the others, from the first on.
-pub fn front_of(
-    alloc: Global,
-    texts: &[String],
-    others: &[String],
-) -> std::result::Result<Vec<String>, AllocError> {
-    let mut front = Vec::new(alloc);
-    for (text, _) in texts.iter().zip(others) {
-        front.push(text.clone()?)?;
+/// What was answered, and `None` where memory was refused. Other faults are errors.
+pub fn unless_refused<T: Drop, A: Allocator>(
+    ration: &Rationed<Global>,
+    answer: dotenvy::Result<T, A>,
+) -> Result<Option<T>> {
+    if is_refused(ration, &answer)? {
+        return Ok(None);
     }
-    Ok(front)
-}
-
-/// Plays a row of kind `refused_items`.
-pub fn play_items(answers: &mut Vec<Comparison>, fields: &[&str]) -> Result<()> {
-    let alloc = *answers.allocator();
-    let [dialect, names, file, wanted] = fields else {
-        bail!("{} fields in place of 4", fields.len());
-    };
-    let file = File::parse(alloc, dialect, names, file)?;
-    for number in 1..MOST_REQUESTS {
-        if compare_items(answers, &file, number, wanted)? {
-            return Ok(());
-        }
-    }
-    bail!("each run met a refusal")
-}
-
-// Takes the items with the request of this number refused, and tells whether none was.
-fn compare_items(
-    answers: &mut Vec<Comparison>,
-    file: &File,
-    number: u64,
-    wanted: &str,
-) -> Result<bool> {
-    let alloc = *answers.allocator();
-    let ration = Rationed::refusing(alloc, number);
-    let mut items = Vec::new(alloc);
-    let answer = file.push_items(&ration, &mut items);
-    if !is_refused(&ration, &answer)? {
-        push_answer(answers, "items", "in all", wanted, items)?;
-        return Ok(true);
-    }
-    let front = front_of(alloc, &texts(alloc, wanted)?, &items)?;
-    push_compared(answers, "items", "before a refusal", front, items)?;
-    Ok(false)
+    Ok(Some(answer?))
 }
 
 // The state that is the one left, or the last one.
@@ -208,35 +172,82 @@ fn same_state(alloc: Global, states: &[&str], left: &Vec<String>) -> Result<Vec<
     Ok(wanted)
 }
 
-// A load, and what it answers and leaves.
+// A call on a file, and what it answers and leaves.
 #[derive(Clone, Copy)]
-struct RefusedLoad<'a> {
-    load: Call,
+struct Refused<'a> {
+    call: Call,
     file: &'a File,
-    answer: &'a str,
+    wanted: &'a str,
     states: &'a [&'a str],
 }
 
-impl RefusedLoad<'_> {
-    // Loads with the request of this number refused, and tells whether none was.
-    fn run(&self, answers: &mut Vec<Comparison>, number: u64) -> Result<bool> {
-        let ration = Rationed::refusing(*answers.allocator(), number);
-        let before = environment_of(&ration, &self.file.names);
-        if is_refused(&ration, &before)? {
-            return Ok(false);
+impl Refused<'_> {
+    // Refuses each request of the call in turn.
+    fn run_in_turn(&self, answers: &mut Vec<Comparison>) -> Result<()> {
+        for number in 1..MOST_REQUESTS {
+            if self.run(answers, number)? {
+                return Ok(());
+            }
         }
-        self.compare(answers, &ration, before?)
+        bail!("each run met a refusal")
     }
 
-    // Loads into the environment, and tells whether no request was refused.
-    fn compare<'r>(
+    // Makes the call with the request of this number refused, and tells whether none was.
+    fn run(&self, answers: &mut Vec<Comparison>, number: u64) -> Result<bool> {
+        let ration = Rationed::refusing(*answers.allocator(), number);
+        match self.call {
+            Call::Items => self.compare_items(answers, &ration),
+            Call::List => self.compare_list(answers, &ration),
+            _ => match unless_refused(&ration, environment_of(&ration, &self.file.names))? {
+                Some(environment) => self.compare_load(answers, &ration, environment),
+                None => Ok(false),
+            },
+        }
+    }
+
+    fn compare_items(
+        &self,
+        answers: &mut Vec<Comparison>,
+        ration: &Rationed<Global>,
+    ) -> Result<bool> {
+        let mut items = Vec::new(*answers.allocator());
+        let answered = self.file.push_items(ration, &mut items);
+        let is_refused = is_refused(ration, &answered)?;
+        if is_refused {
+            push_front(answers, "items", self.wanted, items)?;
+        } else {
+            push_answer(answers, "items", "in all", self.wanted, items)?;
+        }
+        Ok(!is_refused)
+    }
+
+    fn compare_list(
+        &self,
+        answers: &mut Vec<Comparison>,
+        ration: &Rationed<Global>,
+    ) -> Result<bool> {
+        let alloc = *answers.allocator();
+        let mut writer = Plain::new(Vec::new(alloc));
+        let answered = self.file.list(ration, &mut writer);
+        let got = written(alloc, &answered, writer.into_inner())?;
+        let is_refused = is_refused(ration, &answered)?;
+        let (when, wanted) = if is_refused {
+            ("at a refusal", "memory")
+        } else {
+            ("in all", self.wanted)
+        };
+        push_answer(answers, "listing", when, wanted, got)?;
+        Ok(!is_refused)
+    }
+
+    fn compare_load<'r>(
         &self,
         answers: &mut Vec<Comparison>,
         ration: &'r Rationed<Global>,
         mut environment: Environment<&'r Rationed<Global>>,
     ) -> Result<bool> {
         let alloc = *answers.allocator();
-        let answered = self.file.load(&mut environment, ration, self.load);
+        let answered = self.file.load(&mut environment, ration, self.call);
         let left = pairs(alloc, &environment)?;
         let is_refused = is_refused(ration, &answered)?;
         if is_refused {
@@ -260,67 +271,55 @@ impl RefusedLoad<'_> {
         left: Vec<String>,
     ) -> Result<()> {
         let got = vec![in *answers.allocator(); answered]?;
-        push_answer(answers, "load", "answered", self.answer, got)?;
+        push_answer(answers, "load", "answered", self.wanted, got)?;
         let state = self.states.last().unwrap_or(&"");
         push_answer(answers, "load", "left", state, left)
     }
 }
 
+/// Plays a row of kind `refused_items`.
+pub fn play_items(answers: &mut Vec<Comparison>, fields: &[&str]) -> Result<()> {
+    let [dialect, names, file, wanted] = fields else {
+        return refuse_count(fields, 4);
+    };
+    let file = File::parse(*answers.allocator(), dialect, names, file)?;
+    let refused = Refused {
+        call: Call::Items,
+        file: &file,
+        wanted,
+        states: &[],
+    };
+    refused.run_in_turn(answers)
+}
+
 /// Plays a row of kind `refused_load`.
 pub fn play_load(answers: &mut Vec<Comparison>, fields: &[&str]) -> Result<()> {
-    let [name, dialect, names, file, answer, states @ ..] = fields else {
+    let [name, dialect, names, file, wanted, states @ ..] = fields else {
         bail!("{} fields in place of 6 and more", fields.len());
     };
     let file = File::parse(*answers.allocator(), dialect, names, file)?;
-    let refused = RefusedLoad {
-        load: call_named(name)?,
+    let refused = Refused {
+        call: call_named(name)?,
         file: &file,
-        answer,
+        wanted,
         states,
     };
-    for number in 1..MOST_REQUESTS {
-        if refused.run(answers, number)? {
-            return Ok(());
-        }
-    }
-    bail!("each run met a refusal")
+    refused.run_in_turn(answers)
 }
 
 /// Plays a row of kind `refused_list`.
 pub fn play_list(answers: &mut Vec<Comparison>, fields: &[&str]) -> Result<()> {
-    let alloc = *answers.allocator();
     let [dialect, file, wanted] = fields else {
-        bail!("{} fields in place of 3", fields.len());
+        return refuse_count(fields, 3);
     };
-    let file = File::parse(alloc, dialect, "", file)?;
-    for number in 1..MOST_REQUESTS {
-        if compare_list(answers, &file, number, wanted)? {
-            return Ok(());
-        }
-    }
-    bail!("each run met a refusal")
-}
-
-// Lists with the request of this number refused, and tells whether none was.
-fn compare_list(
-    answers: &mut Vec<Comparison>,
-    file: &File,
-    number: u64,
-    wanted: &str,
-) -> Result<bool> {
-    let alloc = *answers.allocator();
-    let ration = Rationed::refusing(alloc, number);
-    let mut writer = Plain::new(Vec::new(alloc));
-    let answered = file.list(&ration, &mut writer);
-    let got = written(alloc, &answered, writer.into_inner())?;
-    let is_refused = is_refused(&ration, &answered)?;
-    let (when, wanted) = if is_refused {
-        ("at a refusal", "memory")
-    } else {
-        ("in all", wanted)
+    let file = File::parse(*answers.allocator(), dialect, "", file)?;
+    let refused = Refused {
+        call: Call::List,
+        file: &file,
+        wanted,
+        states: &[],
     };
-    push_answer(answers, "listing", when, wanted, got)?;
-    Ok(!is_refused)
+    refused.run_in_turn(answers)
 }
 
 // How many requests a call makes.
@@ -339,7 +338,7 @@ fn requests_of(alloc: Global, call: Call, file: &File) -> Result<u64> {
 pub fn play_requests(answers: &mut Vec<Comparison>, fields: &[&str]) -> Result<()> {
     let alloc = *answers.allocator();
     let [name, dialect, names, before, lines, wanted] = fields else {
-        bail!("{} fields in place of 6", fields.len());
+        return refuse_count(fields, 6);
     };
     let call = call_named(name)?;
     let file = File::parse(alloc, dialect, names, before)?;

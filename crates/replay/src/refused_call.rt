@@ -1,8 +1,8 @@
 //! Rows of kind `refused_call`: a call in a folder, each of its requests for memory refused in turn.
 
-use crate::answer::{push_answer, push_compared};
+use crate::answer::{push_answer, push_compared, push_front};
 use crate::call::Call;
-use crate::refused::{MOST_REQUESTS, front_of, is_refused};
+use crate::refused::{MOST_REQUESTS, unless_refused};
 use crate::scene::{Scene, state, word_and_rest};
 use anyhow::{Context, Result, bail};
 use comparison::Comparison;
@@ -11,7 +11,7 @@ use std::alloc::Global;
 use support::Rationed;
 use support::answers::fault;
 use support::environment::environment_of;
-use support::notation::{list, pairs, texts};
+use support::notation::{pairs, texts};
 use support::system::PlayedSystem;
 
 type Ration<'r> = &'r Rationed<Global>;
@@ -68,7 +68,7 @@ impl Refused<'_> {
         match answered {
             Ok(()) => {}
             Err(Error::Memory(_)) => {
-                self.push_refused(answers, got)?;
+                push_front(answers, "call", self.wanted, got)?;
                 return Ok(false);
             }
             Err(error) => got.push(fault(alloc, &error)?)?,
@@ -79,22 +79,12 @@ impl Refused<'_> {
         Ok(true)
     }
 
-    // Adds what a call gave before a request was refused: the first of its texts.
-    fn push_refused(&self, answers: &mut Vec<Comparison>, got: Vec<String>) -> Result<()> {
-        let alloc = *answers.allocator();
-        let wanted = front_of(alloc, &texts(alloc, self.wanted)?, &got)?;
-        push_compared(answers, "call", "before a refusal", wanted, got)?;
-        Ok(())
-    }
-
     // Refuses the request of this number. A call to which it was refused is made once more.
     fn run(&self, answers: &mut Vec<Comparison>, number: u64) -> Result<Run> {
         let ration = Rationed::refusing(*answers.allocator(), number);
-        let before = self.environment(&ration);
-        if is_refused(&ration, &before)? {
+        let Some(mut environment) = unless_refused(&ration, self.environment(&ration))? else {
             return Ok(Run::NotYet);
-        }
-        let mut environment = before?;
+        };
         let is_done = self.make(answers, &ration, &mut environment)?;
         if is_done == ration.has_refused() {
             bail!("refused memory and the answer do not agree");
@@ -148,31 +138,21 @@ fn push_states(answers: &mut Vec<Comparison>, states: &[&str], met: Vec<String>)
     Ok(())
 }
 
-// Plays the steps before a call.
-fn play_before(alloc: Global, scene: &mut Scene, steps: &str) -> Result<()> {
-    for step in list(alloc, steps)? {
-        if !scene.play(step)? {
-            bail!("no step before a call: {step}");
-        }
-    }
-    Ok(())
-}
-
-// The answers to the call of a row, behind its steps.
-fn push_call(
+/// Plays a row, and adds its answers.
+pub fn play(
     answers: &mut Vec<Comparison>,
     rt: HostRuntime,
-    scene: &Scene,
+    scene: &mut Scene,
     fields: &[&str],
 ) -> Result<()> {
-    let [names, _steps, call_field, wanted, left, states @ ..] = fields else {
+    let [names, steps, call_field, wanted, left, states @ ..] = fields else {
         bail!("{} fields in place of 5 and more", fields.len());
     };
-    let alloc = rt.alloc();
+    scene.play_all(steps)?;
     let (word, rest) = word_and_rest(call_field);
     let given = scene.text(rest)?;
     let call = Call::named(word, given.as_str()).context("no call")?;
-    let pairs = pairs(alloc, names.strip_suffix("; loaded").unwrap_or(names))?;
+    let pairs = pairs(rt.alloc(), names.strip_suffix("; loaded").unwrap_or(names))?;
     let refused = Refused {
         rt,
         scene,
@@ -183,14 +163,4 @@ fn push_call(
         left,
     };
     refused.run_in_turn(answers, states)
-}
-
-/// Plays a row, and adds its answers.
-pub fn play(answers: &mut Vec<Comparison>, rt: HostRuntime, fields: &[&str]) -> Result<()> {
-    let steps = fields.get(1).context("no steps")?;
-    let mut scene = Scene::enter(rt)?;
-    let played = play_before(rt.alloc(), &mut scene, steps);
-    let pushed = played.and_then(|()| push_call(answers, rt, &scene, fields));
-    scene.leave()?;
-    pushed
 }

@@ -1,6 +1,6 @@
 //! A row of a file of cases: its kind, its name and its fields.
 
-use anyhow::{Context, Result};
+use anyhow::{Context, Result, bail};
 use std::alloc::Global;
 
 /// A row. Its fields are as they are written.
@@ -26,4 +26,9 @@ impl<'a> Row<'a> {
             fields: fields.collect(alloc)?,
         }))
     }
+}
+
+/// Refuses a row whose kind has another count of fields.
+pub fn refuse_count(fields: &[&str], wanted: usize) -> Result<()> {
+    bail!("{} fields in place of {wanted}", fields.len())
 }

@@ -4,6 +4,7 @@
 use crate::answer::push_answer;
 use crate::call::Call;
 use crate::file::environment;
+use crate::row::refuse_count;
 use anyhow::{Context, Result, bail};
 use comparison::Comparison;
 use dotenvy::{Environment, Error};
@@ -95,6 +96,16 @@ impl Scene {
         Ok(true)
     }
 
+    /// Plays steps none of which is a call.
+    pub fn play_all(&mut self, steps: &str) -> Result<()> {
+        for step in list(self.rt.alloc(), steps)? {
+            if !self.play(step)? {
+                bail!("no step: {step}");
+            }
+        }
+        Ok(())
+    }
+
     // Plays a step on the system.
     fn play_on_system(&mut self, word: &str, rest: &str) -> Result<bool> {
         let (name, more) = word_and_rest(rest);
@@ -150,7 +161,7 @@ fn printed(alloc: Global, error: &Error) -> Result<String> {
 // What the steps of a row answer, one after another.
 #[derive(Drop)]
 struct Act<'a> {
-    scene: Scene,
+    scene: &'a mut Scene,
     names: &'a str,
     environment: Environment,
     /// Whether faults are answered as they print.
@@ -171,11 +182,19 @@ impl Act<'_> {
         Ok(())
     }
 
-    fn play_all(&mut self, steps: &[&str]) -> Result<()> {
-        for step in steps {
+    // The answers to all of the steps.
+    fn play_all(mut self, steps: &str) -> Result<Vec<String>> {
+        for step in list(self.scene.rt.alloc(), steps)? {
             self.play(step)?;
         }
-        Ok(())
+        let Act {
+            scene: _,
+            names: _,
+            environment: _,
+            prints: _,
+            answers,
+        } = self;
+        Ok(answers)
     }
 
     // Makes a call: its answer, then the environment that it leaves.
@@ -185,8 +204,7 @@ impl Act<'_> {
         let given = self.scene.text(rest)?;
         let call = Call::named(word, given.as_str()).context("no step")?;
         let mut texts = Vec::new(alloc);
-        let answered = call.make(&self.scene.system, &mut self.environment, &mut texts);
-        if let Err(error) = answered {
+        if let Err(error) = call.make(&self.scene.system, &mut self.environment, &mut texts) {
             texts.push(self.fault(&error)?)?;
         }
         self.answers.append(&mut self.scene.all_below(&texts)?)?;
@@ -208,7 +226,7 @@ impl Act<'_> {
 /// Plays a row of kind `process`.
 pub fn play_process(answers: &mut Vec<Comparison>, rt: HostRuntime, fields: &[&str]) -> Result<()> {
     let [entries, wanted] = fields else {
-        bail!("{} fields in place of 2", fields.len());
+        return refuse_count(fields, 2);
     };
     let system = with_entries(rt, entries)?;
     let got = state(rt.alloc(), &Environment::from_process(&system)?)?;
@@ -225,28 +243,17 @@ fn with_entries(rt: HostRuntime, entries: &str) -> Result<PlayedSystem> {
 }
 
 /// Plays a row of kind `files`.
-pub fn play(answers: &mut Vec<Comparison>, rt: HostRuntime, fields: &[&str]) -> Result<()> {
+pub fn play(answers: &mut Vec<Comparison>, scene: &mut Scene, fields: &[&str]) -> Result<()> {
     let [names, steps, wanted] = fields else {
-        bail!("{} fields in place of 3", fields.len());
+        return refuse_count(fields, 3);
     };
-    let alloc = rt.alloc();
-    let mut act = Act {
-        scene: Scene::enter(rt)?,
+    let alloc = *answers.allocator();
+    let act = Act {
+        scene,
         names,
         environment: environment(alloc, names)?,
         prints: false,
         answers: Vec::new(alloc),
     };
-    let played = act.play_all(&list(alloc, steps)?);
-    let Act {
-        scene,
-        names: _,
-        environment: _,
-        prints: _,
-        answers: got,
-    } = act;
-    scene.leave()?;
-    played?;
-    push_answer(answers, "calls", "answered", wanted, got)?;
-    Ok(())
+    push_answer(answers, "calls", "answered", wanted, act.play_all(steps)?)
 }

@@ -1,6 +1,7 @@
 //! Rows of kind `search`: which paths a search asks for, and what it answers.
 
 use crate::answer::push_answer;
+use crate::row::refuse_count;
 use anyhow::{Result, bail};
 use comparison::Comparison;
 use dotenvy::search;
@@ -41,7 +42,7 @@ fn found(alloc: Global, answer: dotenvy::Result<PathBuf>) -> Result<Vec<String>>
 pub fn play(answers: &mut Vec<Comparison>, fields: &[&str]) -> Result<()> {
     let alloc = *answers.allocator();
     let [directory, filename, looks_field, asked, answer] = fields else {
-        bail!("{} fields in place of 5", fields.len());
+        return refuse_count(fields, 5);
     };
     let directory = text(alloc, directory)?;
     let filename = text(alloc, filename)?;
@@ -53,6 +54,5 @@ pub fn play(answers: &mut Vec<Comparison>, fields: &[&str]) -> Result<()> {
         &mut |path| { played.look(path) },
     );
     push_answer(answers, "path", "found", answer, found(alloc, got)?)?;
-    push_answer(answers, "paths", "asked", asked, played.into_asked())?;
-    Ok(())
+    push_answer(answers, "paths", "asked", asked, played.into_asked())
 }

@@ -1,8 +1,9 @@
 //! Rows of kind `used`: items are taken of an iterator, and then what is left of it is loaded.
 
 use crate::answer::push_answer;
-use crate::file::{CUTS, dialect, environment};
-use anyhow::{Result, bail};
+use crate::file::{CUTS, dialect, environment, load_rest};
+use crate::row::refuse_count;
+use anyhow::Result;
 use comparison::Comparison;
 use dotenvy::{Dialect, Iter};
 use std::alloc::Global;
@@ -48,11 +49,7 @@ impl Used<'_> {
         replaces: bool,
     ) -> Result<Vec<String>> {
         let mut into = environment(alloc, self.into)?;
-        let answer = if replaces {
-            entries.load_override(&mut into)
-        } else {
-            entries.load(&mut into)
-        };
+        let answer = load_rest(entries, &mut into, replaces);
         Ok(loaded(alloc, &answer, &into)?)
     }
 
@@ -98,7 +95,7 @@ pub fn play(answers: &mut Vec<Comparison>, fields: &[&str]) -> Result<()> {
         load_override,
     ] = fields
     else {
-        bail!("{} fields in place of 8", fields.len());
+        return refuse_count(fields, 8);
     };
     let used = Used {
         dialect: dialect(dialect_field)?,

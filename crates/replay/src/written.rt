@@ -2,6 +2,7 @@
 
 use crate::answer::{push_answer, push_compared};
 use crate::file::{CUTS, dialect, environment, listing};
+use crate::row::refuse_count;
 use anyhow::{Result, bail};
 use comparison::Comparison;
 use dotenvy::{Bytes, Dialect, Iter, Plain, Sink, is_key};
@@ -56,44 +57,41 @@ fn push_listings(answers: &mut Vec<Comparison>, bytes: &[u8]) -> Result<()> {
 pub fn play_written(answers: &mut Vec<Comparison>, fields: &[&str]) -> Result<()> {
     let alloc = *answers.allocator();
     let [pairs_field, bytes] = fields else {
-        bail!("{} fields in place of 2", fields.len());
+        return refuse_count(fields, 2);
     };
     let output = written_pairs(alloc, pairs_field)?;
     let got = read_back(alloc, &output)?;
     push_answer(answers, "pairs", "read back", pairs_field, got)?;
     push_listings(answers, &output)?;
     let got = vec![in alloc; String::from_utf8(output)?]?;
-    push_answer(answers, "pairs", "written", bytes, got)?;
-    Ok(())
+    push_answer(answers, "pairs", "written", bytes, got)
 }
 
 /// Plays a row of kind `pair`.
 pub fn play_pair(answers: &mut Vec<Comparison>, fields: &[&str]) -> Result<()> {
     let alloc = *answers.allocator();
     let [pair_field, steps, answer] = fields else {
-        bail!("{} fields in place of 3", fields.len());
+        return refuse_count(fields, 3);
     };
     let (key, value) = pair(alloc, pair_field)?;
     let mut writer = Plain::new(PlayedWriter::new(alloc, writer::steps(alloc, steps)?));
     let answered = write_pair(alloc, &mut writer, key.as_str(), value.as_str())?;
     let got = written(alloc, &answered, writer.into_inner().into_taken())?;
-    push_answer(answers, "pair", "written", answer, got)?;
-    Ok(())
+    push_answer(answers, "pair", "written", answer, got)
 }
 
 /// Plays a row of kind `writes`.
 pub fn play_writes(answers: &mut Vec<Comparison>, fields: &[&str]) -> Result<()> {
     let alloc = *answers.allocator();
     let [pair_field, steps, writes] = fields else {
-        bail!("{} fields in place of 3", fields.len());
+        return refuse_count(fields, 3);
     };
     let (key, value) = pair(alloc, pair_field)?;
     let played = PlayedWriter::new(alloc, writer::steps(alloc, steps)?);
     let mut telling = Telling::new(alloc, Plain::new(played));
     let _ = write_pair(alloc, &mut telling, key.as_str(), value.as_str())?;
     let got = spelled(alloc, telling.into_calls())?;
-    push_answer(answers, "writes", "of a pair", writes, got)?;
-    Ok(())
+    push_answer(answers, "writes", "of a pair", writes, got)
 }
 
 // What `list_with` answers and writes of these steps to a writer of those.
@@ -112,7 +110,7 @@ fn list_to(
 pub fn play_list(answers: &mut Vec<Comparison>, fields: &[&str]) -> Result<()> {
     let alloc = *answers.allocator();
     let [dialect_field, reader_steps, writer_steps, answer] = fields else {
-        bail!("{} fields in place of 4", fields.len());
+        return refuse_count(fields, 4);
     };
     let steps = reader::steps(alloc, reader_steps)?;
     let dialect = dialect(dialect_field)?;

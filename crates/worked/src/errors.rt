@@ -1,5 +1,6 @@
 //! What errors print, and which of them say that nothing was found.
 
+use crate::shown::sees_text;
 use dotenvy::{Bytes, Environment, Error, Iter, VarError};
 use std::alloc::{AllocError, Global};
 use std::io;
@@ -44,7 +45,7 @@ fn texts(rt: HostRuntime) -> Result<(), Fail> {
         (Error::Memory(AllocError), "out of memory"),
     ];
     for (error, want) in rows {
-        assert_eq!(rt; error.to_string(alloc)?.as_str(), want);
+        sees_text(&rt, error.to_string(alloc)?, want);
     }
     Ok(())
 }
@@ -76,7 +77,7 @@ fn places_of_each_number_of_digits(rt: HostRuntime) -> Result<(), Fail> {
         (usize::MAX, "18446744073709551615"),
     ] {
         let want = format!(in alloc; "Error parsing line: 'a b', error at line index: {digits}")?;
-        assert_eq!(rt; printed_at(alloc, index)?.as_str(), want.as_str());
+        sees_text(&rt, printed_at(alloc, index)?, want.as_str());
     }
     Ok(())
 }
@@ -86,26 +87,23 @@ fn a_fault_inside_prints_as_itself(rt: HostRuntime) -> Result<(), Fail> {
     let alloc = rt.alloc();
     let want = io::Error::from(ErrorKind::PermissionDenied).to_string(alloc)?;
     let error: Error = Error::Io(io::Error::from(ErrorKind::PermissionDenied));
-    assert_eq!(rt; error.to_string(alloc)?.as_str(), want.as_str());
-    assert_eq!(rt;
-        VarError::NotPresent.to_string(alloc)?.as_str(),
-        "environment variable not found"
+    sees_text(&rt, error.to_string(alloc)?, want.as_str());
+    sees_text(
+        &rt,
+        VarError::NotPresent.to_string(alloc)?,
+        "environment variable not found",
     );
     Ok(())
 }
 
-// What the fault of the first line prints.
-fn first_fault(alloc: Global, bytes: &[u8]) -> Result<String, Fail> {
-    let mut entries = Iter::new(alloc, Bytes::new(bytes))?;
-    match entries.next_item(&Environment::new(alloc)) {
-        Some(Err(error)) => Ok(error.to_string(alloc)?),
-        _ => Err(Fail::from("no fault")),
-    }
-}
-
 #[test]
 fn a_line_that_is_no_text_says_so(rt: HostRuntime) -> Result<(), Fail> {
-    let printed = first_fault(rt.alloc(), b"K=\xf0\x9f\x98")?;
-    assert_eq!(rt; printed.as_str(), "the line is not UTF-8");
+    let alloc = rt.alloc();
+    let environment = Environment::new(alloc);
+    let mut entries = Iter::new(alloc, Bytes::new(b"K=\xf0\x9f\x98"))?;
+    match entries.next_item(&environment) {
+        Some(Err(error)) => sees_text(&rt, error.to_string(alloc)?, "the line is not UTF-8"),
+        _ => panic!(rt; "no fault"),
+    }
     Ok(())
 }

@@ -1,5 +1,6 @@
 //! What the program prints of each failure.
 
+use crate::shown::sees_text;
 use dotenv_command::failure::{Failure, Usage};
 use dotenvy::{Error, VarError};
 use std::alloc::{AllocError, Global};
@@ -24,7 +25,7 @@ fn texts_of_refused_words(rt: HostRuntime) -> Result<(), Fail> {
         (Usage::Memory(AllocError), "out of memory"),
     ] {
         let wanted = format!(in alloc; "{text}; error: {text}")?;
-        assert_eq!(rt; printed(alloc, usage)?.as_str(), wanted.as_str());
+        sees_text(&rt, printed(alloc, usage)?, wanted.as_str());
     }
     Ok(())
 }
@@ -52,7 +53,7 @@ fn texts_of_faults_of_a_load(rt: HostRuntime) -> Result<(), Fail> {
             "error: failed to load environment: out of memory",
         ),
     ] {
-        assert_eq!(rt; Failure::Load(fault).to_string(alloc)?.as_str(), text);
+        sees_text(&rt, Failure::Load(fault).to_string(alloc)?, text);
     }
     Ok(())
 }
@@ -60,20 +61,10 @@ fn texts_of_faults_of_a_load(rt: HostRuntime) -> Result<(), Fail> {
 #[test]
 fn texts_of_faults_of_the_system(rt: HostRuntime) -> Result<(), Fail> {
     let alloc = rt.alloc();
-    let text = io::Error::from(ErrorKind::BrokenPipe).to_string(alloc)?;
-    let faults: [(Failure, &str); 2] = [
-        (
-            Failure::Load(Error::Io(io::Error::from(ErrorKind::BrokenPipe))),
-            "error: failed to load environment",
-        ),
-        (
-            Failure::Start(io::Error::from(ErrorKind::BrokenPipe)),
-            "fatal",
-        ),
-    ];
-    for (failure, beginning) in faults {
-        let wanted = format!(in alloc; "{beginning}: {text}")?;
-        assert_eq!(rt; failure.to_string(alloc)?.as_str(), wanted.as_str());
-    }
+    let fault = io::Error::from(ErrorKind::BrokenPipe);
+    let wanted = format!(in alloc; "error: failed to load environment: {fault}; fatal: {fault}")?;
+    let load: Failure = Failure::Load(Error::Io(fault));
+    let start: Failure = Failure::Start(fault);
+    sees_text(&rt, format!(in alloc; "{load}; {start}")?, wanted.as_str());
     Ok(())
 }

@@ -1,7 +1,7 @@
 //! Faults of a reader or a writer of std under a `Plain`: the answer is the fault itself, with its
 //! kind, its text and its system code, and nothing more is asked of who failed.
 
-use crate::shown::pairs;
+use crate::shown::{pairs, played, sees_text, told};
 use dotenvy::{Bytes, Environment, Error, Iter, Plain, Result, Source, is_key};
 use std::alloc::{AllocError, Global};
 use std::io;
@@ -90,21 +90,7 @@ fn faults() -> [io::Error; 23] {
     ]
 }
 
-/// All that a fault tells: its text as it is printed, its kind and its system code, and how it
-/// was made.
-fn told(alloc: Global, printed: &str, fault: io::Error) -> std::result::Result<String, AllocError> {
-    let kind = fault.kind();
-    let code = fault.raw_os_error();
-    format!(in alloc; "{printed}, {kind:?}, {code:?}, {fault:?}")
-}
-
-/// The same of a fault that was played.
-fn played(alloc: Global, fault: io::Error) -> std::result::Result<String, AllocError> {
-    let printed = fault.to_string(alloc)?;
-    told(alloc, printed.as_str(), fault)
-}
-
-/// The same of an answer.
+/// What a fault that was answered tells, where one was.
 fn answered<T: Drop>(alloc: Global, answer: Result<T>) -> std::result::Result<String, AllocError> {
     match answer {
         Ok(_) => String::from_str(alloc, "no fault"),
@@ -133,42 +119,39 @@ fn stands_at_its_fault(source: Plain<FailingReader<'_>>) -> bool {
     reader.fault.is_none() && reader.after.len() == AFTER.len()
 }
 
-/// How many pairs the items begin with, and what the fault behind them is.
-fn listed<S: Source>(alloc: Global, entries: &mut Iter<S>) -> std::result::Result<String, Fail> {
+/// What each item answers, in order.
+fn listed<S: Source>(
+    alloc: Global,
+    entries: &mut Iter<S>,
+) -> std::result::Result<String, AllocError> {
     let environment = Environment::new(alloc);
-    let mut last = String::from_str(alloc, "no item")?;
-    let mut pairs = 0u8;
+    let mut all = String::new(alloc);
     for item in entries.items(&environment) {
-        if item.is_ok() {
-            pairs = pairs.saturating_add(1);
-        } else {
-            last = answered(alloc, item)?;
-        }
+        write!(all, "{}; ", answered(alloc, item)?)?;
     }
-    Ok(format!(in alloc; "{pairs} pairs, {last}")?)
+    Ok(all)
 }
 
-/// What ends the items of a reader that fails once after these bytes, and whether it stands there.
-fn last_item(alloc: Global, before: &[u8], fault: io::Error) -> std::result::Result<String, Fail> {
+/// The bytes and the items of a reader that fails once after them, and whether it stands there.
+fn items(alloc: Global, before: &[u8], fault: io::Error) -> Result<String> {
     let mut source = failing(before, fault);
     let mut entries = Iter::new(alloc, &mut source)?;
     let listed = listed(alloc, &mut entries)?;
     drop(entries);
-    Ok(format!(in alloc; "{listed}, {}", stands_at_its_fault(source))?)
+    Ok(format!(in alloc; "{before:?}: {listed}{}", stands_at_its_fault(source))?)
 }
 
-/// Sees what ends the items of readers that fail once.
-fn sees_last_items(
-    rt: &impl Abort,
-    alloc: Global,
-    fault: io::Error,
-) -> std::result::Result<(), Fail> {
+/// Sees the items of readers that fail once.
+fn sees_items(rt: &impl Abort, alloc: Global, fault: io::Error) -> std::result::Result<(), Fail> {
     let told = played(alloc, fault)?;
-    let befores: [(&[u8], &str); 3] = [(b"", "0"), (b"A=1\n", "1"), (b"A=1\nB=", "1")];
+    let befores: [(&[u8], &str); 3] = [
+        (b"", ""),
+        (b"A=1\n", "no fault; "),
+        (b"A=1\nB=", "no fault; "),
+    ];
     for (before, pairs) in befores {
-        let want = format!(in alloc; "{pairs} pairs, {told}, true")?;
-        let got = last_item(alloc, before, fault)?;
-        assert_eq!(rt; got.as_str(), want.as_str(), "after {before:?}");
+        let want = format!(in alloc; "{before:?}: {pairs}{told}; true")?;
+        sees_text(rt, items(alloc, before, fault)?, want.as_str());
     }
     Ok(())
 }
@@ -176,7 +159,7 @@ fn sees_last_items(
 #[test]
 fn a_fault_of_a_read_ends_the_items_as_it_is(rt: HostRuntime) -> std::result::Result<(), Fail> {
     for fault in faults() {
-        sees_last_items(&rt, rt.alloc(), fault)?;
+        sees_items(&rt, rt.alloc(), fault)?;
     }
     Ok(())
 }
@@ -226,10 +209,15 @@ fn sees_calls(
     fault: io::Error,
     left: &str,
     listed: &str,
-) -> std::result::Result<(), Fail> {
-    assert_eq!(rt; loaded(alloc, fault)?.as_str(), left, "{fault:?}");
-    assert_eq!(rt; overridden(alloc, fault)?.as_str(), left, "{fault:?}");
-    assert_eq!(rt; list_over(alloc, fault)?.as_str(), listed, "{fault:?}");
+) -> std::result::Result<(), AllocError> {
+    let loaded = loaded(alloc, fault)?;
+    let overridden = overridden(alloc, fault)?;
+    let list = list_over(alloc, fault)?;
+    assert_eq!(rt;
+        [loaded.as_str(), overridden.as_str(), list.as_str()],
+        [left, left, listed],
+        "{fault:?}"
+    );
     Ok(())
 }
 
@@ -296,8 +284,11 @@ fn sees_writes(
     wanted: &str,
 ) -> std::result::Result<(), Fail> {
     let [pair, list] = writes_over(alloc, room, fault)?;
-    assert_eq!(rt; pair.as_str(), wanted, "{fault:?} after {room} bytes");
-    assert_eq!(rt; list.as_str(), wanted, "{fault:?} after {room} bytes");
+    assert_eq!(rt;
+        [pair.as_str(), list.as_str()],
+        [wanted, wanted],
+        "{fault:?} after {room} bytes"
+    );
     Ok(())
 }
 

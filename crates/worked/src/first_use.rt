@@ -1,6 +1,6 @@
 //! The pairs that `vars` gives.
 
-use crate::shown::{environment, pairs, pairs_of, vars_without_files};
+use crate::shown::{environment, pairs, pairs_of, sees_text, vars_without_files};
 use dotenvy::{Environment, Result};
 use std::alloc::Global;
 use std::test::Fail;
@@ -17,7 +17,7 @@ fn vars_are_a_snapshot(rt: HostRuntime) -> std::result::Result<(), Fail> {
     let mut environment = environment(alloc, &[("B", "2"), ("A", "1")])?;
     let snapshot = vars_without_files(rt, &mut environment)?;
     renew(alloc, &mut environment)?;
-    assert_eq!(rt; pairs_of(alloc, snapshot)?.as_str(), "A=1; B=2");
-    assert_eq!(rt; pairs(alloc, &environment)?.as_str(), "A=new; B=2");
+    sees_text(&rt, pairs_of(alloc, snapshot)?, "A=1; B=2");
+    sees_text(&rt, pairs(alloc, &environment)?, "A=new; B=2");
     Ok(())
 }

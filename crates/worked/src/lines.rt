@@ -1,8 +1,9 @@
 //! What logical lines come of bytes, however these are read.
 
+use crate::shown::sees_text;
 use dotenv_lines::lines::{QuotedLines, Splitter};
 use dotenvy::{Bytes, Environment, Error, Iter, Result, Source};
-use std::alloc::Global;
+use std::alloc::{AllocError, Global};
 use std::fmt::Write;
 use std::io;
 use std::io::ErrorKind;
@@ -40,16 +41,12 @@ impl<'a> Source for Pieces<'a> {
 }
 
 // Adds a line in brackets, or its fault.
-fn list(all: &mut String, answer: Result<&str>) -> Result<()> {
+fn list(all: &mut String, answer: Result<&str>) -> std::result::Result<(), AllocError> {
     match answer {
-        Ok(text) => write!(all, "[{text}]")?,
-        Err(Error::Io(e)) => {
-            let kind = e.kind();
-            write!(all, "<{kind:?}>")?;
-        }
-        Err(e) => write!(all, "<{e}>")?,
+        Ok(text) => write!(all, "[{text}]"),
+        Err(Error::Io(e)) => write!(all, "<{:?}>", e.kind()),
+        Err(e) => write!(all, "<{e}>"),
     }
-    Ok(())
 }
 
 // Each line until `None`, as a text of its own.
@@ -107,11 +104,14 @@ fn sees_lines(
     bytes: &[u8],
     drops_mark: bool,
     wanted: &str,
-) -> std::result::Result<(), Fail> {
+) -> Result<()> {
     let whole = listed_of(alloc, Bytes::new(bytes), drops_mark)?;
-    assert_eq!(rt; whole.as_str(), wanted, "whole");
     let cut = listed_of(alloc, one_byte_a_read(bytes), drops_mark)?;
-    assert_eq!(rt; cut.as_str(), wanted, "in pieces");
+    assert_eq!(rt;
+        [whole.as_str(), cut.as_str()],
+        [wanted, wanted],
+        "whole, and in pieces"
+    );
     Ok(())
 }
 
@@ -185,7 +185,7 @@ fn a_fault_of_the_reader_is_the_last_answer(rt: HostRuntime) -> std::result::Res
     };
     let mut lines = Splitter::new(rt.alloc(), failing)?;
     let all = listed_in_place(rt.alloc(), &mut lines)?;
-    assert_eq!(rt; all.as_str(), "[A=1]<InvalidData>");
+    sees_text(&rt, all, "[A=1]<InvalidData>");
     assert_eq!(rt; lines.drop_mark().is_ok(), true);
     Ok(())
 }
@@ -199,7 +199,7 @@ fn listed_by<R: Source + Drop>(alloc: Global, reader: R, reads: u64) -> Result<S
 fn the_bound_on_reads(rt: HostRuntime) -> std::result::Result<(), Fail> {
     for (reads, wanted) in [(1, "[A]<Other>"), (2, "[A][B]")] {
         let all = listed_by(rt.alloc(), Bytes::new(b"A\nB"), reads)?;
-        assert_eq!(rt; all.as_str(), wanted);
+        sees_text(&rt, all, wanted);
     }
     Ok(())
 }
@@ -211,7 +211,7 @@ fn three_reads(rt: HostRuntime) -> std::result::Result<(), Fail> {
     for (bytes, wanted) in [("A=1", "<Other>"), ("A=%0a", "[A=]<Other>")] {
         let steps = steps(alloc, bytes)?;
         let all = listed_by(alloc, PlayedReader::new(&steps, Cut::ByByte), 3)?;
-        assert_eq!(rt; all.as_str(), wanted);
+        sees_text(&rt, all, wanted);
     }
     Ok(())
 }
@@ -225,7 +225,7 @@ fn interrupted_reads_count(rt: HostRuntime) -> std::result::Result<(), Fail> {
         fault: Some(ErrorKind::Interrupted),
     };
     let all = listed_by(rt.alloc(), interrupted, 1_000)?;
-    assert_eq!(rt; all.as_str(), "[A]<Other>");
+    sees_text(&rt, all, "[A]<Other>");
     Ok(())
 }
 
@@ -234,7 +234,7 @@ fn nothing_comes_once_it_has_failed(rt: HostRuntime) -> std::result::Result<(), 
     let mut failed = Splitter::new(rt.alloc(), Bytes::new(b"A"))?;
     failed.fail();
     let all = listed(rt.alloc(), failed)?;
-    assert_eq!(rt; all.as_str(), "");
+    sees_text(&rt, all, "");
     Ok(())
 }
 
@@ -250,7 +250,7 @@ const EACH_ALONE: &str = "[A='long\nquoted'][][B=1][][][C ]<InvalidData>[D]<Inva
 fn the_line_buffer_holds_the_last_line(rt: HostRuntime) -> std::result::Result<(), Fail> {
     let mut splitter = Splitter::new(rt.alloc(), Bytes::new(LONG_LINE_FIRST))?;
     let all = listed_in_place(rt.alloc(), &mut splitter)?;
-    assert_eq!(rt; all.as_str(), EACH_ALONE);
+    sees_text(&rt, all, EACH_ALONE);
     Ok(())
 }
 
@@ -260,13 +260,14 @@ fn the_line_buffer_holds_a_line_that_comes_in_pieces(
 ) -> std::result::Result<(), Fail> {
     let mut splitter = Splitter::new(rt.alloc(), one_byte_a_read(LONG_LINE_FIRST))?;
     let all = listed_in_place(rt.alloc(), &mut splitter)?;
-    assert_eq!(rt; all.as_str(), EACH_ALONE);
+    sees_text(&rt, all, EACH_ALONE);
     Ok(())
 }
 
-// Whether the last item stands on the lines from the first to the last.
-fn stands_on<R: Source>(file: &Iter<R>, first: u64, last: u64) -> bool {
-    file.first_line() == first && file.last_line() == last
+// Whether there is a next item, and the first and the last line of the last one.
+fn next_lines<R: Source>(file: &mut Iter<R>, environment: &Environment) -> (bool, u64, u64) {
+    let is_some = file.next_item(environment).is_some();
+    (is_some, file.first_line(), file.last_line())
 }
 
 #[test]
@@ -275,13 +276,16 @@ fn lines_of_items(rt: HostRuntime) -> std::result::Result<(), Fail> {
     let environment = Environment::new(alloc);
     let bytes = b"# c\nA=1\nB=\"2\n3\"\nC=x y\n\nD=1\n# d";
     let mut file = Iter::new(alloc, Bytes::new(bytes))?;
-    assert!(rt; stands_on(&file, 0, 0), "before the first item");
-    for (first, last) in [(2, 2), (3, 4), (5, 5), (7, 7)] {
-        assert!(rt; file.next_item(&environment).is_some());
-        assert!(rt; stands_on(&file, first, last), "line {first}");
+    assert_eq!(rt; (file.first_line(), file.last_line()), (0, 0));
+    for wanted in [
+        (true, 2, 2),
+        (true, 3, 4),
+        (true, 5, 5),
+        (true, 7, 7),
+        (false, 7, 7),
+    ] {
+        assert_eq!(rt; next_lines(&mut file, &environment), wanted);
     }
-    assert!(rt; file.next_item(&environment).is_none());
-    assert!(rt; stands_on(&file, 7, 7), "at the end");
     Ok(())
 }
 
@@ -296,10 +300,9 @@ fn a_fault_of_the_reader_stands_on_no_line(rt: HostRuntime) -> std::result::Resu
         fault: Some(ErrorKind::InvalidData),
     };
     let mut file = Iter::new(alloc, failing)?;
-    assert!(rt; file.next_item(&environment).is_some());
-    assert!(rt; stands_on(&file, 1, 1));
-    assert!(rt; file.next_item(&environment).is_some());
-    assert!(rt; stands_on(&file, 0, 0));
+    let pair = next_lines(&mut file, &environment);
+    let fault = next_lines(&mut file, &environment);
+    assert_eq!(rt; [pair, fault], [(true, 1, 1), (true, 0, 0)]);
     Ok(())
 }
 
@@ -313,8 +316,10 @@ fn items_behind_a_dropped_mark(rt: HostRuntime) -> std::result::Result<(), Fail>
             file.drop_mark()?;
         }
         let is_pair = matches!(file.next_item(&environment), Some(Ok(_)));
-        assert_eq!(rt; is_pair, is_dropped);
-        assert!(rt; stands_on(&file, 1, 1));
+        assert_eq!(rt;
+            (is_pair, file.first_line(), file.last_line()),
+            (is_dropped, 1, 1)
+        );
     }
     Ok(())
 }

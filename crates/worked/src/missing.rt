@@ -1,6 +1,6 @@
 //! What is printed of names that are required and are not there.
 
-use crate::shown::environment;
+use crate::shown::{environment, sees_text};
 use env_layers::{Layers, Missing};
 use std::alloc::{AllocError, Global};
 use std::test::Fail;
@@ -27,7 +27,7 @@ fn absent_names_stand_in_a_row(rt: HostRuntime) -> Result<(), Fail> {
         (&["", "A=0", "B"], "environment variables not found: , A=0"),
     ];
     for (names, want) in rows {
-        assert_eq!(rt; printed(rt.alloc(), names)?.as_str(), want);
+        sees_text(&rt, printed(rt.alloc(), names)?, want);
     }
     Ok(())
 }
@@ -35,6 +35,6 @@ fn absent_names_stand_in_a_row(rt: HostRuntime) -> Result<(), Fail> {
 #[test]
 fn refused_memory_is_no_absent_name(rt: HostRuntime) -> Result<(), Fail> {
     let refused: Missing = Missing::from(AllocError);
-    assert_eq!(rt; refused.to_string(rt.alloc())?.as_str(), "out of memory");
+    sees_text(&rt, refused.to_string(rt.alloc())?, "out of memory");
     Ok(())
 }

@@ -1,11 +1,13 @@
 //! What a loop of writes leaves and answers where no write is left.
 
+use crate::shown::sees_text;
 use dotenv_base::output::write_all;
-use dotenvy::{Error, Plain, Result};
+use dotenvy::{Plain, Result};
 use std::alloc::Global;
 use std::io;
 use std::io::{ErrorKind, Write};
 use std::test::Fail;
+use support::answers::written;
 
 // What a write does: it takes at most so many bytes, or answers a fault of this kind.
 #[derive(Clone, Copy)]
@@ -47,7 +49,7 @@ impl<'a> Write for Played<'a> {
     }
 }
 
-// The answer, and in brackets what was written.
+// The answer, and what was written, where something was.
 fn answered(
     alloc: Global,
     steps: &[Step],
@@ -57,33 +59,26 @@ fn answered(
     let taken = Vec::new(alloc);
     let mut sink = Plain::new(Played { steps, taken });
     let answer: Result<(), Global> = write_all(&mut sink, bytes, writes_left);
-    let text = String::from_utf8(sink.into_inner().taken)?;
-    Ok(match answer {
-        Ok(()) => format!(in alloc; "ok [{text}]")?,
-        Err(Error::Io(e)) => {
-            let kind = e.kind();
-            format!(in alloc; "{kind:?} [{text}]")?
-        }
-        Err(e) => format!(in alloc; "{e} [{text}]")?,
-    })
+    let texts = written(alloc, &answer, sink.into_inner().taken)?;
+    Ok(texts.join(alloc, "; ")?)
 }
 
 #[test]
 fn no_write_is_left(rt: HostRuntime) -> std::result::Result<(), Fail> {
+    let alloc = rt.alloc();
     let again = Step::Fault(ErrorKind::Interrupted);
     let rows: [(&[Step], &[u8], u64, &str); 8] = [
-        (&[Step::Take(0)], b"", 3, "ok []"),
-        (&[Step::Take(1)], b"abc", 3, "ok [abc]"),
-        (&[Step::Take(1)], b"abcd", 3, "Other [abc]"),
-        (&[Step::Take(1)], b"K=\"1\"\n", 2, "Other [K=]"),
-        (&[Step::Take(2)], b"abcdef", 3, "ok [abcdef]"),
-        (&[Step::Take(2)], b"abcdefg", 3, "Other [abcdef]"),
-        (&[Step::Take(1), again], b"abc", 3, "Other [a]"),
-        (&[again], b"abc", 3, "Other []"),
+        (&[Step::Take(0)], b"", 3, "ok"),
+        (&[Step::Take(1)], b"abc", 3, "ok; abc"),
+        (&[Step::Take(1)], b"abcd", 3, "io Other; abc"),
+        (&[Step::Take(1)], b"K=\"1\"\n", 2, "io Other; K="),
+        (&[Step::Take(2)], b"abcdef", 3, "ok; abcdef"),
+        (&[Step::Take(2)], b"abcdefg", 3, "io Other; abcdef"),
+        (&[Step::Take(1), again], b"abc", 3, "io Other; a"),
+        (&[again], b"abc", 3, "io Other"),
     ];
     for (steps, bytes, writes_left, wanted) in rows {
-        let got = answered(rt.alloc(), steps, bytes, writes_left)?;
-        assert_eq!(rt; got.as_str(), wanted);
+        sees_text(&rt, answered(alloc, steps, bytes, writes_left)?, wanted);
     }
     Ok(())
 }

@@ -1,6 +1,6 @@
 //! The environment of the process.
 
-use crate::shown::pairs;
+use crate::shown::{pairs, sees_text};
 use dotenvy::Environment;
 use std::env;
 use std::test::Fail;
@@ -9,16 +9,10 @@ use std::test::Fail;
 #[test]
 fn the_entries_of_the_process(rt: HostRuntime) -> Result<(), Fail> {
     let alloc = rt.alloc();
-    let mut list: Vec<(String, String)> = Vec::new(alloc);
-    for pair in env::vars(&rt)? {
-        list.push(pair)?;
-    }
-    let wanted = Environment::from_pairs(alloc, list)?;
+    let list: Vec<(String, String)> = env::vars(&rt)?.collect(alloc)?;
+    let wanted = pairs(alloc, &Environment::from_pairs(alloc, list)?)?;
     let environment = Environment::from_process(&rt)?;
-    assert_eq!(rt;
-        pairs(alloc, &environment)?.as_str(),
-        pairs(alloc, &wanted)?.as_str()
-    );
+    sees_text(&rt, pairs(alloc, &environment)?, wanted.as_str());
     assert!(rt; !environment.loaded());
     Ok(())
 }

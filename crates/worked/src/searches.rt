@@ -1,5 +1,6 @@
 //! Faults that end a search for a file.
 
+use crate::shown::{played, sees_text};
 use dotenvy::Error;
 use dotenvy::search::{Look, find};
 use std::alloc::Global;
@@ -11,12 +12,12 @@ use support::looks::PlayedLooks;
 
 /// What a search answers whose first look fails so.
 fn answered(alloc: Global, fault: io::Error) -> Result<io::Error, Fail> {
-    let mut played = PlayedLooks::new(alloc, vec![in alloc; Look::Fault(fault)]?);
+    let mut looks = PlayedLooks::new(alloc, vec![in alloc; Look::Fault(fault)]?);
     let answer = find(
         alloc,
         Path::new("/a"),
         Path::new(".env"),
-        &mut |path| { played.look(path) },
+        &mut |path| { looks.look(path) },
     );
     match answer {
         Err(Error::Io(answered)) => Ok(answered),
@@ -32,12 +33,9 @@ fn a_fault_is_answered_as_it_came(rt: HostRuntime) -> Result<(), Fail> {
         io::Error::from_raw_os_error(5),
         io::Error::from_raw_os_error(40),
     ] {
-        let wanted = fault.to_string(alloc)?;
-        let (kind, code) = (fault.kind(), fault.raw_os_error());
+        let wanted = played(alloc, fault)?;
         let answered = answered(alloc, fault)?;
-        assert_eq!(rt; answered.kind(), kind);
-        assert_eq!(rt; answered.raw_os_error(), code);
-        assert_eq!(rt; answered.to_string(alloc)?.as_str(), wanted.as_str());
+        sees_text(&rt, played(alloc, answered)?, wanted.as_str());
     }
     Ok(())
 }

@@ -3,9 +3,34 @@
 use dotenvy::environment::Vars;
 use dotenvy::{Environment, Result, vars};
 use std::alloc::{AllocError, Allocator, Global};
+use std::io;
+use std::process::Abort;
 use std::test::Fail;
 use support::answers;
 use support::system::PlayedSystem;
+
+/// Sees that a text is the wanted one.
+pub fn sees_text(rt: &impl Abort, got: String, wanted: &str) {
+    assert_eq!(rt; got.as_str(), wanted);
+}
+
+/// All that a fault tells: its text as it is printed, its kind and its system code, and how it
+/// was made.
+pub fn told(
+    alloc: Global,
+    printed: &str,
+    fault: io::Error,
+) -> std::result::Result<String, AllocError> {
+    let kind = fault.kind();
+    let code = fault.raw_os_error();
+    format!(in alloc; "{printed}, {kind:?}, {code:?}, {fault:?}")
+}
+
+/// The same of a fault that was played.
+pub fn played(alloc: Global, fault: io::Error) -> std::result::Result<String, AllocError> {
+    let printed = fault.to_string(alloc)?;
+    told(alloc, printed.as_str(), fault)
+}
 
 /// The names and values, as `A=1; B=2`.
 pub fn pairs<A: Allocator>(

@@ -1,6 +1,5 @@
 -- A statement read from left to right.
 use Rattle.std.proofs.Common.{
-  IsTrue,
   ◌≡◌,
   ℕ,
   Bool,
@@ -32,23 +31,12 @@ use Rattle.std.specs.Char.{is_whitespace}
 use Rattle.std.specs.Cmp.Lexicographic.{same_text}
 use Rattle.std.proofs.lemmas.List.{append-nil}
 use Rattle.std.proofs.lemmas.Bool.Decides.{nat_tests}
-use Rattle.dotenv_format.specs.Characters.{begins_key, continues_key, equals_sign}
-use Rattle.dotenv_format.specs.Statement.{IsStatement, IsPrefix, is_key, is_white_space, begins_with_white_space}
-use Rattle.dotenv_format.proofs.Basics.{and_left, and_right, both, some_same, same_from, when_true, when_false}
+use Rattle.dotenv_characters.specs.Characters.{begins_key, continues_key, equals_sign}
+use Rattle.dotenv_format.specs.Statement.{IsStatement, IsPrefix, is_white_space, begins_with_white_space}
+use Rattle.dotenv_characters.specs.Keys.{is_key}
+use Rattle.dotenv_characters.proofs.Basics.{and_left, and_right, both, some_same, same_from, when_true, when_false}
 use Rattle.dotenv_format.proofs.writing.ReadBack.{begins_key_visible}
 use Rattle.dotenv_format.specs.inside.ParseStatement.{export}
-
--- a character that begins a key may also stand later in one
-pub key_begins_continues : (c : ℕ) → begins_key c ≡ true → continues_key c ≡ true
-key_begins_continues c h = rw h refl
-
--- each character of a key, the first one too, may stand later in a key
-pub key_continues : (key : List ℕ) → IsTrue (is_key key) → list_all continues_key key ≡ true
-key_continues [] h = refl
-key_continues (c ∷ key) h =
-    both (continues_key c) (list_all continues_key key)
-    (key_begins_continues c (and_left (begins_key c) (list_all continues_key key) h))
-    (and_right (begins_key c) (list_all continues_key key) h)
 
 -- where the reading of a statement stands; a flag says whether the key may still be a prefix
 pub data StatementMode : Type 0 where

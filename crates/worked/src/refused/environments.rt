@@ -1,7 +1,7 @@
 //! Environments whose growth is refused.
 
 use crate::refused::{is_done, refuse_in_turn};
-use crate::shown::pairs;
+use crate::shown::{pairs, sees_text};
 use dotenvy::{Environment, Error, Result, is_name};
 use std::alloc::{Allocator, Global};
 use std::process::Abort;
@@ -36,16 +36,17 @@ fn sets_names(
     ration: &Rationed<Global>,
 ) -> std::result::Result<bool, Fail> {
     let mut environment = Environment::new(ration);
+    let mut before = String::new(alloc);
     for (place, name) in NAMES_TWICE.split_whitespace().enumerate() {
-        let before = pairs(alloc, &environment)?;
         let answer = set_to(ration, &mut environment, name, place);
+        let after = pairs(alloc, &environment)?;
         if !is_done(rt, ration, &answer) {
-            assert_eq!(rt; pairs(alloc, &environment)?.as_str(), before.as_str());
+            sees_text(rt, after, before.as_str());
             return Ok(false);
         }
+        before = after;
     }
-    assert_eq!(rt; environment.len(), 26);
-    assert_eq!(rt; environment.get("M").ok_or("absent")?, "27");
+    assert_eq!(rt; (environment.len(), environment.get("M")), (26, Some("27")));
     Ok(true)
 }
 
@@ -97,9 +98,9 @@ fn clones<A: Allocator + Clone>(
 ) -> std::result::Result<bool, Fail> {
     let before = pairs(alloc, environment)?;
     let copy = environment.try_clone();
-    assert_eq!(rt; pairs(alloc, environment)?.as_str(), before.as_str());
+    sees_text(rt, pairs(alloc, environment)?, before.as_str());
     if let Ok(copy) = &copy {
-        assert_eq!(rt; pairs(alloc, copy)?.as_str(), before.as_str());
+        sees_text(rt, pairs(alloc, copy)?, before.as_str());
     }
     Ok(is_done(rt, ration, &copy))
 }

@@ -1,12 +1,14 @@
 //! Searches for a file while memory is refused.
 
 use crate::refused::{is_refused, refuse_in_turn};
+use crate::shown::sees_text;
 use dotenvy::search::{Look, find};
-use std::alloc::{AllocError, Global};
-use std::path::Path;
+use std::alloc::{AllocError, Allocator, Global};
+use std::path::{Path, PathBuf};
 use std::process::Abort;
 use std::test::Fail;
 use support::Rationed;
+use support::answers::fault;
 use support::looks::PlayedLooks;
 
 /// A search, and the paths that it asks for, in order.
@@ -32,6 +34,25 @@ impl Search<'_> {
         }
         Ok(looks)
     }
+
+    /// What it answers where nothing is refused: the last path, or that no file is there.
+    fn answer(&self) -> &str {
+        match self.candidates.last() {
+            Some(last) if self.is_found => last,
+            _ => "io NotFound",
+        }
+    }
+}
+
+/// The path that was found, or the fault.
+fn found<A: Allocator>(
+    alloc: Global,
+    answer: dotenvy::Result<PathBuf<A>, A>,
+) -> Result<String, AllocError> {
+    match answer {
+        Ok(path) => String::from_str(alloc, path.as_str()),
+        Err(error) => fault(alloc, &error),
+    }
 }
 
 /// The search asks for its paths in order, for all of them where nothing is refused, and for no other.
@@ -48,20 +69,21 @@ fn searches(
         Path::new(search.filename),
         &mut |path| { looks.look(path) },
     );
+    let is_refused = is_refused(rt, ration, &answer);
+    let found = found(alloc, answer)?;
     let asked = looks.into_asked();
-    for (place, path) in asked.iter().enumerate() {
-        assert_eq!(rt; Some(&path.as_str()), search.candidates.get(place));
-    }
-    if is_refused(rt, ration, &answer) {
-        return Ok(false);
-    }
-    assert_eq!(rt; asked.len(), search.candidates.len());
-    assert_eq!(rt; answer.is_ok(), search.is_found);
-    match answer {
-        Ok(path) => assert_eq!(rt; Some(&path.as_str()), search.candidates.last()),
-        Err(error) => assert!(rt; error.not_found(), "{error}"),
-    }
-    Ok(true)
+    let (count, wanted) = if is_refused {
+        (asked.len(), "memory")
+    } else {
+        (search.candidates.len(), search.answer())
+    };
+    let wanted = format!(in alloc; "{:?}: {wanted}", search.candidates.get(..count))?;
+    sees_text(
+        rt,
+        format!(in alloc; "{:?}: {found}", Some(asked))?,
+        wanted.as_str(),
+    );
+    Ok(!is_refused)
 }
 
 #[test]

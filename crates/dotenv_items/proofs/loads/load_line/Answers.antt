@@ -1,7 +1,7 @@
 use Rattle.std.proofs.Common.{◌≡◌, Ok, ap, subst, sym, ◌∙◌, true}
 use Rattle.std.specs.Str.{chars}
 use Rattle.std.proofs.lemmas.Str.{IsUtf8-string_bytes}
-use Rattle.dotenv_format.specs.Statement.{is_key}
+use Rattle.dotenv_characters.specs.Keys.{is_key}
 use Rattle.dotenv_items.specs.Remembered.{remembered_of}
 use Rattle.dotenv_items.specs.Meaning.{values_of, names_of}
 use Rattle.dotenv_format.specs.Run.{sets}
