@@ -20,19 +20,19 @@ pub fn continues_key(character: char) -> bool
     begins_key(character) || character.is_ascii_digit() || character == '.'
 }
 
-/// White space that ends no line.
-pub fn is_blank(c: char) -> bool
-    ensures { result ≡ is_blank c }
+/// White space other than a line feed and a carriage return.
+pub fn is_blank(character: char) -> bool
+    ensures { result ≡ is_blank character }
 {
-    c.is_whitespace() && c != '\n' && c != '\r'
+    character.is_whitespace() && character != '\n' && character != '\r'
 }
 
 // A character in a general category of numbers.
-fn is_number(c: char) -> bool
-    ensures { result ≡ is_number_category (general_category_number (general_category c)) }
+fn is_number(character: char) -> bool
+    ensures { result ≡ is_number_category (general_category_number (general_category character)) }
 {
     matches!(
-        GeneralCategory::for_char(c),
+        GeneralCategory::for_char(character),
         GeneralCategory::DecimalNumber
             | GeneralCategory::LetterNumber
             | GeneralCategory::OtherNumber
@@ -51,8 +51,10 @@ pub fn allows_underscore(dialect: Dialect) -> bool
 
 /// A character of a name after a dollar without braces.
 #[tactic(auto, unfolding(crate::specs::Characters::is_name_character))]
-pub fn is_name_character(dialect: Dialect, c: char) -> bool
-    ensures { result ≡ is_name_character dialect c }
+pub fn is_name_character(dialect: Dialect, character: char) -> bool
+    ensures { result ≡ is_name_character dialect character }
 {
-    is_alphabetic(c) || is_number(c) || (allows_underscore(dialect) && c == '_')
+    is_alphabetic(character)
+        || is_number(character)
+        || (allows_underscore(dialect) && character == '_')
 }

@@ -92,7 +92,7 @@ pub fn play_run(answers: &mut Vec<Comparison>, scene: &mut Scene, fields: &[&str
         return refuse_count(fields, 7);
     };
     let alloc = *answers.allocator();
-    scene.play_all(steps)?;
+    scene.set_up(steps)?;
     let words = words(alloc, words_field)?;
     let input = reader::steps(alloc, input)?;
     let mut reader = Telling::new(alloc, PlayedReader::new(&input, Cut::Whole));

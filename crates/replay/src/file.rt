@@ -69,7 +69,7 @@ impl File<'_> {
         let answer = match (self.dialect, cut, replaces) {
             (Dialect::V15, Cut::Whole, false) => from_read(alloc, reader, &mut environment),
             (Dialect::V15, Cut::Whole, true) => from_read_override(alloc, reader, &mut environment),
-            _ => load_rest(self.open(alloc, cut)?, &mut environment, replaces),
+            _ => load_or_override(self.open(alloc, cut)?, &mut environment, replaces),
         };
         Ok(loaded(alloc, &answer, &environment)?)
     }
@@ -118,7 +118,7 @@ impl File<'_> {
 }
 
 /// Loads by `load_override` where values are to be replaced, and else by `load`.
-pub fn load_rest<S: Source + Drop>(
+pub fn load_or_override<S: Source + Drop>(
     entries: Iter<S>,
     environment: &mut Environment,
     replaces: bool,

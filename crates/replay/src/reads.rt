@@ -1,7 +1,7 @@
 //! Rows of the kinds `reads` and `first`: which reads are made for items, for the first of them, and for a load.
 
 use crate::answer::{is_asked, push_answer};
-use crate::file::{dialect, listing, load_rest};
+use crate::file::{dialect, listing, load_or_override};
 use crate::row::refuse_count;
 use anyhow::{Result, bail};
 use comparison::Comparison;
@@ -43,7 +43,7 @@ fn of_load(alloc: Global, dialect: Dialect, steps: &[Step], replaces: bool) -> R
     let mut environment = Environment::new(alloc);
     {
         let entries = Iter::with_dialect(alloc, &mut telling, dialect)?;
-        let _ = load_rest(entries, &mut environment, replaces);
+        let _ = load_or_override(entries, &mut environment, replaces);
     }
     spelled(alloc, telling.into_calls())
 }

@@ -148,7 +148,7 @@ pub fn play(
     let [names, steps, call_field, wanted, left, states @ ..] = fields else {
         bail!("{} fields in place of 5 and more", fields.len());
     };
-    scene.play_all(steps)?;
+    scene.set_up(steps)?;
     let (word, rest) = word_and_rest(call_field);
     let given = scene.text(rest)?;
     let call = Call::named(word, given.as_str()).context("no call")?;

@@ -97,7 +97,7 @@ impl Scene {
     }
 
     /// Plays steps none of which is a call.
-    pub fn play_all(&mut self, steps: &str) -> Result<()> {
+    pub fn set_up(&mut self, steps: &str) -> Result<()> {
         for step in list(self.rt.alloc(), steps)? {
             if !self.play(step)? {
                 bail!("no step: {step}");
@@ -182,19 +182,11 @@ impl Act<'_> {
         Ok(())
     }
 
-    // The answers to all of the steps.
-    fn play_all(mut self, steps: &str) -> Result<Vec<String>> {
+    fn play_all(&mut self, steps: &str) -> Result<()> {
         for step in list(self.scene.rt.alloc(), steps)? {
             self.play(step)?;
         }
-        let Act {
-            scene: _,
-            names: _,
-            environment: _,
-            prints: _,
-            answers,
-        } = self;
-        Ok(answers)
+        Ok(())
     }
 
     // Makes a call: its answer, then the environment that it leaves.
@@ -248,12 +240,13 @@ pub fn play(answers: &mut Vec<Comparison>, scene: &mut Scene, fields: &[&str]) -
         return refuse_count(fields, 3);
     };
     let alloc = *answers.allocator();
-    let act = Act {
+    let mut act = Act {
         scene,
         names,
         environment: environment(alloc, names)?,
         prints: false,
         answers: Vec::new(alloc),
     };
-    push_answer(answers, "calls", "answered", wanted, act.play_all(steps)?)
+    act.play_all(steps)?;
+    push_answer(answers, "calls", "answered", wanted, act.answers)
 }

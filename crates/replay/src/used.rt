@@ -1,7 +1,7 @@
 //! Rows of kind `used`: items are taken of an iterator, and then what is left of it is loaded.
 
 use crate::answer::push_answer;
-use crate::file::{CUTS, dialect, environment, load_rest};
+use crate::file::{CUTS, dialect, environment, load_or_override};
 use crate::row::refuse_count;
 use anyhow::Result;
 use comparison::Comparison;
@@ -49,7 +49,7 @@ impl Used<'_> {
         replaces: bool,
     ) -> Result<Vec<String>> {
         let mut into = environment(alloc, self.into)?;
-        let answer = load_rest(entries, &mut into, replaces);
+        let answer = load_or_override(entries, &mut into, replaces);
         Ok(loaded(alloc, &answer, &into)?)
     }
 
