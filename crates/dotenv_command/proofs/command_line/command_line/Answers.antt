@@ -1,5 +1,6 @@
-use Rattle.std.proofs.Common.{◌≡◌, true, [], Ok, Err, refl, sym, ap, subst, rules}
+use Rattle.std.proofs.Common.{arith, ◌≡◌, true, [], Ok, Err, refl, sym, ap, subst, rules}
 use Rattle.std.proofs.lemmas.Result.{err_from_is_err_and}
+use Rattle.std.proofs.lemmas.Grind.{common_steps}
 use Rattle.dotenv_command.specs.Answers.{texts, line_of}
 use Rattle.dotenv_command.specs.FirstGroup.{GroupBeginsWith}
 use Rattle.dotenv_command.specs.Words.{MissingCommand}
@@ -77,3 +78,6 @@ returns g c =
       ap (λ words. Ok (record line { command = words }))
           (sym (copied c.groups.rest.now c.in_ok-line-2.field-0.items c.in_ok-line-2.ensures.items)),
     )
+
+pub groups-smaller : goal.groups-smaller
+groups-smaller g c = grind (arith, common_steps)

@@ -1,4 +1,4 @@
-use Rattle.std.proofs.Common.{not, refl, sym, ap, subst, ◌∙◌, inl, inr}
+use Rattle.std.proofs.Common.{rules, not, refl, sym, ap, subst, ◌∙◌, inl, inr}
 use Rattle.std.proofs.lemmas.Result.{err_from_is_err_and}
 use Rattle.dotenv_items.specs.Iter.{fresh}
 use Rattle.dotenv_items.specs.Listed.{Lists}
@@ -53,3 +53,15 @@ pub returns-clause-lists : goal.returns-clause-lists
 returns-clause-lists g c = λ line is listed.
     absurd (lists_both (texts c.args.words.now) line c.in_ok-line.line c.in_ok-line.ensures is
     (c.if-line.false ∙ ap not (sym listed)))
+
+pub returns-in_err-line-clause-early : goal.returns-in_err-line-clause-early
+returns-in_err-line-clause-early g c = search rules
+
+pub returns-then-line-clause-early : goal.returns-then-line-clause-early
+returns-then-line-clause-early g c = search rules
+
+pub returns-clause-early : goal.returns-clause-early
+returns-clause-early g c = search rules
+
+pub returns-clause-command : goal.returns-clause-command
+returns-clause-command g c = search rules

@@ -130,3 +130,15 @@ pub returns-clause-asks : goal.returns-clause-asks
 returns-clause-asks g c =
     asks_line c.args.lines.now.lines.input c.lines.lines.lines c.advance.new.self.lines c.lines.invariant.asks
     (λ shut. ap (λ (s : SplitterState). s.lines) (c.in_default.ensures.shut shut).1) c.in_default.ensures.asks
+
+pub lines-preserved-else-is_some : goal.lines-preserved-else-is_some
+lines-preserved-else-is_some g c = search rules
+
+pub lines-preserved-else-is_some-2 : goal.lines-preserved-else-is_some-2
+lines-preserved-else-is_some-2 g c = search rules
+
+pub lines-preserved-else-is_some-3 : goal.lines-preserved-else-is_some-3
+lines-preserved-else-is_some-3 g c = search rules
+
+pub lines-preserved-else-is_some-4 : goal.lines-preserved-else-is_some-4
+lines-preserved-else-is_some-4 g c = search rules

@@ -1,4 +1,4 @@
-use Rattle.std.proofs.Common.{◌≡◌, Ok, ap, subst, sym, ◌∙◌, true}
+use Rattle.std.proofs.Common.{rules, ◌≡◌, Ok, ap, subst, sym, ◌∙◌, true}
 use Rattle.std.specs.Str.{chars}
 use Rattle.std.proofs.lemmas.Str.{IsUtf8-string_bytes}
 use Rattle.dotenv_characters.specs.Keys.{is_key}
@@ -78,3 +78,6 @@ returns-clause-keys g c =
     let pair = c.in_ok-key.ensures.pair declared.rest declared.pieces declared.is_assigned in
     set_changes_keys c.args.env.now c.set.new.self c.in_ok-key.key c.in_ok-key.value c.set.result
     (subst (λ k. is_key (chars k) ≡ true) (sym pair.key) declared.statement.is_key) c.set.ensures.ok c.set.ensures.same
+
+pub returns-clause-mark : goal.returns-clause-mark
+returns-clause-mark g c = search rules

@@ -4,6 +4,7 @@ use Rattle.std.specs.String.{string_capacity}
 use Rattle.std.specs.Str.{chars}
 use Rattle.dotenv_characters.specs.Characters.{double_quote, equals_sign, byte_len}
 use Rattle.dotenv_format.specs.Written.{written_character, written_bytes}
+use Rattle.std.proofs.lemmas.Grind.{common_steps}
 use Rattle.dotenv_items.proofs.WrittenBytes.{
   left_bytes,
   pair_bytes,
@@ -88,3 +89,12 @@ unwrap-requires-3 g c =
 pub returns-clause-bytes : goal.returns-clause-bytes
 returns-clause-bytes g c = last_bytes (string_bytes c.parts.out) (string_bytes c.push_str-3.new.self) _
     c.parts.rest.now (ap length c.in_default.ensures) (search rules) c.parts.invariant.whole
+
+pub parts-preserved-then-needs_backslash : goal.parts-preserved-then-needs_backslash
+parts-preserved-then-needs_backslash g c = grind (arith, common_steps)
+
+pub parts-smaller-then-needs_backslash : goal.parts-smaller-then-needs_backslash
+parts-smaller-then-needs_backslash g c = grind (arith, common_steps)
+
+pub parts-smaller : goal.parts-smaller
+parts-smaller g c = grind (arith, common_steps)

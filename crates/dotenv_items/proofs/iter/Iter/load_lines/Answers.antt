@@ -70,7 +70,7 @@ loading-preserved g c =
           let before = c.loading.invariant.keeps keep k there in
           c.load_line.ensures.keeps keep k (ap is_some before ∙ there) ∙ before;
       keys = λ n other. c.load_line.ensures.keys n other ∙ c.loading.invariant.keys n other;
-      mark = search rules;
+      mark = c.load_line.ensures.mark ∙ c.loading.invariant.mark;
     }
 
 pub returns-in_err-outcome-clause-told : goal.returns-in_err-outcome-clause-told
@@ -105,3 +105,57 @@ returns-clause-told g c = λ opened.
     let now = state_of self.lines.lines (remembered_of self.remembered.entries) self.dialect self.item_lines in
     loads_none {A = g.row.A.Denot} (mode_of c.args.mode) c.args.self now c.advance.new.self.lines c.args.env.now.names
     c.loading.env.names c.advance.new.self.line opened c.loading.invariant.came c.in_default.ensures.told
+
+pub returns-clause-shut : goal.returns-clause-shut
+returns-clause-shut g c = λ shut. (refl, (c.loading.invariant.shut shut).1)
+
+pub returns-clause-keeps : goal.returns-clause-keeps
+returns-clause-keeps g c = c.loading.invariant.keeps
+
+pub returns-clause-keys : goal.returns-clause-keys
+returns-clause-keys g c = c.loading.invariant.keys
+
+pub returns-clause-mark : goal.returns-clause-mark
+returns-clause-mark g c = c.loading.invariant.mark
+
+pub returns-in_err-drop_mark-clause-shut : goal.returns-in_err-drop_mark-clause-shut
+returns-in_err-drop_mark-clause-shut g c = search rules
+
+pub returns-in_err-drop_mark-clause-keeps : goal.returns-in_err-drop_mark-clause-keeps
+returns-in_err-drop_mark-clause-keeps g c = λ keep k there. refl
+
+pub returns-in_err-drop_mark-clause-keys : goal.returns-in_err-drop_mark-clause-keys
+returns-in_err-drop_mark-clause-keys g c = λ n other. refl
+
+pub returns-in_err-drop_mark-clause-mark : goal.returns-in_err-drop_mark-clause-mark
+returns-in_err-drop_mark-clause-mark g c = refl
+
+pub returns-in_err-load_line-clause-shut : goal.returns-in_err-load_line-clause-shut
+returns-in_err-load_line-clause-shut g c = λ shut. absurd (search rules)
+
+pub returns-in_err-load_line-clause-keeps : goal.returns-in_err-load_line-clause-keeps
+returns-in_err-load_line-clause-keeps g c = λ keep k there.
+    let before = c.loading.invariant.keeps keep k there in
+    c.load_line.ensures.keeps keep k (ap is_some before ∙ there) ∙ before
+
+pub returns-in_err-load_line-clause-keys : goal.returns-in_err-load_line-clause-keys
+returns-in_err-load_line-clause-keys g c = λ n other.
+    c.load_line.ensures.keys n other ∙ c.loading.invariant.keys n other
+
+pub returns-in_err-load_line-clause-mark : goal.returns-in_err-load_line-clause-mark
+returns-in_err-load_line-clause-mark g c = c.load_line.ensures.mark ∙ c.loading.invariant.mark
+
+pub returns-in_err-outcome-clause-shut : goal.returns-in_err-outcome-clause-shut
+returns-in_err-outcome-clause-shut g c = λ shut. absurd (search rules)
+
+pub returns-in_err-outcome-clause-keeps : goal.returns-in_err-outcome-clause-keeps
+returns-in_err-outcome-clause-keeps g c = c.loading.invariant.keeps
+
+pub returns-in_err-outcome-clause-keys : goal.returns-in_err-outcome-clause-keys
+returns-in_err-outcome-clause-keys g c = c.loading.invariant.keys
+
+pub returns-in_err-outcome-clause-mark : goal.returns-in_err-outcome-clause-mark
+returns-in_err-outcome-clause-mark g c = c.loading.invariant.mark
+
+pub loading-smaller : goal.loading-smaller
+loading-smaller g c = search rules

@@ -3,6 +3,7 @@ use Rattle.std.specs.List.{copy_within}
 use Rattle.std.proofs.lemmas.List.{with_items_is}
 use borrow.Rule.Slice.PartMut.{put_mid, mid_of, same_len_mid}
 use Rattle.dotenv_format.proofs.bytes.Buffers.{unread-moved, unread-more, unread-len}
+use Rattle.std.proofs.lemmas.Grind.{common_steps}
 use Rattle.dotenv_lines.proofs.buffer.Buffer.read_from.Goals as goal
 
 pub returns : goal.returns
@@ -37,3 +38,6 @@ returns g c =
       );
       call = search rules;
     }
+
+pub returns-in_err-count : goal.returns-in_err-count
+returns-in_err-count g c = grind (arith, common_steps)
