@@ -21,7 +21,7 @@ use Rattle.std.proofs.Common.{
   subst,
   string_bytes,
 }
-use Rattle.std.specs.Prelude.{not, IsTrue, IfErr, MatchResult, OnOk, OnErr, if◌then◌else◌}
+use Rattle.std.specs.Prelude.{is_some, not, IsTrue, IfErr, MatchResult, OnOk, OnErr, if◌then◌else◌}
 use Rattle.std.specs.Str.{chars}
 use Rattle.std.specs.FinMap.{insert, get, contains_key}
 use Rattle.std.specs.declared.string.String.{String}
@@ -174,3 +174,14 @@ set_changes_keys old new key value (Ok done) is ok same =
     (changes_keys-insert old.names old.names (string_bytes key) (string_bytes value) (λ n other. refl)
     (IsUtf8-string_bytes key) is)
 set_changes_keys old new key value (Err e) is ok same = λ n other. ap (λ (m : Env). get m.names n) same
+
+-- what keeps the names that are there, one time after another, keeps them
+pub keeps_twice : (old names new : Texts) → KeepsNames old names → KeepsNames names new → KeepsNames old new
+keeps_twice old names new first second key there =
+    let before = first key there in
+    second key (ap is_some before ∙ there) ∙ before
+
+-- what changes only keys, one time after another, changes only keys
+pub changes_keys-twice : (old names new : Texts) → ChangesKeys old names → ChangesKeys names new →
+    ChangesKeys old new
+changes_keys-twice old names new first second name other = second name other ∙ first name other

@@ -1,5 +1,4 @@
 use Rattle.std.proofs.Common.{rules, ◌∙◌, Err, Ok, ap, refl, subst}
-use Rattle.std.specs.Prelude.{is_some}
 use Rattle.std.specs.Str.{chars}
 use Rattle.std.proofs.lemmas.Result.{err_from_is_err_and}
 use Rattle.dotenv_format.specs.Run.{run}
@@ -8,6 +7,7 @@ use Rattle.dotenv_items.specs.LoadsLeft.{LoadsLeft}
 use Rattle.dotenv_items.specs.inside.LoadStep.{mode_of, LoadsLine}
 use Rattle.dotenv_items.specs.Remembered.{remembered_of}
 use Rattle.dotenv_items.specs.inside.ItemStep.{state_of}
+use Rattle.dotenv_items.proofs.LineLoads.{keeps_twice, changes_keys-twice}
 use Rattle.dotenv_items.proofs.LoadSteps.{
   CameTo,
   came_start,
@@ -66,10 +66,9 @@ loading-preserved g c =
           c.loading.invariant.came c.in_ok-outcome.was (λ shut. (c.in-Some.ensures.shut shut).0) c.in-Some.ensures.told
           (subst (λ bytes. LoadsLine {A = A} mode now.dialect now.remembered (chars bytes) names (Ok tt) new)
           c.line.ensures c.in_ok-load_line.ensures.loads) refl refl;
-      keeps = λ keep k there.
-          let before = c.loading.invariant.keeps keep k there in
-          c.load_line.ensures.keeps keep k (ap is_some before ∙ there) ∙ before;
-      keys = λ n other. c.load_line.ensures.keys n other ∙ c.loading.invariant.keys n other;
+      keeps = λ keep.
+          keeps_twice c.args.env.now.names names new (c.loading.invariant.keeps keep) (c.load_line.ensures.keeps keep);
+      keys = changes_keys-twice c.args.env.now.names names new c.loading.invariant.keys c.load_line.ensures.keys;
       mark = c.load_line.ensures.mark ∙ c.loading.invariant.mark;
     }
 
@@ -134,13 +133,14 @@ pub returns-in_err-load_line-clause-shut : goal.returns-in_err-load_line-clause-
 returns-in_err-load_line-clause-shut g c = λ shut. absurd (search rules)
 
 pub returns-in_err-load_line-clause-keeps : goal.returns-in_err-load_line-clause-keeps
-returns-in_err-load_line-clause-keeps g c = λ keep k there.
-    let before = c.loading.invariant.keeps keep k there in
-    c.load_line.ensures.keeps keep k (ap is_some before ∙ there) ∙ before
+returns-in_err-load_line-clause-keeps g c = λ keep.
+    keeps_twice c.args.env.now.names c.loading.env.names c.load_line.new.env.names (c.loading.invariant.keeps keep)
+    (c.load_line.ensures.keeps keep)
 
 pub returns-in_err-load_line-clause-keys : goal.returns-in_err-load_line-clause-keys
-returns-in_err-load_line-clause-keys g c = λ n other.
-    c.load_line.ensures.keys n other ∙ c.loading.invariant.keys n other
+returns-in_err-load_line-clause-keys g c =
+    changes_keys-twice c.args.env.now.names c.loading.env.names c.load_line.new.env.names c.loading.invariant.keys
+    c.load_line.ensures.keys
 
 pub returns-in_err-load_line-clause-mark : goal.returns-in_err-load_line-clause-mark
 returns-in_err-load_line-clause-mark g c = c.load_line.ensures.mark ∙ c.loading.invariant.mark

@@ -1,4 +1,4 @@
-use Rattle.std.proofs.Common.{rules, ◌∙◌, ap, refl, subst, inr, List, ℕ, string_bytes}
+use Rattle.std.proofs.Common.{◌∙◌, ap, refl, subst, inr, List, ℕ, string_bytes}
 use Rattle.dotenv_lines.specs.Input.{InputState, IsFinal}
 use Rattle.dotenv_lines.specs.Lines.{LinesState, IsUndecided}
 use Rattle.dotenv_lines.specs.inside.JoinedLines.{IsOutcome, stage_after}
@@ -52,9 +52,3 @@ returns-in-Err-clause-told g c = λ a is_open told.
           (ap (λ (s : LinesState). s.input) lines)
           (c.in-Err.ensures.told a (ap (λ (s : LinesState). s.input.left) lines ∙ told.0, told.1)),
     )
-
-pub returns-clause-memory : goal.returns-clause-memory
-returns-clause-memory g c = search rules
-
-pub returns-clause-asks : goal.returns-clause-asks
-returns-clause-asks g c = search rules
