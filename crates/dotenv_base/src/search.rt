@@ -58,7 +58,10 @@ pub fn find<A: Allocator + Clone, F: FnMut(Path<'_>) -> Look>(
         }
         above = parent_of(place);
     }
-    Err(Error::Io(io::Error::from(ErrorKind::NotFound)))
+    Err(Error::Io(io::Error::new(
+        ErrorKind::NotFound,
+        "no such file in the directory or above it",
+    )))
 }
 
 // The path of the name in the directory, by their texts alone.

@@ -14,8 +14,9 @@ use dotenv_items::iter::Iter;
 use std::alloc::{Alloc, Allocator};
 use std::env::Env;
 use std::fs::{File, Files};
+use std::io::ErrorKind;
 use std::path::{Path, PathBuf};
-use std::{env, fs};
+use std::{env, fs, io};
 
 /// A search for the file of a name, from the current directory up.
 #[derive(Drop)]
@@ -67,14 +68,43 @@ impl<'a> Finder<'a> {
         ensures fault { IfErr result IsSystemFault }
     {
         let directory = env::current_dir(rt)?;
-        let path = search::find(
-            rt.alloc(),
-            directory.as_path(),
-            self.filename,
-            &mut |path| look_at(rt, path),
-        )?;
+        let path = search_up(rt, directory.as_path(), self.filename)?;
         let file = open(rt, path.as_path())?;
         Ok((path, Iter::with_dialect(rt.alloc(), file, dialect)?))
+    }
+}
+
+// The path of the file of this name in the current directory or above it. Its own text says where nothing was found.
+fn search_up<A: Allocator + Clone, R: Files + Alloc<A = A>>(
+    rt: &R,
+    directory: Path<'_>,
+    filename: Path<'_>,
+) -> Result<PathBuf<A>, A>
+    ensures path { IfOk result (λ path.
+        IsPathOf (path_bytes filename.entry) (path_buf_bytes path)) }
+    ensures fault { IfErr result IsSystemFault }
+{
+    match search::find(
+        rt.alloc(),
+        directory,
+        filename,
+        &mut |path| { look_at(rt, path) },
+    ) {
+        Ok(path) => Ok(path),
+        Err(error) => Err(from_current(error)),
+    }
+}
+
+// The same error, but for that of a search that found nothing, whose text says where it began.
+fn from_current<A: Allocator>(error: Error<A>) -> Error<A>
+    ensures { IsSystemFault error → IsSystemFault result }
+{
+    match error {
+        Error::Io(fault) if fault.kind() == ErrorKind::NotFound => Error::Io(io::Error::new(
+            ErrorKind::NotFound,
+            "no such file in the current directory or above it",
+        )),
+        error => error,
     }
 }
 
