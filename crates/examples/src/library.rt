@@ -1,6 +1,6 @@
 //! The examples of docs/LIBRARY.md.
 
-use dotenvy::{Bytes, Dialect, Environment, Error, Iter, Plain, Result, from_read};
+use dotenvy::{Bytes, Dialect, Environment, Error, Iter, Plain, Result, from_read, var};
 use env_layers::{Layers, Mode};
 use std::fs::File;
 use std::path::Path;
@@ -19,6 +19,19 @@ fn loads_a_reader(rt: HostRuntime) -> Result<Environment> {
         println!(rt; "{name} is {value}")?;
     }
     Ok(settings)
+}
+
+fn reads_text(rt: HostRuntime, text: &str) -> Result<Environment> {
+    let alloc = rt.alloc();
+    let mut settings = Environment::new(alloc);
+    from_read(alloc, Bytes::new(text.as_bytes()), &mut settings)?;
+    Ok(settings)
+}
+
+fn first_use(rt: HostRuntime) -> Result<String> {
+    let mut settings = Environment::from_process(&rt)?;
+    let port = var(&rt, &mut settings, "PORT")?;
+    Ok(port)
 }
 
 fn copies(rt: HostRuntime, settings: &Environment) -> Result<Environment> {
@@ -63,6 +76,8 @@ fn adds_layers(rt: HostRuntime) -> Result<Environment> {
 pub fn examples(rt: HostRuntime) -> Result<()> {
     let settings = loads_a_reader(rt)?;
     println!(rt; "copied {} names", copies(rt, &settings)?.len())?;
+    println!(rt; "read {} names", reads_text(rt, "A=1\nB=$A\n")?.len())?;
+    println!(rt; "the first use gives {}", first_use(rt)?)?;
     shows_faults(rt)?;
     println!(rt;
         "PORT is {}",

@@ -1,15 +1,27 @@
-//! Loads `.env` over the settings of the process, and reads one.
+//! Loads the settings of a service, and names what is missing.
 #![tactic(auto)]
 
+mod from_rust;
 mod library;
 
-use dotenvy::{Environment, dotenv, var};
+use anyhow::{Context, Result, bail};
+use dotenvy::{Environment, dotenv, from_filename};
+use std::path::Path;
 
-fn main(rt: HostRuntime) -> dotenvy::Result<()> {
+fn main(rt: HostRuntime) -> Result<()> {
     let mut settings = Environment::from_process(&rt)?;
-    dotenv(&rt, &mut settings)?;
-    let port = var(&rt, &mut settings, "PORT")?;
+    match dotenv(&rt, &mut settings) {
+        Err(error) if error.not_found() => {} // there need be no .env
+        loaded => {
+            loaded.context(".env")?;
+        }
+    }
+    from_filename(&rt, Path::new("service.env"), &mut settings).context("service.env")?;
+    let Some(port) = settings.get("PORT") else {
+        bail!("PORT is not set");
+    };
     println!(rt; "port {port}")?;
     library::examples(rt)?;
+    from_rust::examples(rt)?;
     Ok(())
 }
