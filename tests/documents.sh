@@ -1,8 +1,12 @@
 #!/usr/bin/env bash
-# Sees that the documents say what is played, built and proved: that crates/replay/data/grammar.rows has the examples of
-# docs/GRAMMAR.md, that each block of Rust in README.md and docs/LIBRARY.md stands in a source file of the crates that run
-# them, crates/examples and crates/check_file, and that the contract in README.md is that of the code.
-# It takes a second, and no proof. The last line is `N passed, M failed`.
+# Compares the documents with what is played, built and proved:
+# - crates/replay/data/grammar.rows has the examples of docs/GRAMMAR.md;
+# - crates/replay/stdout has the number of rows of each file, and crates/replay/args names each;
+# - each block of Rust in README.md and docs/LIBRARY.md is in a source file of crates/examples or crates/check_file, and so
+#   is each line beside one of the Rust crate;
+# - docs/LIBRARY.md has each public call with its signature, and README.md a contract of the code;
+# - each link of the pages leads to a file and a heading, and each page that is named is a link.
+# It takes a second or two, and no proof. The last line is `N passed, M failed`.
 set -euo pipefail
 cd "$(dirname "$0")/.."
 room=$(mktemp -d)
@@ -61,6 +65,40 @@ stands_in_examples() {
     return 1
 }
 
+# Prints the lines of docs/LIBRARY.md, "From the Rust crate", that are in no example: the second cell of each row.
+lines_from_rust() {
+    local line
+    awk -F '`' '/^\| dotenvy 0.15.7 \| Here \|/ { inside = 1; next } !/^\|/ { inside = 0 } inside && NF > 2 { print $(NF - 1) }' \
+        docs/LIBRARY.md >"$room/lines"
+    while IFS= read -r line; do
+        if ! grep -rhqF -- "$line" crates/examples/src; then
+            echo "in no example: $line"
+        fi
+    done <"$room/lines"
+}
+
+has_lines_from_rust() {
+    lines_from_rust >"$room/missing"
+    cat "$room/missing"
+    [ -s "$room/lines" ] && [ ! -s "$room/missing" ]
+}
+
+# Prints, for each file of rows, what replay prints where no row differs. A row is a line that isn't empty and no comment.
+right_counts() {
+    local name
+    while IFS= read -r name; do
+        echo "$name: $(grep -c '^[^#]' "crates/replay/data/$name") rows, 0 differ"
+    done <crates/replay/args
+}
+
+has_right_counts() {
+    right_counts | diff - crates/replay/stdout
+}
+
+plays_each_file() {
+    diff <(ls crates/replay/data) <(sort crates/replay/args)
+}
+
 check_blocks() {
     local line
     cut_blocks "$1" rust
@@ -90,13 +128,14 @@ check_contracts() {
 }
 
 check "crates/replay/data/grammar.rows has the examples of docs/GRAMMAR.md" has_examples
-if [ -d crates/examples ]; then
-    for document in README.md docs/LIBRARY.md; do
-        if [ -f "$document" ]; then
-            check_blocks "$document"
-        fi
-    done
-fi
+check "crates/replay/stdout has the number of rows of each file" has_right_counts
+check "crates/replay/args names each file of rows" plays_each_file
+for document in README.md docs/LIBRARY.md; do
+    check_blocks "$document"
+done
+check "docs/LIBRARY.md, each line beside one of the Rust crate is in an example" has_lines_from_rust
+check "docs/LIBRARY.md has each public call with its signature" python3 tests/signatures.py
+check "each link of the pages leads somewhere" python3 tests/links.py
 check_contracts README.md crates/dotenv_base/src/environment.rt
 
 echo "$passed passed, $failed failed"

@@ -4,17 +4,14 @@
 mod from_rust;
 mod library;
 
-use anyhow::{Context, Result, bail};
+use anyhow::{Context, Result, bail, ensure};
 use dotenvy::{Environment, dotenv, from_filename};
 use std::path::Path;
 
 fn main(rt: HostRuntime) -> Result<()> {
     let mut settings = Environment::from_process(&rt)?;
-    match dotenv(&rt, &mut settings) {
-        Err(error) if error.not_found() => {} // there need be no .env
-        loaded => {
-            loaded.context(".env")?;
-        }
+    if let Err(error) = dotenv(&rt, &mut settings) {
+        ensure!(error.not_found(), ".env: {error}"); // there need be no .env
     }
     from_filename(&rt, Path::new("service.env"), &mut settings).context("service.env")?;
     let Some(port) = settings.get("PORT") else {
