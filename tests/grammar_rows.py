@@ -10,7 +10,7 @@ import pathlib
 import re
 import sys
 
-PAGE = pathlib.Path(__file__).resolve().parent.parent / "docs" / "GRAMMAR.md"
+DOCS = pathlib.Path(__file__).resolve().parent.parent / "docs"
 
 # The tables that have no examples, by their header lines.
 NO_EXAMPLES = [
@@ -39,7 +39,7 @@ SIGN = "|".join(SIGNS) + "|<x[0-9A-F]{2}>|<U[+][0-9A-F]{4,6}>"
 
 def refuse(what):
     """Ends the script with status 1."""
-    raise SystemExit("docs/GRAMMAR.md: " + what)
+    raise SystemExit(sys.argv[0] + ": " + what)
 
 
 def sign_text(found):
@@ -56,7 +56,7 @@ def phrase(said, known):
         found = re.fullmatch(pattern, said)
         if found:
             return text.format(*[re.sub(SIGN, sign_text, group) for group in found.groups()])
-    return refuse("tests/grammar_rows.py doesn't know what this says: " + said)
+    return refuse("an unknown phrase: " + said)
 
 
 def phrases(said, parting, none, known):
@@ -169,30 +169,32 @@ def cells(line, header):
     return {name: part for name, part in zip(names, parts) if name}
 
 
-def examples(page):
+def examples(page, known, others):
     """Each example: its section, its table's header line, and the lines of its table up to it."""
     section, table = "", []
     for line in page.split("\n"):
         table = table + [line.strip()] if line.lstrip().startswith("|") else []
         if line.startswith("## "):
             section = line[3:]
-        if table and table[0] not in NO_EXAMPLES and table[0] not in EXAMPLES:
-            refuse("a table that tests/grammar_rows.py doesn't know: " + table[0])
-        if len(table) > 2 and table[0] in EXAMPLES:
+        if table and table[0] not in others and table[0] not in known:
+            refuse("an unknown table: " + table[0])
+        if len(table) > 2 and table[0] in known:
             yield section, table[0], [cells(each, table[0]) for each in table[2:]]
 
 
-def main():
-    """Prints the rows, in UTF-8 wherever it runs."""
-    lines = ["# The examples of docs/GRAMMAR.md by its sections, as tests/grammar_rows.py prints them."]
+def print_rows(page, known, others):
+    """Prints the rows of a page, in UTF-8 wherever it runs. Its tables are those of examples, and others."""
+    script = pathlib.Path(sys.argv[0]).name
+    lines = ["# The examples of docs/" + page + " by its sections, as tests/" + script + " prints them."]
     counts = {}
-    for section, header, table in examples(PAGE.read_text(encoding="utf-8")):
+    for section, header, table in examples((DOCS / page).read_text(encoding="utf-8"), known, others):
         if section not in counts:
             lines += ["", "# " + section]
         counts[section] = counts.get(section, 0) + 1
         name = re.sub("[^a-z0-9]+", "-", section.lower()).strip("-") + "-" + str(counts[section])
-        lines += ["|".join(row) for row in EXAMPLES[header](name, table)]
+        lines += ["|".join(row) for row in known[header](name, table)]
     sys.stdout.buffer.write(("\n".join(lines) + "\n").encode("utf-8"))
 
 
-main()
+if __name__ == "__main__":
+    print_rows("GRAMMAR.md", EXAMPLES, NO_EXAMPLES)
