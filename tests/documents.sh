@@ -1,6 +1,6 @@
 #!/usr/bin/env bash
 # Compares the documents with what is played, built and proved:
-# - crates/replay/data/grammar.rows has the examples of docs/GRAMMAR.md;
+# - crates/replay/data/grammar.rows and other_libraries.rows have the examples of docs/GRAMMAR.md and OTHER_LIBRARIES.md;
 # - crates/replay/stdout has the number of rows of each file, and crates/replay/args names each;
 # - each block of Rust in README.md and docs/LIBRARY.md is in a source file of crates/examples or crates/check_file, and so
 #   is each line beside one of the Rust crate;
@@ -27,9 +27,9 @@ check() {
     fi
 }
 
-# Prints where the rows differ from those that the page gives now.
+# Prints where these rows differ from those that their page gives now.
 has_examples() {
-    python3 tests/grammar_rows.py | diff - crates/replay/data/grammar.rows
+    python3 "tests/$1_rows.py" | diff - "crates/replay/data/$1.rows"
 }
 
 # Writes each block of a document that has this label, such as rust, to a file of its own, whose name is the number of the
@@ -127,7 +127,8 @@ check_contracts() {
     done
 }
 
-check "crates/replay/data/grammar.rows has the examples of docs/GRAMMAR.md" has_examples
+check "crates/replay/data/grammar.rows has the examples of docs/GRAMMAR.md" has_examples grammar
+check "crates/replay/data/other_libraries.rows has the examples of docs/OTHER_LIBRARIES.md" has_examples other_libraries
 check "crates/replay/stdout has the number of rows of each file" has_right_counts
 check "crates/replay/args names each file of rows" plays_each_file
 for document in README.md docs/LIBRARY.md; do
