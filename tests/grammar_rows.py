@@ -16,8 +16,8 @@ DOCS = pathlib.Path(__file__).resolve().parent.parent / "docs"
 NO_EXAMPLES = [
     "| Group | What it is |",
     "| What is wrong | Fault | Its text | Its place |",
-    "| Fault | Prints |",
-    "| At the place stands | The search |",
+    "| Error | Prints |",
+    "| What is at the path | The search |",
 ]
 
 # Phrases of the page, and the texts of a row for them. What a phrase has between backticks is the text of an example.
@@ -156,8 +156,8 @@ EXAMPLES = {
     "| Environment | Line | First dialect | Second dialect |": file_rows,
     "| Written | Means |": escape_rows,
     "| Pair | Written |": written_rows,
-    "| Directory | Name | Places, in this order | |": search_rows,
-    "| `.env` holds | Use | Answer |": first_use_rows,
+    "| Directory | Name | Paths, in this order | |": search_rows,
+    "| `.env` holds | Use | Result |": first_use_rows,
 }
 
 
