@@ -1,0 +1,485 @@
+#!/usr/bin/env bash
+# Tries install.sh in a copy of the files that it needs, with a stand-in for rt, so that nothing is proved. It checks what
+# is installed and shown, and that bad arguments, failures and signals leave the target as it was.
+# It takes a few seconds. The last line is `N passed, M failed`.
+set -euo pipefail
+cd "$(dirname "$0")/.."
+umask 022
+temporary=$(mktemp -d)
+trap 'jobs -pr | xargs -r kill; rm -rf "$temporary"' EXIT
+copy=$temporary/copy
+target=$temporary/target
+log=$copy/crates/dotenvy_run/out/install.log
+passed=0
+failed=0
+
+# Counts a check: what it is, and the command that ends with status 0 if it holds.
+check() {
+    local what=$1
+    shift
+    if "$@"; then
+        passed=$((passed + 1))
+        echo "passed: $what"
+    else
+        failed=$((failed + 1))
+        echo "FAILED: $what"
+    fi
+}
+
+# --- The copy, and the commands that it finds ---
+
+# Copies what install.sh needs. The crates are empty, as the stand-in for rt reads none.
+make_copy() {
+    mkdir -p "$copy/docs" "$copy/crates" "$copy/tests"
+    cp install.sh crates.txt "$copy"
+    cp tests/install.sh "$copy/tests"
+    sed -n 's/:.*//p' crates.txt | (cd "$copy/crates" && xargs mkdir)
+    cp docs/dotenvy_run.1 "$copy/docs" 2>/dev/null || echo '.TH DOTENVY_RUN 1' >"$copy/docs/dotenvy_run.1"
+}
+
+# Makes the checks as nobody, on the copy.
+check_as_nobody() {
+    mkdir -m 777 "$temporary/more"
+    TMPDIR=$temporary/more "${as_nobody[@]}" "$copy/tests/install.sh"
+}
+
+# Links all commands of PATH into one directory, without rt.
+link_commands() {
+    local folder folders
+    mkdir "$temporary/commands"
+    IFS=: read -ra folders <<<"$PATH"
+    for folder in "${folders[@]}"; do
+        # A name that is there already stays: PATH, too, takes the first one.
+        ln -s -t "$temporary/commands" "$folder"/* 2>/dev/null || :
+    done
+    rm -f "$temporary/commands/rt"
+}
+
+# Makes a stand-in for a command, in a directory with this name: standard input is the script.
+stand_in() {
+    mkdir -p "$temporary/$1"
+    {
+        printf '#!/bin/sh\nPATH=%s TEMPORARY=%s\n' "$temporary/commands" "$temporary"
+        cat
+    } >"$temporary/$1/$2"
+    chmod 755 "$temporary/$1/$2"
+}
+
+make_stand_ins() {
+    # It fails in the crate that the file fail_in names, and waits in the one that wait_in names.
+    stand_in rt rt <<'END'
+crate=$(basename "$PWD")
+echo "$crate $*" >>"$TEMPORARY/calls"
+echo "rt: chose --jobs 4 for $crate"
+if [ "$crate" = "$(cat "$TEMPORARY/wait_in")" ]; then
+    echo $$ >"$TEMPORARY/waiting"
+    exec sleep 30
+fi
+if [ "$crate" = "$(cat "$TEMPORARY/fail_in")" ]; then
+    echo 'logic=not-proved'
+    exit 1
+fi
+if [ "$1" = run ]; then
+    mkdir -p out
+    printf '#!/bin/sh\necho new\n' >out/dotenvy_run
+    chmod 700 out/dotenvy_run
+fi
+echo 'logic=proved functions=8'
+END
+    stand_in full cp <<'END'
+case $* in *docs/dotenvy_run.1*)
+    for file in "$@"; do :; done
+    echo half >"$file"
+    echo "cp: error writing '$file': No space left on device" >&2
+    exit 1
+    ;;
+esac
+exec cp "$@"
+END
+    stand_in fixed mv <<'END'
+case $* in *new*/bin/dotenvy_run)
+    echo 'mv: cannot move the program: Operation not permitted' >&2
+    exit 1
+    ;;
+esac
+exec mv "$@"
+END
+    stand_in slow_copy cp <<'END'
+cp "$@"
+case $* in *docs/dotenvy_run.1*)
+    echo $$ >"$TEMPORARY/waiting"
+    sleep 0.3
+    ;;
+esac
+END
+    stand_in slow_rename mv <<'END'
+mv "$@"
+case $* in */man1/dotenvy_run.1)
+    echo $$ >"$TEMPORARY/waiting"
+    sleep 0.3
+    ;;
+esac
+END
+}
+
+# Calls a command with the stand-ins of this directory, with that for rt, and with all commands.
+with() {
+    local ahead=$1
+    shift
+    PATH=$temporary/$ahead:$temporary/rt:$temporary/commands "$@"
+}
+
+without_rt() {
+    PATH=$temporary/commands "$@"
+}
+
+# --- The target ---
+
+empty_target() {
+    rm -rf "$target"
+    mkdir "$target"
+}
+
+# An older program, which can run for long, an older manual page, and a program that is none of ours.
+old_target() {
+    empty_target
+    mkdir -p "$target/bin" "$target/share/man/man1"
+    cp "$(command -v bash)" "$target/bin/dotenvy_run"
+    echo old >"$target/share/man/man1/dotenvy_run.1"
+    echo other >"$target/bin/other"
+}
+
+# What a directory holds: the mode and name of each directory and file; and of a file its number and bytes.
+modes() {
+    find "$1" -mindepth 1 \( -type d -printf '%m %P/\n' -o -printf '%m %P\n' \) | sort
+}
+
+bytes() {
+    find "$1" -type f -exec md5sum {} + | sort
+}
+
+state() {
+    modes "$1"
+    find "$1" -type f -printf '%i %p\n' | sort
+    bytes "$1"
+}
+
+# --- What a call does ---
+
+# Calls install.sh with these arguments, and ends with its status. What it prints goes to files.
+call() {
+    : >"$temporary/calls"
+    "$copy/install.sh" "$@" >"$temporary/output" 2>"$temporary/errors"
+}
+
+# Whether the last call printed one line on standard error, with these words.
+said() {
+    [ "$(wc -l <"$temporary/errors")" -eq 1 ] && grep -q '^install\.sh: ' "$temporary/errors" &&
+        grep -qF -- "$1" "$temporary/errors"
+}
+
+# Whether a call with these arguments ends with status 1 and one line with these words.
+fails() {
+    local words=$1 status=0
+    shift
+    call "$@" || status=$?
+    [ "$status" -eq 1 ] && said "$words"
+}
+
+# The same, and the target stays as it is.
+refuses() {
+    local before
+    before=$(state "$target")
+    fails "$@" && [ "$before" = "$(state "$target")" ]
+}
+
+# The same, and rt is not called: nobody waits for a proof before being told.
+refuses_at_once() {
+    refuses "$@" && [ ! -s "$temporary/calls" ] && [ ! -s "$temporary/output" ]
+}
+
+# Whether a failed rename leaves the old bytes. The old manual page may have been put back, as another file.
+puts_back() {
+    local before
+    before=$(modes "$target" && bytes "$target")
+    fails "$@" && [ "$before" = "$(modes "$target" && bytes "$target")" ]
+}
+
+prints_usage() {
+    call "$1" && grep -q '^usage: \./install\.sh \[PREFIX\]$' "$temporary/output" && [ ! -s "$temporary/errors" ] &&
+        [ ! -s "$temporary/calls" ]
+}
+
+installed() {
+    [ "$("$1/bin/dotenvy_run")" = new ] && cmp -s "$1/share/man/man1/dotenvy_run.1" "$copy/docs/dotenvy_run.1"
+}
+
+# Whether a directory holds the two files and the directories of their paths, with these modes, and nothing else.
+holds_both_alone() {
+    diff <(modes "$1") <(sort <<'END'
+755 bin/
+755 bin/dotenvy_run
+755 share/
+755 share/man/
+755 share/man/man1/
+644 share/man/man1/dotenvy_run.1
+END
+    )
+}
+
+holds_other_too() {
+    diff <(cd "$target" && find . -type f | sort) \
+        <(printf './%s\n' bin/dotenvy_run bin/other share/man/man1/dotenvy_run.1)
+}
+
+says_where() {
+    diff <(grep '^Installed ' "$temporary/output") \
+        <(printf 'Installed %s\n' "$1/bin/dotenvy_run" "$1/share/man/man1/dotenvy_run.1")
+}
+
+# The crates that dotenvy_run needs, and itself: names are added until the lines of crates.txt add no more.
+needed_crates() {
+    local name names=dotenvy_run before=
+    while [ "$names" != "$before" ]; do
+        before=$names
+        names=$(
+            for name in $names; do
+                echo "$name"
+                sed -n "s/^$name: *//p" "$copy/crates.txt" | tr -s ' ' '\n'
+            done | sort -u | grep -xFf <(sed -n 's/:.*//p' "$copy/crates.txt")
+        )
+    done
+    echo "$names"
+}
+
+shown_crates() {
+    sed -n -E 's/^(\w+), [0-9]+ of [0-9]+$/\1/p' "$temporary/output"
+}
+
+shows_each_crate() {
+    diff <(shown_crates | sort) <(needed_crates)
+}
+
+shows_numbers() {
+    local count
+    count=$(needed_crates | wc -l)
+    diff <(sed -n -E 's/^\w+, ([0-9]+ of [0-9]+)$/\1/p' "$temporary/output") <(seq -f "%g of $count" "$count")
+}
+
+shows_needs_first() {
+    awk '
+        NR == FNR { place[$1] = NR; next }
+        { sub(/#.*/, ""); sub(/:/, "") }
+        $1 in place { for (i = 2; i <= NF; i++) if ($i in place && place[$i] > place[$1]) wrong = 1 }
+        END { exit wrong }
+    ' <(shown_crates) "$copy/crates.txt"
+}
+
+calls_rt_for_each() {
+    diff "$temporary/calls" <(shown_crates | sed 's/$/ lib/; s/^dotenvy_run lib$/dotenvy_run run -- --list/')
+}
+
+# Whether a text names the log, and the log has what rt printed for each crate that was shown.
+names_log() {
+    grep -qF -- "$log" "$1" && diff <(sed -n 's/^rt: chose --jobs 4 for //p' "$log") <(shown_crates)
+}
+
+# --- Signals, and a closed directory ---
+
+# Calls install.sh, sends it this signal while a command waits, and ends with its status. Both have to end soon.
+signalled() {
+    local signal=$1 script status=0 began=$SECONDS
+    shift
+    rm -f "$temporary/waiting"
+    # What runs beside a shell ignores SIGINT, unless told otherwise.
+    env --default-signal "$copy/install.sh" "$@" >"$temporary/output" 2>"$temporary/errors" &
+    script=$!
+    for _ in $(seq 500); do
+        [ ! -s "$temporary/waiting" ] || break
+        sleep 0.01
+    done
+    kill -s "$signal" "$script"
+    wait "$script" || status=$?
+    if kill -0 "$(cat "$temporary/waiting")" 2>/dev/null || [ $((SECONDS - began)) -gt 20 ]; then
+        status=2
+    fi
+    return "$status"
+}
+
+stops_at() {
+    local before status=0
+    before=$(state "$target")
+    signalled "$@" || status=$?
+    [ "$status" -eq 1 ] && said 'stopped by a signal; nothing is installed' && [ "$before" = "$(state "$target")" ]
+}
+
+is_closed() {
+    local status=0
+    chmod 555 "$target/share/man/man1"
+    refuses_at_once "cannot write in $target/share/man/man1: " "$target" || status=$?
+    chmod 755 "$target/share/man/man1"
+    return "$status"
+}
+
+# --- The checks ---
+
+make_copy
+# Root may write everywhere, so a wrong install.sh could spoil the machine.
+as_nobody=(setpriv --reuid=65534 --regid=65534 --clear-groups)
+if [ "$(id -u)" -eq 0 ] && chmod 711 "$temporary" && "${as_nobody[@]}" test -x "$copy/tests/install.sh"; then
+    check_as_nobody
+    exit
+fi
+link_commands
+make_stand_ins
+: >"$temporary/fail_in"
+: >"$temporary/wait_in"
+
+check_arguments() {
+    old_target
+    check '-h prints the usage' with rt prints_usage -h
+    check '--help prints the usage' with rt prints_usage --help
+    check 'an unknown option is refused' with rt refuses_at_once 'unknown option --prefix=/usr' --prefix=/usr
+    check 'a relative PREFIX is refused' with rt refuses_at_once "PREFIX must be an absolute path" usr
+    check 'an empty PREFIX is refused' with rt refuses_at_once "PREFIX must be an absolute path" ''
+    check 'two arguments are refused' with rt refuses_at_once 'too many arguments' "$target" "$target"
+    DESTDIR=usr check 'a relative DESTDIR is refused' with rt refuses_at_once 'DESTDIR must be an absolute path' "$target"
+}
+
+check_new() {
+    empty_target
+    check 'an empty directory gets both files' with rt call "$target/"
+    check 'they are those of the repository' installed "$target"
+    check 'it gets nothing else, and the modes are right' holds_both_alone "$target"
+    check 'nothing is printed on standard error' test ! -s "$temporary/errors"
+    check 'the last lines say where both are' says_where "$target"
+    check 'each crate that the program needs is shown' shows_each_crate
+    check 'the crates are numbered, and counted' shows_numbers
+    check 'each crate is shown after those that it needs' shows_needs_first
+    check 'rt is called for each crate' calls_rt_for_each
+    check 'what rt printed stays in a file, and its path is shown' names_log "$temporary/output"
+
+    empty_target
+    mkdir "$target/a directory"
+    umask 077
+    check 'the umask may be closed, and PREFIX may have a space' with rt call "$target/a directory"
+    umask 022
+    check 'the modes are the same' holds_both_alone "$target/a directory"
+}
+
+check_crates() {
+    cp "$copy/crates.txt" "$temporary/crates.txt"
+    mkdir "$copy/crates/one_more"
+    sed -i 's/^dotenv_characters:/one_more:\n& one_more/' "$copy/crates.txt"
+    empty_target
+    check 'crates.txt may have one crate more' with rt call "$target"
+    check 'it is shown as the first one' test "$(shown_crates | head -n 1)" = one_more
+    check 'and it counts' shows_numbers
+    mv "$temporary/crates.txt" "$copy/crates.txt"
+}
+
+check_old() {
+    local running
+    old_target
+    mkfifo "$temporary/pipe"
+    "$target/bin/dotenvy_run" -c "read -r _ <>'$temporary/pipe'" &
+    running=$!
+    ln "$target/bin/dotenvy_run" "$temporary/old_program"
+    check 'an older program is replaced while it runs' with rt call "$target"
+    check 'both files are the new ones' installed "$target"
+    check 'the older program runs on' kill -0 "$running"
+    check 'its bytes are as they were' cmp -s "$temporary/old_program" "$(command -v bash)"
+    check 'other files stay, and nothing else is left' holds_other_too
+    kill "$running"
+
+    old_target
+    mv "$target/bin" "$target/programs"
+    ln -s programs "$target/bin"
+    check 'bin may be a link to a directory' with rt call "$target"
+    check 'it stays one' test -L "$target/bin" -a -x "$target/programs/dotenvy_run"
+}
+
+check_destdir() {
+    empty_target
+    DESTDIR=$target/a/ check 'DESTDIR goes before PREFIX' with rt call /opt/tools
+    check 'both files are there' holds_both_alone "$target/a/opt/tools"
+    DESTDIR=$target/b check 'DESTDIR goes before the default PREFIX' with rt call
+    check 'that is /usr/local' holds_both_alone "$target/b/usr/local"
+    check 'the last lines say where both are' says_where "$target/b/usr/local"
+    DESTDIR=$target/c check 'PREFIX may be /' with rt call /
+    check 'both files are in DESTDIR' holds_both_alone "$target/c"
+}
+
+# What can be found before the proof.
+check_early() {
+    old_target
+    check 'without rt on PATH nothing is done' without_rt refuses_at_once 'no command rt on PATH' "$target"
+    mv "$copy/docs" "$temporary/docs"
+    check 'without the manual page nothing is done' with rt refuses_at_once 'docs/dotenvy_run.1' "$target"
+    mv "$temporary/docs" "$copy/docs"
+    check 'PREFIX below a file is refused' with rt \
+        refuses_at_once "$target/bin/other is not a directory" "$target/bin/other/x"
+    check 'PREFIX below /proc is refused' with rt refuses_at_once 'cannot write in /proc: ' /proc/x
+    rm -r "$target/share"
+    ln -s bin/other "$target/share"
+    check 'a file in place of share is refused' with rt \
+        refuses_at_once "$target/share is not a directory" "$target"
+    ln -sf nowhere "$target/share"
+    check 'a link to nowhere in place of share is refused' with rt \
+        refuses_at_once "$target/share is not a directory" "$target"
+    empty_target
+    mkdir -p "$target/bin/dotenvy_run"
+    check 'a directory in place of the program is refused' with rt refuses_at_once 'it is a directory' "$target"
+    if [ "$(id -u)" -ne 0 ]; then
+        old_target
+        check 'a directory that the user may not write in is refused' with rt is_closed
+    fi
+}
+
+check_failures() {
+    local crate make
+    for crate in dotenv_lines dotenvy_run; do
+        echo "$crate" >"$temporary/fail_in"
+        old_target
+        check "$crate is not proved: older files stay" with rt refuses "rt failed at $crate, " "$target"
+        check "$crate is the last crate that is shown" test "$(shown_crates | tail -n 1)" = "$crate"
+        check 'the error names the file with what rt printed' names_log "$temporary/errors"
+        empty_target
+        check "$crate is not proved: an empty directory stays empty" with rt refuses "rt failed at $crate, " "$target"
+    done
+    : >"$temporary/fail_in"
+    for make in empty_target old_target; do
+        "$make"
+        check "$make: the disk is full" with full refuses 'No space left on device' "$target"
+        "$make"
+        check "$make: the program cannot be renamed" with fixed puts_back 'Operation not permitted' "$target"
+    done
+}
+
+check_signals() {
+    local signal make
+    for signal in INT TERM; do
+        for make in empty_target old_target; do
+            "$make"
+            echo dotenv_items >"$temporary/wait_in"
+            check "$make: SIG$signal during the proof" with rt stops_at "$signal" "$target"
+            : >"$temporary/wait_in"
+            "$make"
+            check "$make: SIG$signal after the copies" with slow_copy stops_at "$signal" "$target"
+        done
+        check "SIG$signal between the renames comes too late" with slow_rename signalled "$signal" "$target"
+        check 'both files are the new ones' installed "$target"
+    done
+}
+
+check_arguments
+check_new
+check_crates
+check_old
+check_destdir
+check_early
+check_failures
+check_signals
+
+echo "$passed passed, $failed failed"
+[ "$failed" -eq 0 ]
