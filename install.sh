@@ -35,7 +35,7 @@ fail() {
 # Runs a command that makes or changes files. If it fails, its own words are the error.
 try() {
     local said
-    said=$("$@" 2>&1) || fail "${said:-$1 failed}; nothing is installed"
+    said=$("$@" 2>&1) || fail "${said:-$1 failed}; nothing was installed"
 }
 
 # Ends rt if it still runs, and removes what this run made and did not put in place.
@@ -121,7 +121,7 @@ build() {
             run_rt "$crate" lib || status=$?
         fi
         [ "$status" -eq 0 ] ||
-            fail "rt failed at $crate, $number of ${#crates[@]}, with status $status; nothing is installed; see $log"
+            fail "rt failed at $crate, $number of ${#crates[@]}, with status $status; nothing was installed; see $log"
     done
 }
 
@@ -152,7 +152,7 @@ put_in_place() {
     try mv -fT -- "$new_page" "$page"
     if ! said=$(mv -fT -- "$new_program" "$program" 2>&1); then
         mv -fT -- "$old_page" "$page" 2>/dev/null || rm -f -- "$page"
-        fail "${said:-mv failed}; nothing is installed"
+        fail "${said:-mv failed}; nothing was installed"
     fi
 }
 
@@ -184,7 +184,7 @@ program=$root$prefix/bin/$name
 page=$root$prefix/share/man/man1/$name.1
 
 trap clean_up EXIT
-trap 'fail "stopped by a signal; nothing is installed"' HUP INT QUIT PIPE TERM
+trap 'fail "stopped by a signal; nothing was installed"' HUP INT QUIT PIPE TERM
 
 [ -f "$manual" ] || fail "there is no $PWD/$manual"
 command -v rt >/dev/null || fail "there is no command rt on PATH; the Rattle toolchain, which has it, must be installed"

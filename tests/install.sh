@@ -310,7 +310,7 @@ stops_at() {
     local before status=0
     before=$(state "$target")
     signalled "$@" || status=$?
-    [ "$status" -eq 1 ] && said 'stopped by a signal; nothing is installed' && [ "$before" = "$(state "$target")" ]
+    [ "$status" -eq 1 ] && said 'stopped by a signal; nothing was installed' && [ "$before" = "$(state "$target")" ]
 }
 
 is_closed() {
