@@ -68,6 +68,22 @@ row ./first.env
 row "$long" | tail -n 2
 row "./$long" | tail -n 2
 
+# A bare name is searched for in the PATH of the new environment: the process's, where it has one, and else the file's.
+# Without any, /bin and /usr/bin are searched.
+without_path() {
+    echo "> $*, without PATH"
+    (unset PATH && exec "$program" "$@") 2>faults
+    ended
+}
+
+mkdir -p tools
+printf '#!/bin/sh\necho found\n' >tools/greet
+chmod +x tools/greet
+PATH=/bin:/usr/bin row -f path.env greet
+without_path -f path.env greet
+without_path -f first.env greet
+without_path -f first.env sh -c 'echo started'
+
 # Standard input that is closed, or a directory.
 row --list <&-
 row --list <folder
