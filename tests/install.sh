@@ -169,7 +169,7 @@ state() {
 # Calls install.sh with these arguments, and ends with its status. What it prints goes to files.
 call() {
     : >"$temporary/calls"
-    "$copy/install.sh" "$@" >"$temporary/output" 2>"$temporary/errors"
+    timeout 60 "$copy/install.sh" "$@" >"$temporary/output" 2>"$temporary/errors"
 }
 
 # Whether the last call printed one line on standard error, with these words.
