@@ -16,19 +16,19 @@ fn loads_files(rt: HostRuntime) -> Result<Environment> {
     Ok(settings)
 }
 
-fn loads_readers(rt: HostRuntime, settings: &mut Environment) -> Result<()> {
+fn loads_readers(rt: HostRuntime, mut settings: Environment) -> Result<Environment> {
     let alloc = rt.alloc();
     let file = File::open(&rt, "service.env")?;
-    from_read(alloc, Plain::new(file), settings)?;
+    from_read(alloc, Plain::new(file), &mut settings)?;
     let file = File::open(&rt, "service.env")?;
     let items = Iter::new(alloc, Plain::new(file))?;
-    items.load(settings)?;
-    Ok(())
+    items.load(&mut settings)?;
+    Ok(settings)
 }
 
-fn walks(rt: HostRuntime, settings: &mut Environment) -> Result<()> {
-    let port = var(&rt, settings, "PORT")?;
-    for (name, value) in vars(&rt, settings)? {
+fn walks(rt: HostRuntime, mut settings: Environment) -> Result<()> {
+    let port = var(&rt, &mut settings, "PORT")?;
+    for (name, value) in vars(&rt, &mut settings)? {
         if value == port {
             println!(rt; "{name} is the port")?;
         }
@@ -43,7 +43,7 @@ fn walks(rt: HostRuntime, settings: &mut Environment) -> Result<()> {
 
 /// Runs them all.
 pub fn examples(rt: HostRuntime) -> Result<()> {
-    let mut settings = loads_files(rt)?;
-    loads_readers(rt, &mut settings)?;
-    walks(rt, &mut settings)
+    let settings = loads_files(rt)?;
+    let settings = loads_readers(rt, settings)?;
+    walks(rt, settings)
 }
