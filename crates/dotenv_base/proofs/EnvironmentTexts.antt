@@ -10,7 +10,7 @@ use Rattle.std.specs.declared.string.String.{String}
 use Rattle.std.proofs.lemmas.Option.{none-some}
 use Rattle.std.proofs.lemmas.Str.{IsUtf8-string_bytes}
 use Rattle.dotenv_base.specs.Environment.{Texts, text_entries, AreTexts}
-use Rattle.dotenv_characters.proofs.Basics.{some_same}
+use Rattle.dotenv_base.proofs.Basics.{some_same}
 
 -- a value that is found is a text
 found_text : {A : Type 0} (q text : List ℕ) (es : List (String A × String A)) →

@@ -18,7 +18,7 @@ use Rattle.std.specs.FinMap.{
 use Rattle.std.specs.FinMap.Entries.{below_all}
 use Rattle.std.specs.declared.cmp.Ordering.TheVariants.{Less, Equal, Greater}
 use Rattle.dotenv_base.specs.Environment.{Env, IsEnvironment, AreGood, name_ok, value_ok, pair_ok}
-use Rattle.dotenv_characters.proofs.Basics.{and_left, and_right, left_holds, right_holds}
+use Rattle.dotenv_base.proofs.Basics.{and_left, and_right, left_holds, right_holds}
 
 -- a name ties with itself
 ties_itself : (name : List ℕ) → slice_cmp nat_cmp name name ≡ Equal

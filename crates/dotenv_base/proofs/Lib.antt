@@ -1,3 +1,4 @@
+pub mod Basics
 pub mod CallLists
 pub mod Writes
 pub mod SearchOnce
@@ -8,4 +9,3 @@ pub mod TextMaps
 pub mod EnvironmentTexts
 pub mod GoodPairs
 pub mod SameEnvironments
-pub mod Keys

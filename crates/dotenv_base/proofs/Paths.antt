@@ -36,8 +36,7 @@ use Rattle.std.specs.List.{list_any, before_last, suffix_len}
 use Rattle.std.specs.Path.{path_join}
 use Rattle.std.proofs.lemmas.List.Folds.{list_any_at}
 use Rattle.std.proofs.lemmas.List.Sums.{suffix_len_is}
-use Rattle.dotenv_characters.specs.Characters.{begins_with}
-use Rattle.dotenv_base.specs.Search.{slash, is_slash, ends_with_slash, path_in, parent_part, parent_of}
+use Rattle.dotenv_base.specs.Search.{slash, is_slash, begins_with_slash, ends_with_slash, path_in, parent_part, parent_of}
 
 -- the last character is a slash, by its place
 ends_by_place : (c : ℕ) (cs : List ℕ) → ends_with_slash (c ∷ cs) ≡ (get_or (c ∷ cs) (length cs) 0 == slash)
@@ -81,7 +80,7 @@ join_is_path_in (c ∷ cs) name =
     ∙ ap (λ b. cond (b || length (c ∷ cs) == 0) name
     (cond (ends_with_slash (c ∷ cs)) ((c ∷ cs) ++ name) ((c ∷ cs) ++ slash ∷ name))) (first_by_place name)
   where
-    first_by_place : (n : List ℕ) → (slice_index n 0 == slash) ≡ begins_with slash n
+    first_by_place : (n : List ℕ) → (slice_index n 0 == slash) ≡ begins_with_slash n
     first_by_place [] = refl
     first_by_place (x ∷ xs) = refl
 

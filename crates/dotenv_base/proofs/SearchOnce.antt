@@ -47,7 +47,7 @@ use Rattle.dotenv_base.specs.Search.{
   Searches,
   Sees,
 }
-use Rattle.dotenv_characters.proofs.Basics.{some_same}
+use Rattle.dotenv_base.proofs.Basics.{some_same}
 
 -- a length of 2 or more, less any number and 1, is less than it was
 shorter : (i n : ℕ) → min (2 + n - i - 1) (2 + n) < 2 + n

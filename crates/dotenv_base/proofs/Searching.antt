@@ -61,7 +61,7 @@ use Rattle.dotenv_base.specs.Search.{
   Searches,
 }
 use Rattle.dotenv_base.specs.Find.{Calls, AsksInTurn, AnswersSearch, Finds, IsPathOf}
-use Rattle.dotenv_characters.proofs.Basics.{if_true, not_false}
+use Rattle.dotenv_base.proofs.Basics.{if_true, not_false}
 use Rattle.dotenv_base.proofs.SearchOnce.{ascent_exists, search_exists, parent_shorter}
 
 -- the code's test of a kind

@@ -68,7 +68,7 @@ use Rattle.std.specs.FinMap.Entries.{by_order, below_all, find-put}
 use Rattle.std.specs.declared.string.String.{String}
 use Rattle.std.specs.declared.cmp.Ordering.{Ordering}
 use Rattle.std.specs.declared.cmp.Ordering.TheVariants.{Less, Equal, Greater}
-use Rattle.dotenv_characters.proofs.Basics.{and_left, and_right, both_hold}
+use Rattle.dotenv_base.proofs.Basics.{and_left, and_right, both_hold}
 use Rattle.dotenv_base.specs.Environment.{
   text_entries,
   Texts,

@@ -28,7 +28,6 @@ use Rattle.std.specs.Cmp.Lexicographic.{slice_cmp, pointwise, lists_equiv, nat_l
 use Rattle.std.specs.Coded.{Coded, code_by, coded×, coded_ℕ, coded_list, coded_bool}
 use Rattle.std.specs.FinMap as fin
 use Rattle.std.specs.declared.string.String.{String}
-use Rattle.dotenv_characters.specs.Characters.{equals_sign}
 
 -- names and their values, in the byte order of the names
 abbrev pub Texts : Type 0
@@ -44,6 +43,10 @@ abbrev pub env_code : Coded Env
 env_code =
     code_by (Texts × Bool) (coded× (fin.code (coded_list coded_ℕ) (coded_list coded_ℕ)) coded_bool)
     (λ e. (e.names, e.loaded)) (λ p. record { names = p.0; loaded = p.1 }) (λ _. refl)
+
+-- what parts a name from its value
+abbrev pub equals_sign : ℕ
+equals_sign = 61
 
 -- a name is not empty and has no `=` and no NUL
 abbrev pub name_ok : List ℕ → Bool

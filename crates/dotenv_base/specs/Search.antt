@@ -29,7 +29,6 @@ use Rattle.std.specs.declared.io.ErrorKind.{ErrorKind}
 use Rattle.std.specs.declared.io.ErrorKind.TheVariants.{NotFound}
 use Rattle.dotenv_base.specs.declared.search.Look.{Look}
 use Rattle.dotenv_base.specs.declared.search.Look.TheVariants.{File, Other, Fault}
-use Rattle.dotenv_characters.specs.Characters.{begins_with}
 
 -- what parts the names in a path
 abbrev pub slash : ℕ
@@ -38,6 +37,11 @@ slash = 47
 -- a slash, as a test
 abbrev pub is_slash : ℕ → Bool
 is_slash c = c == slash
+
+-- the path begins with a slash
+abbrev pub begins_with_slash : List ℕ → Bool
+begins_with_slash [] = false
+begins_with_slash (c ∷ cs) = is_slash c
 
 -- the path ends with a slash
 abbrev pub ends_with_slash : List ℕ → Bool
@@ -48,7 +52,7 @@ ends_with_slash (c ∷ d ∷ cs) = ends_with_slash (d ∷ cs)
 -- the path of the name in the directory; an absolute name is a path itself
 abbrev pub path_in : List ℕ → List ℕ → List ℕ
 path_in directory name =
-    if begins_with slash name || length directory == 0 then name
+    if begins_with_slash name || length directory == 0 then name
     else (if ends_with_slash directory then directory ++ name else directory ++ slash ∷ name)
 
 -- of two characters or more: what is before the last slash, or the root where that is empty; the empty text where there is no slash

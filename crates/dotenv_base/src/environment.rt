@@ -3,13 +3,11 @@ ghost use Rattle.std.specs.Prelude.{◌≡◌, IsTrue, filter, true, false, opti
 ghost use Rattle.std.specs.FinMap as fin;
 ghost use Rattle.std.specs.Iterator.{YieldsFirstBy, item_count};
 ghost use Rattle.std.specs.Str.{chars};
-ghost use Rattle.dotenv_characters.specs.Keys.{is_key};
 ghost use Rattle.dotenv_base.specs.Environment.{name_ok, value_ok, pair_ok, text_entries, IsEnvironment, AreTexts};
 ghost use Rattle.dotenv_base.specs.Errors.{IsMemory, IsNulOf};
 
 use crate::errors::{Error, Result};
 use crate::process::text_entries;
-use dotenv_characters::classes::{begins_key, continues_key};
 use std::alloc::{Alloc, Allocator, Global};
 use std::collections::BTreeMap;
 use std::collections::btree_map::{IntoIter, Iter};
@@ -54,22 +52,6 @@ pub fn is_name(text: &str) -> bool
     ensures { result ≡ name_ok text.now }
 {
     !text.is_empty() && !text.as_bytes().contains(&b'=') && !text.as_bytes().contains(&0)
-}
-
-/// Whether the whole text is a key, as docs/GRAMMAR.md says under "Keys". Each key is a name.
-///
-/// ```
-/// assert!(rt; is_key("_a.B9") && !is_key("1A") && !is_key("my name"));
-/// ```
-pub fn is_key(text: &str) -> bool
-    ensures key { result ≡ is_key (chars text.now) }
-    ensures name { IsTrue result → IsTrue (name_ok text.now) }
-{
-    let mut characters = text.chars();
-    match characters.next() {
-        Some(first) => begins_key(first) && characters.all(continues_key),
-        None => false,
-    }
 }
 
 fn is_value(text: &str) -> bool

@@ -32,7 +32,7 @@ use Rattle.std.specs.declared.cmp.Ordering.TheVariants.{Less, Equal, Greater}
 use Rattle.std.specs.declared.process.command.Command.{Command}
 use Rattle.std.proofs.lemmas.Map.Text.{is_eq-slice_cmp}
 use Rattle.dotenv_base.specs.Environment.{Texts}
-use Rattle.dotenv_characters.proofs.Basics.{left_holds, right_holds}
+use Rattle.dotenv_base.proofs.Basics.{left_holds, right_holds}
 use Rattle.dotenv_base.proofs.TextMaps.{bytes_cmp}
 
 -- what the command says of a name once those that are left are set is what the environment has

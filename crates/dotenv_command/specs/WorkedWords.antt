@@ -1,7 +1,7 @@
 -- Worked words of the command line: what words ask for, by examples.
 use Prim.Native.String.{String}
 use Rattle.std.specs.Prelude.{ℕ, true, false, List, [], ◌∷◌, map, Ok, Err, codes}
-use Rattle.dotenv_characters.specs.declared.dialect.Dialect.TheVariants.{V15, Next}
+use Rattle.dotenv_format.specs.declared.dialect.Dialect.TheVariants.{V15, Next}
 use Rattle.dotenv_command.specs.Words.{MissingCommand, MissingFile, UnknownOption, HasUsage}
 
 -- these words

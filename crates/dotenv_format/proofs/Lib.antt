@@ -1,3 +1,5 @@
+pub mod Basics
+pub mod KeyCharacters
 pub mod Fronts
 pub mod bytes
 pub mod lines

@@ -6,9 +6,9 @@ use Rattle.std.specs.Str.{is_utf8, chars}
 use Rattle.unicode.proofs.DerivedComputing.{ucd_derived}
 use Rattle.unicode.proofs.CategoryComputing.{ucd_category}
 use Rattle.std.proofs.Math.Utf8.{encode}
-use Rattle.dotenv_characters.specs.declared.dialect.Dialect.{Dialect}
-use Rattle.dotenv_characters.specs.declared.dialect.Dialect.TheVariants.{V15, Next}
-use Rattle.dotenv_characters.specs.Characters.{is_name_character}
+use Rattle.dotenv_format.specs.declared.dialect.Dialect.{Dialect}
+use Rattle.dotenv_format.specs.declared.dialect.Dialect.TheVariants.{V15, Next}
+use Rattle.dotenv_format.specs.Characters.{is_name_character}
 use Rattle.dotenv_format.specs.PhysicalLines.{line_texts}
 use Rattle.dotenv_format.specs.Entries.{Entry, GiveAll, HasEntries}
 use Rattle.dotenv_format.specs.WorkedFiles.{

@@ -1,7 +1,7 @@
 -- What is decided of bytes whose end was not reached: the logical lines up to the last line feed, but for one that stays open.
 use Rattle.std.specs.Prelude.{ℕ, ◌==◌, List, [], ◌∷◌, if◌then◌else◌}
-use Rattle.dotenv_characters.specs.declared.dialect.Dialect.{Dialect}
-use Rattle.dotenv_characters.specs.Characters.{line_feed}
+use Rattle.dotenv_format.specs.declared.dialect.Dialect.{Dialect}
+use Rattle.dotenv_format.specs.Characters.{line_feed}
 use Rattle.dotenv_format.specs.LogicalLine.{Logical, Skip, Text, Open, Broken}
 use Rattle.dotenv_format.specs.PhysicalLines.{line_texts}
 use Rattle.dotenv_format.specs.Entries.{Entry, AreLogicalLines, GiveAll}

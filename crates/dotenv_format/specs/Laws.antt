@@ -18,7 +18,7 @@ use Rattle.std.specs.Prelude.{
   Ok,
   encode_utf8_all,
 }
-use Rattle.dotenv_characters.specs.declared.dialect.Dialect.{Dialect}
+use Rattle.dotenv_format.specs.declared.dialect.Dialect.{Dialect}
 use Rattle.dotenv_format.specs.PhysicalLines.{AreCut, line_texts}
 use Rattle.dotenv_format.specs.LogicalLine.{Logical, IsNext}
 use Rattle.dotenv_format.specs.Value.{Piece, Text, Name, IsValue}

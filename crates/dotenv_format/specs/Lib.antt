@@ -1,3 +1,5 @@
+pub mod Characters
+pub mod Keys
 pub mod PhysicalLines
 pub mod Tokens
 pub mod LogicalLine

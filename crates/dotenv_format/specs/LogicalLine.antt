@@ -20,7 +20,7 @@ use Rattle.std.specs.Prelude.{
   if◌then◌else◌,
 }
 use Rattle.std.specs.Str.{skip_leading_whitespace}
-use Rattle.dotenv_characters.specs.Characters.{is_blank, line_feed, carriage_return, backslash, hash, byte_len, begins_with}
+use Rattle.dotenv_format.specs.Characters.{is_blank, line_feed, carriage_return, backslash, hash, byte_len, begins_with}
 use Rattle.dotenv_format.specs.Tokens.{Token, tokens_text, AreTokens}
 
 -- what ends a row of tokens: a line feed; a backslash and a line feed; a blank, `#` and a comment's words; or the end of the input

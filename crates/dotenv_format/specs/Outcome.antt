@@ -1,8 +1,8 @@
 -- What one logical line says.
 use Rattle.std.specs.Prelude.{◌≡◌, ◌⊎◌, ℕ, ◌-◌, Bool, List, [], IsTrue, not, length, take, ◌==◌, if◌then◌else◌}
 use Rattle.std.specs.Str.{skip_leading_whitespace, drop_trailing_whitespace}
-use Rattle.dotenv_characters.specs.Characters.{byte_len, is_empty_or_comment}
-use Rattle.dotenv_characters.specs.declared.dialect.Dialect.{Dialect}
+use Rattle.dotenv_format.specs.Characters.{byte_len, is_empty_or_comment}
+use Rattle.dotenv_format.specs.declared.dialect.Dialect.{Dialect}
 use Rattle.dotenv_format.specs.Statement.{IsStatement}
 use Rattle.dotenv_format.specs.Value.{Piece, IsValue}
 use Rattle.dotenv_format.specs.Places.{BeginsStatement, BeginsValue, IsPlace}

@@ -19,7 +19,7 @@ use Rattle.std.specs.Prelude.{
 }
 use Rattle.std.specs.List.{list_all}
 use Rattle.std.specs.Str.{is_utf8, chars}
-use Rattle.dotenv_characters.specs.Characters.{line_feed}
+use Rattle.dotenv_format.specs.Characters.{line_feed}
 
 -- the lines with c put at the front of the first
 abbrev pub onto_first : ℕ → List (List ℕ) → List (List ℕ)

@@ -1,6 +1,6 @@
 -- Fronts of a text that can be completed, and the place of a fault.
 use Rattle.std.specs.Prelude.{ℕ, suc, ◌≤◌, ◌<◌, List, ◌++◌, length, take}
-use Rattle.dotenv_characters.specs.declared.dialect.Dialect.{Dialect}
+use Rattle.dotenv_format.specs.declared.dialect.Dialect.{Dialect}
 use Rattle.dotenv_format.specs.Statement.{IsStatement}
 use Rattle.dotenv_format.specs.Value.{Piece, IsValue}
 

@@ -2,8 +2,8 @@
 use Rattle.std.specs.Prelude.{◌≡◌, ◌⊎◌, ℕ, Bool, false, not, ◌&&◌, List, [], ◌∷◌, ◌++◌, codes, IsTrue}
 use Rattle.std.specs.Char.{is_whitespace}
 use Rattle.std.specs.List.{list_all}
-use Rattle.dotenv_characters.specs.Characters.{equals_sign}
-use Rattle.dotenv_characters.specs.Keys.{is_key}
+use Rattle.dotenv_format.specs.Characters.{equals_sign}
+use Rattle.dotenv_format.specs.Keys.{is_key}
 
 -- the text has white space alone
 abbrev pub is_white_space : List ℕ → Bool

@@ -1,7 +1,7 @@
 -- The tokens of a logical line. A token is a whole piece of text.
 use Rattle.std.specs.Prelude.{ℕ, Bool, true, false, not, ◌||◌, ◌==◌, List, [], ◌∷◌, ◌++◌, IsTrue}
 use Rattle.std.specs.List.{flat_map, list_all}
-use Rattle.dotenv_characters.specs.Characters.{is_blank, is_quote, line_feed, backslash, hash}
+use Rattle.dotenv_format.specs.Characters.{is_blank, is_quote, line_feed, backslash, hash}
 
 -- what may stand between quotes: one character, or a backslash and the one after it
 pub data QuotedCharacter : Type 0 where

@@ -2,7 +2,7 @@
 use Prim.Native.String.{String}
 use Rattle.std.specs.Prelude.{◌≡◌, ℕ, List, [], ◌∷◌, ◌++◌, codes, encode_utf8_all}
 use Rattle.std.specs.declared.io.ErrorKind.TheVariants.{InvalidData}
-use Rattle.dotenv_characters.specs.declared.dialect.Dialect.TheVariants.{V15, Next}
+use Rattle.dotenv_format.specs.declared.dialect.Dialect.TheVariants.{V15, Next}
 use Rattle.dotenv_format.specs.Value.{Piece, Text, Name}
 use Rattle.dotenv_format.specs.Outcome.{Says, Pair, Fault}
 use Rattle.dotenv_format.specs.Entries.{Entry, Declares, Fails, LineParse, Io, HasEntries}

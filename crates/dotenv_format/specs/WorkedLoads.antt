@@ -1,7 +1,7 @@
 -- Worked loads: what iteration and the loads make of files, by examples.
 use Prim.Native.String.{String}
 use Rattle.std.specs.Prelude.{◌≡◌, ℕ, List, [], ◌∷◌, Some, None, Result, Ok, Err, codes}
-use Rattle.dotenv_characters.specs.declared.dialect.Dialect.TheVariants.{V15}
+use Rattle.dotenv_format.specs.declared.dialect.Dialect.TheVariants.{V15}
 use Rattle.dotenv_format.specs.Entries.{Entry, Failure, Nul, HasEntries}
 use Rattle.dotenv_format.specs.Items.{LookUp, no_values, with_value, items}
 use Rattle.dotenv_format.specs.Run.{Loaded}

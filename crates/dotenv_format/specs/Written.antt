@@ -2,8 +2,8 @@
 use Rattle.std.specs.Prelude.{ℕ, Bool, IsTrue, ◌&&◌, ◌||◌, ◌==◌, List, [], ◌∷◌, ◌++◌, if◌then◌else◌}
 use Rattle.std.specs.List.{flat_map}
 use Rattle.std.specs.Str.{all_scalars, encode_utf8_all}
-use Rattle.dotenv_characters.specs.Keys.{is_key}
-use Rattle.dotenv_characters.specs.Characters.{double_quote, backslash, dollar, equals_sign, line_feed}
+use Rattle.dotenv_format.specs.Keys.{is_key}
+use Rattle.dotenv_format.specs.Characters.{double_quote, backslash, dollar, equals_sign, line_feed}
 
 -- the character is written after a backslash
 abbrev pub needs_backslash : ℕ → Bool

@@ -4,6 +4,8 @@
 //! public of it.
 #![tactic(auto)]
 
+pub mod classes;
+pub mod dialect;
 pub mod laws;
 pub mod statement;
 pub mod text;

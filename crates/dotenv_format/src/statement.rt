@@ -1,12 +1,12 @@
 // A line up to what is assigned: white space, `export` where it is a prefix, a key and `=`.
 ghost use Rattle.std.specs.Prelude.{◌≡◌};
 ghost use Rattle.std.specs.Str.{chars};
-ghost use Rattle.dotenv_characters.specs.Characters.{begins_key};
+ghost use Rattle.dotenv_format.specs.Characters.{begins_key};
 ghost use Rattle.dotenv_format.specs.inside.Slices.{begins_passing};
 ghost use Rattle.dotenv_format.specs.inside.ParseStatement.{key_then, skipping, equals_then, after_equals, after_plain_key, second_key, after_first_key, parse, Parsed, parsed_of, keyed_of, assigned_of};
 
+use crate::classes::begins_key;
 use crate::text::{Class, split_first, split_while};
-use dotenv_characters::classes::begins_key;
 
 /// A key and what is assigned to it, as slices of the line.
 #[derive(Clone, Copy)]

@@ -1,13 +1,13 @@
 // Texts cut at characters.
 ghost use Rattle.std.specs.Prelude.{◌≡◌, ◌==◌, ◌++◌, [], not, length, unwrap_or, MatchOption};
 ghost use Rattle.std.specs.Str.{chars, IsUtf8};
-ghost use Rattle.dotenv_characters.specs.Characters.{continues_key, is_space_or_tab, is_empty_or_comment};
+ghost use Rattle.dotenv_format.specs.Characters.{continues_key, is_space_or_tab, is_empty_or_comment};
 ghost use Rattle.std.specs.List.{prefix_len, position_from};
 ghost use Rattle.dotenv_format.specs.inside.Slices.{BeginsWith, IsSpan, PassesBytes, PassesTo, has_character, is_name_byte, is_of_kind, is_token_byte, in_run};
 ghost use Rattle.dotenv_format.specs.Value.{is_plain_outside};
 
-use dotenv_characters::classes::{allows_underscore, continues_key, is_blank, is_name_character};
-use dotenv_characters::dialect::Dialect;
+use crate::classes::{allows_underscore, continues_key, is_blank, is_name_character};
+use crate::dialect::Dialect;
 use memchr::{memchr2, memchr3};
 
 /// Where a part of a value stands.

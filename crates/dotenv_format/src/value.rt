@@ -3,13 +3,13 @@ ghost use Rattle.std.specs.Prelude.{◌≡◌, ◌<◌, ◌==◌, ◌&&◌, not,
 ghost use Rattle.std.specs.List.{prefix_len};
 ghost use Rattle.std.specs.Str.{chars};
 ghost use Rattle.dotenv_format.specs.inside.ReadValue.{base, escaping, in_single, naming, bracing, in_tail};
-ghost use Rattle.dotenv_characters.specs.Characters.{backslash, left_brace, begins_with, is_name_character};
+ghost use Rattle.dotenv_format.specs.Characters.{backslash, left_brace, begins_with, is_name_character};
 ghost use Rattle.dotenv_format.specs.inside.Slices.{quoting_of, begins_passing};
 ghost use Rattle.dotenv_format.specs.Value.{is_left_by_name, is_plain};
 ghost use Rattle.dotenv_format.specs.inside.NextPiece.{other_quoting, is_empty, kind_of, Escapes, NextPieceIs, IsShorter};
 
+use crate::dialect::Dialect;
 use crate::text::{Class, Quoting, is_empty_or_comment, row_len, split_first, split_while};
-use dotenv_characters::dialect::Dialect;
 
 /// What a part of a value means.
 #[derive(Clone, Copy)]

@@ -31,14 +31,14 @@ use Rattle.std.specs.Result.{result_transpose}
 use Rattle.std.specs.FinMap as fin
 use Rattle.std.specs.declared.string.String.{String}
 use Rattle.std.proofs.lemmas.Str.{IsUtf8-string_bytes}
-use Rattle.dotenv_characters.specs.declared.dialect.Dialect.{Dialect}
+use Rattle.dotenv_format.specs.declared.dialect.Dialect.{Dialect}
 use Rattle.dotenv_base.specs.declared.errors.Error.{Error}
 use Rattle.dotenv_base.specs.declared.errors.Error.TheVariants.{LineParse, Io, EnvVar, Nul, Memory}
 use Rattle.dotenv_lines.specs.declared.lines.Stage.TheVariants.{Failed}
 use Rattle.dotenv_base.specs.Errors.{IsMemoryErr}
-use Rattle.dotenv_characters.specs.Characters.{is_empty_or_comment}
+use Rattle.dotenv_format.specs.Characters.{is_empty_or_comment}
 use Rattle.dotenv_format.specs.Statement.{IsStatement}
-use Rattle.dotenv_characters.specs.Keys.{is_key}
+use Rattle.dotenv_format.specs.Keys.{is_key}
 use Rattle.dotenv_format.specs.Value.{Piece}
 use Rattle.dotenv_format.specs.Outcome.{Outcome, Nothing, Pair, Fault, Says, Assigns, trimmed}
 use Rattle.dotenv_lines.specs.Lines.{LinesState}
@@ -50,8 +50,8 @@ use Rattle.dotenv_items.specs.Meaning.{names_of, recalled_of}
 use Rattle.dotenv_items.specs.inside.ParsedLine.{IsLineAnswer, Remembers}
 use Rattle.dotenv_items.specs.Iter.{IterState}
 use Rattle.dotenv_items.specs.inside.ItemStep.{lines_after, AddsEntries, IsRefused, AddsLine}
-use Rattle.dotenv_characters.proofs.Basics.{not_is}
-use Rattle.dotenv_base.proofs.Keys.{chars-key, encodes-key}
+use Rattle.dotenv_format.proofs.Basics.{not_is}
+use Rattle.dotenv_items.proofs.KeyBytes.{chars-key, encodes-key}
 use Rattle.dotenv_format.proofs.statements.Statements.{one_statement}
 use Rattle.dotenv_items.proofs.KeyLookUps.{changed_text, recalled-inserted}
 

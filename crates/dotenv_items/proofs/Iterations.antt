@@ -33,7 +33,7 @@ use Rattle.std.specs.Prelude.{option_map}
 use Rattle.std.specs.Ordering.{nat_cmp}
 use Rattle.std.specs.Cmp.Lexicographic.{slice_cmp}
 use Rattle.std.specs.FinMap.{empty, get-empty}
-use Rattle.dotenv_characters.specs.declared.dialect.Dialect.{Dialect}
+use Rattle.dotenv_format.specs.declared.dialect.Dialect.{Dialect}
 use Rattle.dotenv_base.specs.declared.errors.Error.{Error}
 use Rattle.dotenv_base.specs.declared.errors.Error.TheVariants.{LineParse, Io as io, EnvVar, Nul, Memory}
 use Rattle.dotenv_lines.specs.declared.lines.Stage.TheVariants.{Open, Ended, Failed}

@@ -28,7 +28,7 @@ use Rattle.std.proofs.lemmas.Slice.Eq.{bytes_eq-Decides}
 use Rattle.std.proofs.lemmas.Bool.Decides.{same_from_decides}
 use Rattle.dotenv_base.specs.Environment.{Texts}
 use Rattle.dotenv_items.specs.Remembered.{Remembered, recalled}
-use Rattle.dotenv_characters.specs.Keys.{is_key}
+use Rattle.dotenv_format.specs.Keys.{is_key}
 use Rattle.dotenv_format.specs.Items.{with_value}
 use Rattle.dotenv_items.specs.Meaning.{by_characters, values_of}
 use Rattle.dotenv_items.specs.LoadsLeft.{ChangesKeys}
@@ -36,7 +36,7 @@ use Rattle.std.specs.declared.string.String.{String}
 use Rattle.std.proofs.lemmas.Str.{IsUtf8-string_bytes}
 use Rattle.dotenv_base.specs.declared.errors.Error.{Error}
 use Rattle.dotenv_items.specs.NextItem.{GivesName}
-use Rattle.dotenv_base.proofs.Keys.{chars-key, name_ok-key}
+use Rattle.dotenv_items.proofs.KeyBytes.{chars-key, name_ok-key}
 
 -- the bytes of a text are those of a name where the text is the name
 bytes_eq-encoded : (bytes text name : List ℕ) → encode_utf8_all text ≡ bytes →

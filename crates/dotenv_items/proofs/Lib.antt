@@ -1,3 +1,4 @@
+pub mod KeyBytes
 pub mod WrittenBytes
 pub mod ListedLoads
 pub mod RememberedMaps

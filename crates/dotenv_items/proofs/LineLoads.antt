@@ -26,11 +26,11 @@ use Rattle.std.specs.Str.{chars}
 use Rattle.std.specs.FinMap.{insert, get, contains_key}
 use Rattle.std.specs.declared.string.String.{String}
 use Rattle.std.proofs.lemmas.Str.{IsUtf8-string_bytes}
-use Rattle.dotenv_characters.specs.declared.dialect.Dialect.{Dialect}
+use Rattle.dotenv_format.specs.declared.dialect.Dialect.{Dialect}
 use Rattle.dotenv_base.specs.declared.errors.Error.{Error}
 use Rattle.dotenv_items.specs.declared.parse.Declaration.{Declaration}
 use Rattle.dotenv_base.specs.Errors.{IsMemory, IsNulOf, IsLineParseOf}
-use Rattle.dotenv_characters.specs.Keys.{is_key}
+use Rattle.dotenv_format.specs.Keys.{is_key}
 use Rattle.dotenv_format.specs.Outcome.{Pair, Fault as SaysFault, Says}
 use Rattle.dotenv_format.specs.Entries.{Declares, Nul}
 use Rattle.dotenv_format.specs.Items.{meaning, with_value}
@@ -41,9 +41,9 @@ use Rattle.dotenv_items.specs.Meaning.{values_of, recalled_of, names_of}
 use Rattle.dotenv_items.specs.LoadsLeft.{Leaves, ChangesKeys}
 use Rattle.dotenv_items.specs.inside.LoadStep.{LoadsLine}
 use Rattle.dotenv_items.specs.inside.FirstPass.{IsDeclared, IsPairOf}
-use Rattle.dotenv_characters.proofs.Basics.{not_is, not_false}
+use Rattle.dotenv_format.proofs.Basics.{not_is, not_false}
 use Rattle.dotenv_items.proofs.Nuls.{value_ok-chars}
-use Rattle.dotenv_base.proofs.Keys.{chars-key}
+use Rattle.dotenv_items.proofs.KeyBytes.{chars-key}
 use Rattle.dotenv_items.proofs.KeyLookUps.{values_of-insert, is_none-contains, changes_keys-insert}
 use Rattle.dotenv_items.proofs.LinePasses.{chars-spelled, says_declared}
 use Rattle.dotenv_format.proofs.loads.LoadRuns.{run-one}

@@ -36,7 +36,7 @@ use Rattle.std.specs.Str.{chars, encode_utf8_all, IsUtf8, drop_trailing_whitespa
 use Rattle.std.proofs.lemmas.Bool.Decides.{nat_tests}
 use Rattle.std.proofs.lemmas.List.{append-nil}
 use Rattle.std.proofs.lemmas.Str.{encodes-chars, encodes-append, chars-nil, chars_from_encodes, IsUtf8-string_bytes}
-use Rattle.dotenv_characters.specs.declared.dialect.Dialect.{Dialect}
+use Rattle.dotenv_format.specs.declared.dialect.Dialect.{Dialect}
 use Rattle.dotenv_items.specs.declared.parse.Declaration.{Declaration}
 use Rattle.dotenv_items.specs.declared.parse.Value.{Value}
 use Rattle.dotenv_items.specs.declared.parse.Fault.{Fault}
@@ -46,7 +46,7 @@ use Rattle.dotenv_base.specs.declared.errors.Error.{Error}
 use Rattle.dotenv_base.specs.Errors.{IsMemory, IsLineParseOf}
 use Rattle.dotenv_items.specs.Remembered.{Remembered}
 use Rattle.dotenv_items.specs.inside.ParsedLine.{IsLineAnswer}
-use Rattle.dotenv_characters.specs.Characters.{byte_len, is_empty_or_comment}
+use Rattle.dotenv_format.specs.Characters.{byte_len, is_empty_or_comment}
 use Rattle.dotenv_format.specs.Value.{Piece, IsValue, unquoted}
 use Rattle.dotenv_format.specs.Places.{BeginsValue, IsPlace}
 use Rattle.dotenv_format.specs.Outcome.{Outcome, Pair, Fault as SaysFault, Says, is_nothing, value_index, Assigns}
@@ -55,7 +55,8 @@ use Rattle.dotenv_format.specs.inside.ReadValue.{base, read_value}
 use Rattle.dotenv_format.specs.inside.NextPiece.{StopsAt}
 use Rattle.dotenv_items.specs.inside.ValuePasses.{saturated, MeansBytes, Appends}
 use Rattle.dotenv_format.specs.Statement.{IsStatement}
-use Rattle.dotenv_characters.proofs.Basics.{not_is, nil_of}
+use Rattle.dotenv_base.proofs.Basics.{nil_of}
+use Rattle.dotenv_format.proofs.Basics.{not_is}
 use Rattle.dotenv_format.specs.inside.ParseStatement.{assigns, fails, parse}
 use Rattle.dotenv_items.specs.inside.FirstPass.{IsAssigned, ScansAssigned, IsDeclared, Scans, AreCopiesOf}
 use Rattle.dotenv_format.proofs.values.Values.{value-read, read-value, no_value}

@@ -10,9 +10,9 @@ use Rattle.std.specs.Option.{option_flatten}
 use Rattle.std.proofs.lemmas.Bool.{true≢false}
 use Rattle.std.proofs.lemmas.Str.{encodes-chars, encodes_same}
 use Rattle.std.specs.declared.io.ErrorKind.{ErrorKind}
-use Rattle.dotenv_characters.specs.declared.dialect.Dialect.{Dialect}
+use Rattle.dotenv_format.specs.declared.dialect.Dialect.{Dialect}
 use Rattle.dotenv_base.specs.declared.errors.Error.{Error}
-use Rattle.dotenv_characters.specs.Keys.{is_key}
+use Rattle.dotenv_format.specs.Keys.{is_key}
 use Rattle.dotenv_base.specs.Errors.{IsMemory, IsMemoryErr}
 use Rattle.dotenv_format.specs.Entries.{Entry, Failure}
 use Rattle.dotenv_format.specs.Run.{Keep, Loaded}
@@ -27,7 +27,7 @@ use Rattle.dotenv_items.specs.Iter.{IterState, fresh}
 use Rattle.dotenv_format.specs.Loads.{load_result}
 use Rattle.dotenv_items.specs.LoadsLeft.{IsAnswer, Leaves, Rule, LoadsLeft, ChangesKeys}
 use Rattle.dotenv_format.specs.Written.{written_bytes}
-use Rattle.dotenv_base.proofs.Keys.{encodes-key}
+use Rattle.dotenv_items.proofs.KeyBytes.{encodes-key}
 use Rattle.dotenv_base.specs.Output.{Writes}
 use Rattle.dotenv_base.specs.Environment.{AreTexts}
 use Rattle.dotenv_items.specs.Listed.{pairs_of, Lists, WritesLoaded}

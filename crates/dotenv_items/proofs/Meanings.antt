@@ -29,8 +29,8 @@ use Rattle.std.specs.FinMap as fin
 use Rattle.std.specs.Str.{chars, encode_utf8_all, IsUtf8}
 use Rattle.std.proofs.lemmas.List.{append-nil}
 use Rattle.std.proofs.lemmas.Str.{encodes-chars, encodes-append}
-use Rattle.dotenv_characters.specs.declared.dialect.Dialect.{Dialect}
-use Rattle.dotenv_characters.specs.Characters.{byte_len}
+use Rattle.dotenv_format.specs.declared.dialect.Dialect.{Dialect}
+use Rattle.dotenv_format.specs.Characters.{byte_len}
 use Rattle.dotenv_format.specs.Value.{unquoted, Piece, Text, Name}
 use Rattle.dotenv_format.specs.Items.{LookUp, meaning}
 use Rattle.dotenv_base.specs.Environment.{Texts}

@@ -39,7 +39,7 @@ use Rattle.std.specs.declared.io.ErrorKind.TheVariants.{InvalidData}
 use Rattle.std.specs.Prelude.{is_some}
 use Rattle.std.proofs.lemmas.Str.{chars-nil}
 use Rattle.std.proofs.lemmas.Option.{none-some}
-use Rattle.dotenv_characters.specs.declared.dialect.Dialect.{Dialect}
+use Rattle.dotenv_format.specs.declared.dialect.Dialect.{Dialect}
 use Rattle.dotenv_base.specs.declared.errors.Error.{Error}
 use Rattle.dotenv_base.specs.declared.errors.Error.TheVariants.{LineParse, Io, EnvVar, Nul, Memory}
 use Rattle.dotenv_lines.specs.declared.lines.Stage.TheVariants.{Open, Ended, Failed}

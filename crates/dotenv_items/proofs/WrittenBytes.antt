@@ -29,12 +29,12 @@ use Rattle.std.specs.List.{flat_map, list_all}
 use Rattle.std.specs.Str.{chars, IsUtf8}
 use Rattle.std.proofs.lemmas.List.{append-nil}
 use Rattle.std.proofs.lemmas.Str.{encodes-chars, encodes-append, chars_past_char}
-use Rattle.dotenv_characters.specs.Characters.{double_quote, backslash, equals_sign, line_feed, byte_len}
+use Rattle.dotenv_format.specs.Characters.{double_quote, backslash, equals_sign, line_feed, byte_len}
 use Rattle.std.proofs.lemmas.Bool.Decides.{nat_tests}
 use Rattle.dotenv_items.specs.inside.ValuePasses.{saturated}
 use Rattle.dotenv_format.specs.inside.Slices.{IsSpan}
 use Rattle.dotenv_format.specs.Value.{is_plain_inside}
-use Rattle.dotenv_characters.proofs.Basics.{and_left, and_right, not_is}
+use Rattle.dotenv_format.proofs.Basics.{and_left, and_right, not_is}
 use Rattle.dotenv_format.specs.Written.{needs_backslash, written_character, written_pair, written_text, written_bytes}
 
 -- the bytes of a value's last characters, and of the end of its line

@@ -2,8 +2,8 @@
 use Rattle.std.specs.Prelude.{ℕ, ◌≡◌, ◌^◌, List, Option, Result, refl}
 use Rattle.std.specs.Coded.{Coded, code_by, coded×, coded_ℕ, coded_list, coded_option}
 use Rattle.std.specs.FinMap as fin
-use Rattle.dotenv_characters.specs.declared.dialect.Dialect.{Dialect}
-use Rattle.dotenv_characters.specs.contracts.dialect.Dialect as dialect
+use Rattle.dotenv_format.specs.declared.dialect.Dialect.{Dialect}
+use Rattle.dotenv_format.specs.contracts.dialect.Dialect as dialect
 use Rattle.dotenv_base.specs.Calls.{Call}
 use Rattle.dotenv_base.specs.Source.{Ahead}
 use Rattle.dotenv_base.specs.declared.errors.Error.{Error}

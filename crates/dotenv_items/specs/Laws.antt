@@ -3,7 +3,7 @@ use Rattle.std.specs.Prelude.{ℕ, ◌≡◌, ◌≤◌, List, ◌++◌, length,
 use Rattle.std.specs.Str.{encode_utf8_all}
 use Rattle.std.specs.FinMap as fin
 use Rattle.std.specs.declared.io.ErrorKind.{ErrorKind}
-use Rattle.dotenv_characters.specs.declared.dialect.Dialect.{Dialect}
+use Rattle.dotenv_format.specs.declared.dialect.Dialect.{Dialect}
 use Rattle.dotenv_base.specs.declared.errors.Error.{Error}
 use Rattle.dotenv_format.specs.PhysicalLines.{physical_lines}
 use Rattle.dotenv_base.specs.Errors.{IsMemoryErr}

@@ -2,7 +2,7 @@
 use Rattle.std.specs.Prelude.{ℕ, ◌≡◌, false, List, Result, Ok, Err}
 use Rattle.std.specs.FinMap as fin
 use Rattle.dotenv_base.specs.declared.errors.Error.{Error}
-use Rattle.dotenv_characters.specs.Keys.{is_key}
+use Rattle.dotenv_format.specs.Keys.{is_key}
 use Rattle.dotenv_format.specs.Entries.{Failure, Entry}
 use Rattle.dotenv_format.specs.Items.{LookUp}
 use Rattle.dotenv_format.specs.Run.{Loaded}

@@ -41,7 +41,7 @@ use Rattle.dotenv_format.specs.Entries.{
   Gives,
   GiveAll,
 }
-use Rattle.dotenv_characters.specs.declared.dialect.Dialect.{Dialect}
+use Rattle.dotenv_format.specs.declared.dialect.Dialect.{Dialect}
 use Rattle.dotenv_format.specs.Decided.{HasDecided}
 use Rattle.dotenv_format.specs.Items.{LookUp, text_of, meaning, with_value}
 use Rattle.dotenv_base.specs.Environment.{Texts, name_ok}

@@ -4,6 +4,7 @@
 #![tactic(auto)]
 
 pub mod iter;
+pub mod keys;
 pub mod laws;
 mod loads;
 mod meaning;

@@ -13,7 +13,7 @@ use crate::parse::{pair_of, scan_line};
 use crate::remembered::Remembered;
 use dotenv_base::environment::Environment;
 use dotenv_base::errors::{Result, fault_error};
-use dotenv_characters::dialect::Dialect;
+use dotenv_format::dialect::Dialect;
 use std::alloc::Allocator;
 
 /// Whether a load keeps the values of names that are there, or replaces them.

@@ -10,7 +10,7 @@ ghost use Rattle.dotenv_items.specs.inside.ValuePasses.{saturated, Measures, Mea
 use crate::remembered::{Remembered, recall};
 use dotenv_base::environment::Environment;
 use dotenv_base::errors::Result;
-use dotenv_characters::dialect::Dialect;
+use dotenv_format::dialect::Dialect;
 use dotenv_format::text::Quoting;
 use dotenv_format::value::{NextPiece, Piece, next_piece};
 use std::alloc::Allocator;

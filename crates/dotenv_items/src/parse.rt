@@ -1,7 +1,7 @@
 // What one logical line says.
 ghost use Rattle.std.specs.Prelude.{◌≡◌, ◌⊎◌, ◌<◌, ◌++◌, not, length, List, ℕ, IfOk, IfErr};
 ghost use Rattle.std.specs.Str.{chars};
-ghost use Rattle.dotenv_characters.specs.Characters.{byte_len};
+ghost use Rattle.dotenv_format.specs.Characters.{byte_len};
 ghost use Rattle.dotenv_format.specs.Outcome.{Outcome, Says, value_index};
 ghost use Rattle.dotenv_base.specs.Errors.{IsMemory, IsMemoryErr};
 ghost use Rattle.dotenv_items.specs.Remembered.{remembered_of};
@@ -14,7 +14,7 @@ use crate::meaning::Names;
 use crate::remembered::{Remembered, remember};
 use dotenv_base::environment::Environment;
 use dotenv_base::errors::{Result, fault_error};
-use dotenv_characters::dialect::Dialect;
+use dotenv_format::dialect::Dialect;
 use dotenv_format::statement::split_statement;
 use dotenv_format::text::{char_count, is_empty_or_comment};
 use std::alloc::Allocator;

@@ -2,8 +2,8 @@
 
 ghost use Rattle.std.specs.Prelude.{◌≡◌, ◌≤◌, ◌+◌, ◌++◌, ◌∷◌, [], length, filter, IfOk, IfErr, IsTrue, chars, encode_utf8_all, string_bytes, string_len};
 ghost use Rattle.std.specs.String.{string_capacity};
-ghost use Rattle.dotenv_characters.specs.Keys.{is_key};
-ghost use Rattle.dotenv_characters.specs.Characters.{byte_len};
+ghost use Rattle.dotenv_format.specs.Keys.{is_key};
+ghost use Rattle.dotenv_format.specs.Characters.{byte_len};
 ghost use Rattle.dotenv_items.specs.inside.ValuePasses.{saturated};
 ghost use Rattle.dotenv_base.specs.Errors.{IsIoOf};
 ghost use Rattle.dotenv_format.specs.Written.{needs_backslash, written_character, written_text, written_bytes};
@@ -17,7 +17,7 @@ use dotenv_base::environment::Environment;
 use dotenv_base::errors::Result;
 use dotenv_base::output::{MOST_WRITES, write_all};
 use dotenv_base::source::{Sink, Source};
-use dotenv_characters::dialect::Dialect;
+use dotenv_format::dialect::Dialect;
 use dotenv_format::text::{Class, Quoting, split_first, split_while};
 use memchr::memchr3_iter;
 use std::alloc::{AllocError, Allocator};

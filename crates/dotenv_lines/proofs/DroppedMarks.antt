@@ -21,12 +21,12 @@ use Rattle.std.proofs.Common.{
 use Rattle.std.proofs.lemmas.Bool.{ltb-true}
 use Rattle.std.specs.Prelude.{◌==◌, nat_eq, nat_lt}
 use Rattle.std.specs.List.{starts_with}
-use Rattle.dotenv_characters.specs.declared.dialect.Dialect.{Dialect}
+use Rattle.dotenv_format.specs.declared.dialect.Dialect.{Dialect}
 use Rattle.dotenv_format.specs.Decided.{up_to_last_line_feed, HasDecided}
 use Rattle.dotenv_format.specs.Marks.{byte_order_mark, without_mark}
 use Rattle.dotenv_lines.specs.Input.{begins_mark}
 use Rattle.dotenv_format.specs.PhysicalLines.{line_texts}
-use Rattle.dotenv_characters.proofs.Basics.{and_left, and_right, same_from, if_true, if_false}
+use Rattle.dotenv_format.proofs.Basics.{and_left, and_right, same_from, if_true, if_false}
 use Rattle.dotenv_lines.proofs.LineEntries.{decided-none}
 
 -- bytes that are a front of a byte order mark, but not all of it, have no line feed once a mark is off

@@ -54,11 +54,12 @@ use Rattle.std.specs.declared.io.ErrorKind.{ErrorKind}
 use Rattle.std.specs.declared.io.Error.{Error as IoError}
 use Rattle.dotenv_base.specs.declared.errors.Error.{Error}
 use Rattle.dotenv_base.specs.declared.errors.Error.TheVariants.{LineParse, Io, EnvVar, Nul, Memory}
-use Rattle.dotenv_characters.specs.Characters.{line_feed}
+use Rattle.dotenv_format.specs.Characters.{line_feed}
 use Rattle.dotenv_format.specs.PhysicalLines.{no_line_feed, is_whole_line}
 use Rattle.dotenv_format.specs.Marks.{byte_order_mark, without_mark}
 use Rattle.dotenv_base.specs.Source.{Ahead}
-use Rattle.dotenv_characters.proofs.Basics.{and_left, and_right, nil_of}
+use Rattle.dotenv_base.proofs.Basics.{nil_of}
+use Rattle.dotenv_format.proofs.Basics.{and_left, and_right}
 use Rattle.dotenv_base.specs.Errors.{IsMemory, IsIoOf}
 use Rattle.dotenv_lines.specs.Input.{
   InputState,

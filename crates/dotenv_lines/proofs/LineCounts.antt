@@ -20,7 +20,7 @@ use Rattle.std.proofs.Common.{
 }
 use Rattle.std.proofs.lemmas.List.{length-map}
 use Rattle.std.specs.declared.io.ErrorKind.{ErrorKind}
-use Rattle.dotenv_characters.specs.declared.dialect.Dialect.{Dialect}
+use Rattle.dotenv_format.specs.declared.dialect.Dialect.{Dialect}
 use Rattle.dotenv_format.specs.PhysicalLines.{physical_lines, line_text, line_texts}
 use Rattle.dotenv_format.specs.LogicalLine.{Logical, Skip, Text, Open, Broken}
 use Rattle.dotenv_format.specs.Outcome.{Outcome, Nothing, Pair, Fault}

@@ -2,7 +2,7 @@
 use Rattle.std.proofs.Common.{◌≡◌, ℕ, length, arith, List, [], ◌∷◌, ◌++◌, Option, Some, None, refl, sym, ap, subst}
 use Rattle.std.proofs.lemmas.Option.{none-some}
 use Rattle.std.specs.declared.io.ErrorKind.{ErrorKind}
-use Rattle.dotenv_characters.specs.declared.dialect.Dialect.{Dialect}
+use Rattle.dotenv_format.specs.declared.dialect.Dialect.{Dialect}
 use Rattle.dotenv_format.specs.LogicalLine.{Logical, Skip, Text, Open, Broken, IsOpenEnd}
 use Rattle.dotenv_format.specs.Entries.{Entry, AreLogicalLines, Gives, GiveAll, HasEntries}
 use Rattle.dotenv_format.specs.Decided.{up_to_last_line_feed, without_open_end, HasDecided}

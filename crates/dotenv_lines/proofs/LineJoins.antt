@@ -56,7 +56,7 @@ use Rattle.dotenv_lines.specs.declared.lines.Joined.{Joined}
 use Rattle.dotenv_lines.specs.declared.lines.Joined.TheVariants.{Nothing, Skipped, Whole, OpenEnd, BrokenLine}
 use Rattle.dotenv_lines.specs.declared.lines.Stage.{Stage}
 use Rattle.dotenv_lines.specs.declared.lines.Stage.TheVariants.{Open as stage_open, Ended}
-use Rattle.dotenv_characters.specs.Characters.{begins_with, hash, line_feed, byte_len}
+use Rattle.dotenv_format.specs.Characters.{begins_with, hash, line_feed, byte_len}
 use Rattle.dotenv_format.specs.PhysicalLines.{
   no_line_feed,
   physical_lines,
@@ -115,7 +115,7 @@ use Rattle.dotenv_lines.proofs.NumberedLines.{counts_one}
 use Rattle.dotenv_lines.specs.inside.TakenLine.{LineMakes}
 use Rattle.dotenv_format.proofs.lines.Scans as scans
 use Rattle.dotenv_format.proofs.lines.Scans.{stops, scan, scan-reads, Reads, Read}
-use Rattle.dotenv_characters.proofs.Basics.{and_left, and_right}
+use Rattle.dotenv_format.proofs.Basics.{and_left, and_right}
 use Rattle.dotenv_format.proofs.lines.Cuts.{concat-lines}
 use Rattle.dotenv_format.proofs.lines.NextLine.{whole_line, last_line, ends_line, whole_ends, ends_join, one_next}
 use Rattle.dotenv_format.proofs.lines.EntriesOnce.{cut_line_texts, whole_chars, one_last}

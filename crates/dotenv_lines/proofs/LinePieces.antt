@@ -62,13 +62,14 @@ use Rattle.std.proofs.lemmas.Str.{
   IsCharBoundary-from_take,
 }
 use Rattle.dotenv_lines.specs.declared.physical_line.After.TheVariants.{LineEnd, InputEnd, Broken, Unread}
-use Rattle.dotenv_characters.specs.Characters.{line_feed}
+use Rattle.dotenv_format.specs.Characters.{line_feed}
 use Rattle.dotenv_format.specs.PhysicalLines.{is_whole_line, no_line_feed}
 use Rattle.dotenv_base.specs.Source.{Ahead}
 use Rattle.dotenv_lines.specs.Input.{InputState, IsAllRead, IsLinePiece, drop_left, used_up}
 use Rattle.dotenv_lines.specs.inside.TakenLine.{IsTextFront, PieceFalls, Stands, TakesPiece, after_text}
 use Rattle.std.proofs.Math.Seq.{drop-append_seam}
-use Rattle.dotenv_characters.proofs.Basics.{and_left, and_right, nil_of, more_some}
+use Rattle.dotenv_base.proofs.Basics.{nil_of, more_some}
+use Rattle.dotenv_format.proofs.Basics.{and_left, and_right}
 use Rattle.dotenv_format.proofs.lines.LineTexts.{char_text}
 use Rattle.dotenv_format.proofs.lines.EntriesOnce.{ten}
 use Rattle.dotenv_lines.proofs.Inputs.{ahead_of}

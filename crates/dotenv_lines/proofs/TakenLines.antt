@@ -37,7 +37,7 @@ use Rattle.dotenv_lines.specs.declared.physical_line.Progress.TheVariants.{Blank
 use Rattle.dotenv_lines.specs.declared.physical_line.After.{After}
 use Rattle.dotenv_lines.specs.declared.physical_line.After.TheVariants.{LineEnd, InputEnd, Broken, Unread}
 use Rattle.dotenv_lines.specs.declared.physical_line.Taken.TheVariants.{Broken as taken_broken}
-use Rattle.dotenv_characters.specs.Characters.{begins_with, hash}
+use Rattle.dotenv_format.specs.Characters.{begins_with, hash}
 use Rattle.dotenv_format.specs.PhysicalLines.{no_line_feed, is_whole_line}
 use Rattle.dotenv_format.specs.inside.Walk.{walk}
 use Rattle.dotenv_base.specs.Source.{Ahead}

@@ -38,12 +38,13 @@ use Rattle.dotenv_format.specs.declared.walk.LineMode.TheVariants.{
 }
 use Rattle.dotenv_lines.specs.declared.physical_line.Progress.{Progress}
 use Rattle.dotenv_lines.specs.declared.physical_line.Progress.TheVariants.{Blank, Going, Ended, Comment}
-use Rattle.dotenv_characters.specs.Characters.{begins_with, hash, backslash, is_blank, is_quote, line_feed}
+use Rattle.dotenv_format.specs.Characters.{begins_with, hash, backslash, is_blank, is_quote, line_feed}
 use Rattle.dotenv_format.specs.Tokens.{stands_for_itself}
 use Rattle.dotenv_format.specs.PhysicalLines.{no_line_feed}
 use Rattle.dotenv_format.specs.inside.Walk.{ended, walk, walked, leads, leads_outside}
 use Rattle.dotenv_lines.specs.inside.TakenLine.{IsNoComment, WalksOn, WalksFrom, still_blank}
-use Rattle.dotenv_characters.proofs.Basics.{and_right, more_some, same_from}
+use Rattle.dotenv_base.proofs.Basics.{more_some}
+use Rattle.dotenv_format.proofs.Basics.{and_right, same_from}
 use Rattle.dotenv_format.proofs.lines.LineTexts.{walk-more}
 
 -- a walk stays where it ended

@@ -2,7 +2,7 @@
 ghost use Rattle.std.specs.Prelude.{◌≡◌, ◌≤◌, ◌<◌, ◌++◌, true, ℕ, List, [], IfOk, IfErr, IsOk, OnOk, length, string_bytes};
 ghost use Rattle.std.specs.Str.{chars, skip_leading_whitespace};
 ghost use Rattle.dotenv_base.specs.Source.{Ahead};
-ghost use Rattle.dotenv_characters.specs.Characters.{begins_with, hash};
+ghost use Rattle.dotenv_format.specs.Characters.{begins_with, hash};
 ghost use Rattle.dotenv_format.specs.PhysicalLines.{no_line_feed};
 ghost use Rattle.dotenv_format.specs.LogicalLine.{without_carriage_return};
 ghost use Rattle.dotenv_format.specs.inside.Walk.{kept_before};

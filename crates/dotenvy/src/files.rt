@@ -11,7 +11,7 @@ use crate::find::{Finder, open};
 use dotenv_base::environment::Environment;
 use dotenv_base::errors::Result;
 use dotenv_base::source::Plain;
-use dotenv_characters::dialect::Dialect;
+use dotenv_format::dialect::Dialect;
 use dotenv_items::iter::{Iter, from_read, from_read_iter, from_read_override};
 use std::alloc::{Alloc, Allocator};
 use std::env::Env;

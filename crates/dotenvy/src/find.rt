@@ -9,7 +9,7 @@ use dotenv_base::errors::{Error, Result, or_memory};
 use dotenv_base::search;
 use dotenv_base::search::Look;
 use dotenv_base::source::Plain;
-use dotenv_characters::dialect::Dialect;
+use dotenv_format::dialect::Dialect;
 use dotenv_items::iter::Iter;
 use std::alloc::{Alloc, Allocator};
 use std::env::Env;

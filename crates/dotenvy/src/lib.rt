@@ -6,11 +6,12 @@ mod find;
 mod first_use;
 pub mod laws;
 
-pub use dotenv_base::environment::{Environment, Pairs, Vars, is_key, is_name};
+pub use dotenv_base::environment::{Environment, Pairs, Vars, is_name};
 pub use dotenv_base::errors::{Error, Result, VarError};
 pub use dotenv_base::source::{Bytes, Plain, Sink, Source};
-pub use dotenv_characters::dialect::Dialect;
+pub use dotenv_format::dialect::Dialect;
 pub use dotenv_items::iter::{Items, Iter, from_read, from_read_iter, from_read_override};
+pub use dotenv_items::keys::is_key;
 pub use dotenv_items::written::{list, list_with, write_pair};
 pub use files::{
     dotenv, dotenv_iter, dotenv_override, from_filename, from_filename_iter,
@@ -20,7 +21,8 @@ pub use first_use::{var, vars};
 
 /// Environments: names with their values.
 pub mod environment {
-    pub use dotenv_base::environment::{Environment, Pairs, Vars, is_key, is_name};
+    pub use dotenv_base::environment::{Environment, Pairs, Vars, is_name};
+    pub use dotenv_items::keys::is_key;
 }
 
 /// The search for a file, over what the caller sees at a path.

@@ -1,6 +1,6 @@
 -- What a call of `add` adds: a load that was accepted, one that was refused, or nothing for want of memory.
 use Rattle.std.proofs.Common.{◌≡◌, [], ◌∷◌, Option, Some, None, Result, Err, refl, sym, subst, inl, inr}
-use Rattle.dotenv_characters.specs.declared.dialect.Dialect.TheVariants.{V15}
+use Rattle.dotenv_format.specs.declared.dialect.Dialect.TheVariants.{V15}
 use Rattle.dotenv_base.specs.declared.errors.Error.{Error}
 use Rattle.dotenv_format.specs.Entries.{Fails, Memory}
 use Rattle.dotenv_base.specs.Environment.{Texts}

@@ -1,7 +1,7 @@
 -- Laws of layers: what calls of `add` come to.
 use Rattle.std.specs.Prelude.{ℕ, ◌≡◌, ◌<◌, ◌^◌, Bool, List, length, filter, Option, Some, None, Result, Ok, is_ok}
 use Rattle.std.specs.List.{FoldsTo}
-use Rattle.dotenv_characters.specs.declared.dialect.Dialect.TheVariants.{V15}
+use Rattle.dotenv_format.specs.declared.dialect.Dialect.TheVariants.{V15}
 use Rattle.dotenv_base.specs.declared.errors.Error.{Error}
 use Rattle.dotenv_format.specs.Entries.{Entry, HasEntries}
 use Rattle.dotenv_base.specs.Environment.{Texts}

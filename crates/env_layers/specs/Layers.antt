@@ -1,6 +1,6 @@
 -- What a layer does to an environment.
 use Rattle.std.specs.Prelude.{◌≡◌, Option, None, Result, Ok, Err}
-use Rattle.dotenv_characters.specs.declared.dialect.Dialect.TheVariants.{V15}
+use Rattle.dotenv_format.specs.declared.dialect.Dialect.TheVariants.{V15}
 use Rattle.dotenv_base.specs.declared.errors.Error.{Error}
 use Rattle.dotenv_base.specs.Environment.{Texts}
 use Rattle.dotenv_items.specs.Iter.{fresh}

@@ -2,8 +2,8 @@
 use Rattle.std.proofs.Common.{◌≡◌, ℕ, ◌<◌, ◌≤◌, Bool, true, false, sym, ◌∙◌, arith}
 use Rattle.std.proofs.Math.Utf8.{encode}
 use Rattle.std.proofs.lemmas.Bool.Decides.{nat_tests}
-use Rattle.dotenv_characters.specs.declared.dialect.Dialect.{Dialect}
-use Rattle.dotenv_characters.specs.declared.dialect.Dialect.TheVariants.{V15, Next}
+use Rattle.dotenv_format.specs.declared.dialect.Dialect.{Dialect}
+use Rattle.dotenv_format.specs.declared.dialect.Dialect.TheVariants.{V15, Next}
 use Rattle.dotenv_format.specs.declared.text.Class.{Class}
 use Rattle.dotenv_format.specs.declared.text.Class.TheVariants.{
   Key,
@@ -17,7 +17,7 @@ use Rattle.dotenv_format.specs.declared.text.Class.TheVariants.{
 use Rattle.dotenv_format.specs.declared.text.Quoting.{Quoting as CodeQuoting}
 use Rattle.dotenv_format.specs.declared.text.Quoting.TheVariants.{Unquoted, DoubleQuoted}
 use Rattle.std.specs.Prelude.{◌==◌}
-use Rattle.dotenv_characters.specs.Characters.{double_quote, continues_key, is_name_character, is_space_or_tab}
+use Rattle.dotenv_format.specs.Characters.{double_quote, continues_key, is_name_character, is_space_or_tab}
 use Rattle.dotenv_format.specs.inside.Slices.{has_character, in_run, is_name_byte, is_token_byte, quoting_of}
 use Rattle.dotenv_format.specs.Value.{is_plain}
 use Rattle.std.proofs.lemmas.Bool.{false≢true}

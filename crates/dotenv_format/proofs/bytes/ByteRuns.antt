@@ -61,10 +61,10 @@ use Rattle.std.proofs.lemmas.Str.{
 }
 use Rattle.memchr.specs.Find.{IsFirstByte, is_byte2, is_byte3}
 use Rattle.dotenv_format.specs.declared.text.Class.TheVariants.{Quoted}
-use Rattle.dotenv_characters.specs.Characters.{backslash, double_quote, dollar}
+use Rattle.dotenv_format.specs.Characters.{backslash, double_quote, dollar}
 use Rattle.dotenv_format.specs.Value.{is_plain_inside}
 use Rattle.dotenv_format.specs.inside.Slices.{BeginsWith, IsSpan, PassesBytes, PassesTo, begins_passing, in_run}
-use Rattle.dotenv_characters.proofs.Basics.{and_left, and_right, both, not_is, if_true, if_false}
+use Rattle.dotenv_format.proofs.Basics.{and_left, and_right, both, not_is, if_true, if_false}
 
 -- the first byte of a character
 abbrev pub lead : ℕ → ℕ

@@ -25,7 +25,7 @@ use Rattle.std.proofs.Common.{
 }
 use Rattle.std.specs.Bool.{beq}
 use Rattle.std.proofs.lemmas.Bool.{cases_lt}
-use Rattle.dotenv_characters.proofs.Basics.{and_left, and_right}
+use Rattle.dotenv_format.proofs.Basics.{and_left, and_right}
 
 -- the test passes below n
 unfoldable pub all_below : (ℕ → Bool) → ℕ → Bool

@@ -2,9 +2,9 @@
 use Rattle.std.proofs.Common.{◌≡◌, ℕ, ◌<◌, Bool, true, false, not, refl}
 use Rattle.std.specs.Prelude.{◌||◌}
 use Rattle.dotenv_format.proofs.bytes.ByteTables.{all_below, at_each}
-use Rattle.dotenv_characters.specs.declared.dialect.Dialect.{Dialect}
-use Rattle.dotenv_characters.specs.declared.dialect.Dialect.TheVariants.{V15, Next}
-use Rattle.dotenv_characters.specs.Characters.{is_name_character, dollar, left_brace, double_quote, space}
+use Rattle.dotenv_format.specs.declared.dialect.Dialect.{Dialect}
+use Rattle.dotenv_format.specs.declared.dialect.Dialect.TheVariants.{V15, Next}
+use Rattle.dotenv_format.specs.Characters.{is_name_character, dollar, left_brace, double_quote, space}
 use Rattle.dotenv_format.specs.inside.Slices.{is_name_byte}
 use Rattle.unicode.proofs.DerivedComputing.{ucd_derived}
 use Rattle.unicode.proofs.CategoryComputing.{ucd_category}

@@ -44,8 +44,8 @@ use Rattle.std.proofs.lemmas.Str.{
 }
 use Rattle.std.proofs.lemmas.List.{take-append-drop, append-nil}
 use Rattle.std.proofs.Common.{length-drop}
-use Rattle.dotenv_characters.specs.Characters.{begins_with}
-use Rattle.dotenv_characters.proofs.Basics.{both, same_from, not_false}
+use Rattle.dotenv_format.specs.Characters.{begins_with}
+use Rattle.dotenv_format.proofs.Basics.{both, same_from, not_false}
 use Rattle.dotenv_format.specs.inside.Slices.{BeginsWith, IsSpan, begins_passing}
 
 -- a text that begins with a character's bytes begins with that character, and a text follows

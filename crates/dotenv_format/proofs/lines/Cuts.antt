@@ -31,7 +31,7 @@ use Rattle.std.proofs.Math.Utf8.{encode, scalar, scalars}
 use Rattle.std.proofs.Common.{◌/◌, ◌%◌, ltb}
 use Rattle.dotenv_format.specs.PhysicalLines.{no_line_feed, physical_lines, onto_first, line_text, line_texts}
 use Rattle.dotenv_format.specs.LogicalLine.{joined_text, with_text_before}
-use Rattle.dotenv_characters.proofs.Basics.{same_from, and_left, and_right, both}
+use Rattle.dotenv_format.proofs.Basics.{same_from, and_left, and_right, both}
 
 -- the list of lines is not empty: it has a first line, and others
 abbrev pub IsSome : List (List ℕ) → Type 0

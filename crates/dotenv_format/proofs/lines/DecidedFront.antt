@@ -36,8 +36,8 @@ use Rattle.std.specs.Prelude.{◌≢◌, ◌==◌, IsTrue}
 use Rattle.std.specs.List.{flat_map}
 use Rattle.std.proofs.lemmas.List.{append-nil, map-append}
 use Rattle.std.proofs.lemmas.Bool.Decides.{nat_tests}
-use Rattle.dotenv_characters.specs.declared.dialect.Dialect.{Dialect}
-use Rattle.dotenv_characters.specs.Characters.{is_blank, line_feed}
+use Rattle.dotenv_format.specs.declared.dialect.Dialect.{Dialect}
+use Rattle.dotenv_format.specs.Characters.{is_blank, line_feed}
 use Rattle.dotenv_format.specs.PhysicalLines.{physical_lines, onto_first, line_text, line_texts, AreCut}
 use Rattle.dotenv_format.specs.Tokens.{
   Token,
@@ -76,7 +76,7 @@ use Rattle.dotenv_format.specs.LogicalLine.{
 use Rattle.dotenv_format.specs.Entries.{Entry, AreLogicalLines, GiveAll, HasEntries}
 use Rattle.dotenv_format.specs.Decided.{before_some, up_to_last_line_feed, without_open_end, HasDecided}
 use Rattle.dotenv_format.proofs.lines.Scans.{quote_no_line_feed}
-use Rattle.dotenv_characters.proofs.Basics.{not_is, same_from}
+use Rattle.dotenv_format.proofs.Basics.{not_is, same_from}
 use Rattle.dotenv_format.proofs.lines.Cuts.{IsSome, lines_some}
 use Rattle.dotenv_format.proofs.lines.NextLine.{
   ends_line,

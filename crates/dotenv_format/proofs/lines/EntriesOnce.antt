@@ -39,7 +39,7 @@ use Rattle.std.proofs.lemmas.Str.{IsUtf8-from_is_utf8, encodes-chars, encode_asc
 use Rattle.std.proofs.lemmas.List.{append-nil}
 use Rattle.std.proofs.Math.Utf8.{encode}
 use Rattle.std.proofs.Common.{Ok}
-use Rattle.dotenv_characters.specs.declared.dialect.Dialect.{Dialect}
+use Rattle.dotenv_format.specs.declared.dialect.Dialect.{Dialect}
 use Rattle.dotenv_format.specs.PhysicalLines.{
   no_line_feed,
   physical_lines,
@@ -54,7 +54,7 @@ use Rattle.dotenv_format.specs.LogicalLine.{Logical, Skip, Text, Open, Broken, I
 use Rattle.dotenv_format.specs.Entries.{Entry, AreLogicalLines, outcome_entries, Gives, GiveAll, HasEntries}
 use Rattle.dotenv_format.specs.Items.{LookUp, items}
 use Rattle.dotenv_format.specs.Written.{written_text, AreWritable}
-use Rattle.dotenv_characters.proofs.Basics.{same_from, not_is, and_left, and_right, both}
+use Rattle.dotenv_format.proofs.Basics.{same_from, not_is, and_left, and_right, both}
 use Rattle.dotenv_format.proofs.lines.Cuts.{spelled}
 use Rattle.dotenv_format.proofs.lines.NextLine.{one_next, next_exists, some_lines, cut_later}
 use Rattle.dotenv_format.proofs.statements.Outcomes.{outcome_of, outcome_of-is, one_outcome}

@@ -18,7 +18,7 @@ use Rattle.std.proofs.Common.{
   subst,
 }
 use Rattle.std.proofs.lemmas.List.{drop-drop}
-use Rattle.dotenv_characters.specs.declared.dialect.Dialect.{Dialect}
+use Rattle.dotenv_format.specs.declared.dialect.Dialect.{Dialect}
 use Rattle.dotenv_format.specs.LogicalLine.{Logical, IsNext}
 use Rattle.dotenv_format.specs.Entries.{Entry, Gives, GiveAll, AreFirstLines}
 

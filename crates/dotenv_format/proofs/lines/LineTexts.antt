@@ -56,7 +56,7 @@ use Rattle.std.proofs.lemmas.Str.{
 use Rattle.dotenv_format.specs.declared.walk.LineMode.{LineMode}
 use Rattle.dotenv_format.specs.declared.walk.Walked.TheVariants.{Going, EndedAt}
 use Rattle.std.specs.List.{list_all}
-use Rattle.dotenv_characters.specs.Characters.{begins_with, hash, line_feed, backslash, is_blank, is_quote}
+use Rattle.dotenv_format.specs.Characters.{begins_with, hash, line_feed, backslash, is_blank, is_quote}
 use Rattle.dotenv_format.specs.LogicalLine.{without_carriage_return}
 use Rattle.dotenv_format.specs.inside.Walk.{Walk, going, leads, kept_before, ended, walked, walk, PassesRun, WalksText}
 use Rattle.dotenv_format.specs.declared.walk.LineMode.TheVariants.{
@@ -69,7 +69,7 @@ use Rattle.dotenv_format.specs.declared.walk.LineMode.TheVariants.{
 use Rattle.dotenv_format.specs.declared.text.Class.{Class}
 use Rattle.dotenv_format.specs.declared.text.Class.TheVariants.{Token, Quoted}
 use Rattle.dotenv_format.specs.inside.Slices.{BeginsWith, IsSpan, has_character}
-use Rattle.dotenv_characters.proofs.Basics.{and_left, and_right, same_from}
+use Rattle.dotenv_format.proofs.Basics.{and_left, and_right, same_from}
 
 -- a carriage return at the end goes
 return_goes : (xs : List ℕ) → without_carriage_return (xs ++ 13 ∷ []) ≡ xs

@@ -41,7 +41,7 @@ use Rattle.std.proofs.Math.Seq.{take-append_seam, take-length}
 use Rattle.std.proofs.lemmas.Bool.Decides.{nat_tests}
 use Rattle.std.proofs.lemmas.Bool.{cases_lt}
 use Rattle.std.specs.Str.{skip_leading_whitespace}
-use Rattle.dotenv_characters.specs.Characters.{begins_with, line_feed, backslash, hash, byte_len}
+use Rattle.dotenv_format.specs.Characters.{begins_with, line_feed, backslash, hash, byte_len}
 use Rattle.dotenv_format.specs.PhysicalLines.{physical_lines, onto_first, AreCut, is_whole_line, is_last_line}
 use Rattle.dotenv_format.specs.Tokens.{tokens_text}
 use Rattle.dotenv_format.specs.LogicalLine.{
@@ -66,7 +66,7 @@ use Rattle.dotenv_format.specs.LogicalLine.{
   IsText,
   IsNext,
 }
-use Rattle.dotenv_characters.proofs.Basics.{and_right}
+use Rattle.dotenv_format.proofs.Basics.{and_right}
 use Rattle.dotenv_format.proofs.lines.Cuts.{concat-lines, lines-append}
 use Rattle.dotenv_format.proofs.lines.Scans.{
   scan,

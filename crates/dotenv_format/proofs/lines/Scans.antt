@@ -23,7 +23,7 @@ use Rattle.std.proofs.Common.{
 use Rattle.std.specs.Prelude.{IsTrue, ◌==◌}
 use Rattle.std.specs.List.{flat_map, list_all}
 use Rattle.std.proofs.lemmas.Bool.Decides.{nat_tests}
-use Rattle.dotenv_characters.specs.Characters.{line_feed, backslash, hash, is_quote, is_blank}
+use Rattle.dotenv_format.specs.Characters.{line_feed, backslash, hash, is_quote, is_blank}
 use Rattle.dotenv_format.specs.Tokens.{
   QuotedCharacter,
   one,
@@ -42,7 +42,7 @@ use Rattle.dotenv_format.specs.Tokens.{
   AreTokens,
 }
 use Rattle.dotenv_format.specs.LogicalLine.{Ending, line_end, escaped_line_end, comment, input_end, ending_text}
-use Rattle.dotenv_characters.proofs.Basics.{and_left, and_right, both, not_is, not_or, same_from, when_true, when_false}
+use Rattle.dotenv_format.proofs.Basics.{and_left, and_right, both, not_is, not_or, same_from, when_true, when_false}
 
 -- where a reading stands: outside, behind a backslash, in quotes, behind a backslash there, behind a blank
 pub data ScanMode : Type 0 where

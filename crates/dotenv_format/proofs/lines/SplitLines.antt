@@ -38,7 +38,7 @@ use Rattle.std.specs.Str.{skip_leading_whitespace}
 use Rattle.std.proofs.lemmas.List.{append-nil, map-append}
 use Rattle.std.proofs.lemmas.List.Folds.{concat-append}
 use Rattle.std.proofs.Math.Seq.{take-append_seam}
-use Rattle.dotenv_characters.specs.Characters.{line_feed, hash, byte_len, begins_with}
+use Rattle.dotenv_format.specs.Characters.{line_feed, hash, byte_len, begins_with}
 use Rattle.dotenv_format.specs.PhysicalLines.{AreCut, is_whole_line, is_last_line}
 use Rattle.dotenv_format.specs.LogicalLine.{
   input_end,
@@ -56,7 +56,7 @@ use Rattle.dotenv_format.specs.LogicalLine.{
   IsText,
   IsNext,
 }
-use Rattle.dotenv_characters.proofs.Basics.{and_left, and_right}
+use Rattle.dotenv_format.proofs.Basics.{and_left, and_right}
 use Rattle.dotenv_format.proofs.lines.Cuts.{joined-texts}
 use Rattle.dotenv_format.proofs.lines.Scans as scans
 use Rattle.dotenv_format.proofs.lines.Scans.{Scan, stops, open_end, consed, scan}

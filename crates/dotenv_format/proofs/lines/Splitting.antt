@@ -26,7 +26,7 @@ use Rattle.std.proofs.Common.{
 use Rattle.std.specs.Prelude.{◌==◌}
 use Rattle.std.proofs.lemmas.List.{append-nil}
 use Rattle.std.proofs.Common.{inr}
-use Rattle.dotenv_characters.specs.Characters.{is_blank, is_quote, line_feed, backslash, hash}
+use Rattle.dotenv_format.specs.Characters.{is_blank, is_quote, line_feed, backslash, hash}
 use Rattle.dotenv_format.specs.Tokens.{tokens_text, stands_for_itself}
 use Rattle.dotenv_format.specs.LogicalLine.{
   Ending,
@@ -50,7 +50,7 @@ use Rattle.dotenv_format.specs.declared.walk.LineMode.TheVariants.{
   AfterBlank,
 }
 use Rattle.dotenv_format.specs.inside.Walk.{leads_outside, leads, kept_before, Walk, going, ended, walked, walk}
-use Rattle.dotenv_characters.proofs.Basics.{same_from, when_true, when_false}
+use Rattle.dotenv_format.proofs.Basics.{same_from, when_true, when_false}
 use Rattle.dotenv_format.proofs.lines.Scans as scans
 use Rattle.dotenv_format.proofs.lines.Scans.{
   Scan,

@@ -35,7 +35,7 @@ use Rattle.dotenv_format.specs.Run.{Loaded, Keep, Replace, after_declaration, ru
 use Rattle.dotenv_format.specs.Loads.{load_result, override_result, SameLoad}
 use Rattle.dotenv_format.specs.Laws.{AgreeOn, AgreeIn, IsOverridden}
 use Rattle.dotenv_format.proofs.loads.LoadLaws.{meaning-same, run-keep, run-replace}
-use Rattle.dotenv_characters.proofs.Basics.{if_true, if_false}
+use Rattle.dotenv_format.proofs.Basics.{if_true, if_false}
 
 -- a value that is there is not absent
 some_none : (x : Option (List ℕ)) (v : List ℕ) → x ≡ Some v → is_none x ≡ true → ⊥

@@ -22,8 +22,8 @@ use Rattle.std.proofs.Common.{
 }
 use Rattle.std.specs.Prelude.{IsTrue}
 use Rattle.std.specs.Str.{drop_trailing_whitespace}
-use Rattle.dotenv_characters.specs.declared.dialect.Dialect.{Dialect}
-use Rattle.dotenv_characters.specs.Characters.{byte_len, is_empty_or_comment}
+use Rattle.dotenv_format.specs.declared.dialect.Dialect.{Dialect}
+use Rattle.dotenv_format.specs.Characters.{byte_len, is_empty_or_comment}
 use Rattle.dotenv_format.specs.Statement.{IsStatement}
 use Rattle.dotenv_format.specs.Value.{unquoted, Piece, IsValue}
 use Rattle.dotenv_format.specs.Places.{BeginsStatement, BeginsValue, IsPlace}

@@ -29,7 +29,7 @@ use Rattle.std.specs.Str.{skip_leading_whitespace}
 use Rattle.std.specs.Cmp.Lexicographic.{same_text}
 use Rattle.std.proofs.lemmas.List.{append-nil}
 use Rattle.std.proofs.Math.Seq.{take-append_seam}
-use Rattle.dotenv_characters.specs.Characters.{begins_key, continues_key, equals_sign, byte_len}
+use Rattle.dotenv_format.specs.Characters.{begins_key, continues_key, equals_sign, byte_len}
 use Rattle.dotenv_format.specs.Statement.{IsStatement}
 use Rattle.dotenv_format.specs.Places.{BeginsStatement, IsPlace}
 use Rattle.dotenv_format.proofs.statements.Statements.{
@@ -68,7 +68,7 @@ use Rattle.dotenv_format.specs.inside.ParseStatement.{
   after_first_key,
   parse,
 }
-use Rattle.dotenv_characters.proofs.Basics.{when_true, when_false}
+use Rattle.dotenv_format.proofs.Basics.{when_true, when_false}
 
 -- a fault in a text, read from the mode: nothing is read, and this is left, from the place on
 pub record FailsAt (m : StatementMode) (text left : List ℕ) : Type 0 where

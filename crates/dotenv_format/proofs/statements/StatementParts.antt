@@ -35,12 +35,12 @@ use Rattle.std.specs.Str.{
 }
 use Rattle.std.proofs.lemmas.Str.{chars-encodes, scalars-chars, encodes-chars}
 use Rattle.std.proofs.lemmas.Bool.Decides.{nat_tests}
-use Rattle.dotenv_characters.proofs.Basics.{and_left, and_right, both, not_is, if_true, if_false}
-use Rattle.dotenv_characters.specs.Characters.{begins_key, continues_key, equals_sign}
+use Rattle.dotenv_format.proofs.Basics.{and_left, and_right, both, not_is, if_true, if_false}
+use Rattle.dotenv_format.specs.Characters.{begins_key, continues_key, equals_sign}
 use lib.Utf8.{scalar, encode}
 use Rattle.dotenv_format.specs.inside.Slices.{IsSpan, begins_passing}
 use Rattle.dotenv_format.specs.inside.ParseStatement.{export, Parsed, fails, key_run, key_left, key_then, equals_then}
-use Rattle.dotenv_characters.proofs.KeyCharacters.{key_begins_continues}
+use Rattle.dotenv_format.proofs.KeyCharacters.{key_begins_continues}
 
 -- characters that are the same pass the test for that
 pub same : (c d : ℕ) → c ≡ d → (c == d) ≡ true

@@ -18,7 +18,7 @@ use Rattle.std.proofs.Common.{
   subst,
   take,
 }
-use Rattle.dotenv_characters.specs.Characters.{equals_sign}
+use Rattle.dotenv_format.specs.Characters.{equals_sign}
 use Rattle.dotenv_format.specs.Statement.{IsStatement}
 use Rattle.dotenv_format.specs.Places.{BeginsStatement, IsPlace}
 use Rattle.dotenv_format.proofs.statements.Statements.{

@@ -31,10 +31,10 @@ use Rattle.std.specs.Char.{is_whitespace}
 use Rattle.std.specs.Cmp.Lexicographic.{same_text}
 use Rattle.std.proofs.lemmas.List.{append-nil}
 use Rattle.std.proofs.lemmas.Bool.Decides.{nat_tests}
-use Rattle.dotenv_characters.specs.Characters.{begins_key, continues_key, equals_sign}
+use Rattle.dotenv_format.specs.Characters.{begins_key, continues_key, equals_sign}
 use Rattle.dotenv_format.specs.Statement.{IsStatement, IsPrefix, is_white_space, begins_with_white_space}
-use Rattle.dotenv_characters.specs.Keys.{is_key}
-use Rattle.dotenv_characters.proofs.Basics.{and_left, and_right, both, some_same, same_from, when_true, when_false}
+use Rattle.dotenv_format.specs.Keys.{is_key}
+use Rattle.dotenv_format.proofs.Basics.{and_left, and_right, both, some_same, same_from, when_true, when_false}
 use Rattle.dotenv_format.proofs.writing.ReadBack.{begins_key_visible}
 use Rattle.dotenv_format.specs.inside.ParseStatement.{export}
 

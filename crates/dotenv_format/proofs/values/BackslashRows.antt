@@ -38,16 +38,16 @@ use Rattle.std.specs.Str.{chars, encode_utf8_all, IsUtf8, IsCharBoundary}
 use Rattle.std.proofs.lemmas.List.{take-append-drop}
 use Rattle.std.proofs.lemmas.List.Sums.{prefix_len-le-length, prefix_len_passes}
 use Rattle.std.proofs.lemmas.Str.{chars-append, chars-encodes, IsUtf8-take, IsUtf8-drop, IsCharBoundary-after_ascii}
-use Rattle.dotenv_characters.specs.declared.dialect.Dialect.{Dialect}
+use Rattle.dotenv_format.specs.declared.dialect.Dialect.{Dialect}
 use Rattle.dotenv_format.specs.declared.text.Quoting.{Quoting as CodeQuoting}
 use Rattle.dotenv_format.specs.declared.value.Piece.TheVariants.{Text as CodeText}
-use Rattle.dotenv_characters.specs.Characters.{backslash}
+use Rattle.dotenv_format.specs.Characters.{backslash}
 use Rattle.dotenv_format.specs.inside.Slices.{quoting_of}
 use Rattle.dotenv_format.specs.Value.{Quoting, unquoted, double_quoted, Piece, Text}
 use Rattle.dotenv_format.specs.Items.{LookUp, meaning}
 use Rattle.dotenv_format.specs.inside.ReadValue.{base, escaping, value_goes}
 use Rattle.dotenv_format.specs.inside.NextPiece.{IsReadTo, GivesPiece}
-use Rattle.dotenv_characters.proofs.Basics.{and_left, and_right, both, same_from}
+use Rattle.dotenv_format.proofs.Basics.{and_left, and_right, both, same_from}
 use Rattle.dotenv_format.proofs.values.NextPiece.{one, read_further}
 
 -- the character is a backslash

@@ -40,7 +40,7 @@ use Rattle.std.specs.Char.{encode_utf8}
 use Rattle.std.specs.Str.{chars, encode_utf8_all, IsUtf8}
 use Rattle.std.proofs.lemmas.List.{append-nil}
 use Rattle.std.proofs.lemmas.Str.{encodes-chars, encodes-append}
-use Rattle.dotenv_characters.specs.declared.dialect.Dialect.{Dialect}
+use Rattle.dotenv_format.specs.declared.dialect.Dialect.{Dialect}
 use Rattle.dotenv_format.specs.declared.text.Quoting.{Quoting as CodeQuoting}
 use Rattle.dotenv_format.specs.declared.text.Quoting.TheVariants.{Unquoted, DoubleQuoted}
 use Rattle.dotenv_format.specs.declared.value.Kind.{Kind}
@@ -55,7 +55,7 @@ use Rattle.dotenv_format.specs.declared.value.Kind.TheVariants.{
 use Rattle.dotenv_format.specs.declared.value.Piece.TheVariants.{Text as CodeText, Name as CodeName}
 use Rattle.dotenv_format.specs.declared.value.NextPiece.{NextPiece}
 use Rattle.dotenv_format.specs.declared.value.NextPiece.TheVariants.{Piece as GivesNext, End, Unfinished, Fault}
-use Rattle.dotenv_characters.specs.Characters.{
+use Rattle.dotenv_format.specs.Characters.{
   single_quote,
   double_quote,
   dollar,
@@ -112,7 +112,7 @@ use Rattle.dotenv_format.specs.inside.NextPiece.{
   NextPieceIs,
   IsShorter,
 }
-use Rattle.dotenv_characters.proofs.Basics.{and_left, and_right, not_is, when_true, when_false, same_from}
+use Rattle.dotenv_format.proofs.Basics.{and_left, and_right, not_is, when_true, when_false, same_from}
 use Rattle.dotenv_format.proofs.values.Values.{
   given-given,
   given-nil,

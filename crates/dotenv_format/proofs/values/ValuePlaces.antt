@@ -19,9 +19,9 @@ use Rattle.std.proofs.Common.{
   subst,
   take,
 }
-use Rattle.dotenv_characters.specs.declared.dialect.Dialect.{Dialect}
-use Rattle.dotenv_characters.specs.declared.dialect.Dialect.TheVariants.{V15, Next}
-use Rattle.dotenv_characters.specs.Characters.{single_quote, double_quote, right_brace}
+use Rattle.dotenv_format.specs.declared.dialect.Dialect.{Dialect}
+use Rattle.dotenv_format.specs.declared.dialect.Dialect.TheVariants.{V15, Next}
+use Rattle.dotenv_format.specs.Characters.{single_quote, double_quote, right_brace}
 use Rattle.dotenv_format.specs.Value.{
   Quoting,
   unquoted,

@@ -27,9 +27,9 @@ use Rattle.std.specs.Prelude.{◌==◌}
 use Rattle.std.specs.List.{flat_map, list_all}
 use Rattle.std.proofs.lemmas.List.{append-nil}
 use Rattle.std.proofs.lemmas.Bool.Decides.{nat_tests}
-use Rattle.dotenv_characters.specs.declared.dialect.Dialect.{Dialect}
-use Rattle.dotenv_characters.specs.declared.dialect.Dialect.TheVariants.{V15, Next}
-use Rattle.dotenv_characters.specs.Characters.{
+use Rattle.dotenv_format.specs.declared.dialect.Dialect.{Dialect}
+use Rattle.dotenv_format.specs.declared.dialect.Dialect.TheVariants.{V15, Next}
+use Rattle.dotenv_format.specs.Characters.{
   is_space_or_tab,
   is_name_character,
   is_empty_or_comment,
@@ -85,7 +85,7 @@ use Rattle.dotenv_format.specs.Value.{
   IsClose,
   IsValue,
 }
-use Rattle.dotenv_characters.proofs.Basics.{and_left, and_right, both, not_is, not_or, same_from, when_true, when_false}
+use Rattle.dotenv_format.proofs.Basics.{and_left, and_right, both, not_is, not_or, same_from, when_true, when_false}
 use Rattle.dotenv_format.proofs.bytes.NameCharacters.{dollar_no_name, brace_no_name, quote_no_name}
 use Rattle.dotenv_format.specs.inside.ReadValue.{
   ValueMode,

@@ -30,8 +30,8 @@ use Rattle.std.proofs.lemmas.List.{append-nil}
 use Rattle.std.proofs.Common.{length}
 use Rattle.std.specs.Char.{is_whitespace}
 use Rattle.std.proofs.lemmas.Bool.Decides.{nat_tests}
-use Rattle.dotenv_characters.specs.declared.dialect.Dialect.{Dialect}
-use Rattle.dotenv_characters.specs.Characters.{double_quote, backslash, equals_sign, begins_key, continues_key}
+use Rattle.dotenv_format.specs.declared.dialect.Dialect.{Dialect}
+use Rattle.dotenv_format.specs.Characters.{double_quote, backslash, equals_sign, begins_key, continues_key}
 use Rattle.dotenv_format.specs.Value.{
   double_quoted,
   Piece,
@@ -50,11 +50,11 @@ use Rattle.dotenv_format.specs.Value.{
   IsValue,
 }
 use Rattle.dotenv_format.specs.Statement.{IsStatement}
-use Rattle.dotenv_characters.specs.Keys.{is_key}
+use Rattle.dotenv_format.specs.Keys.{is_key}
 use Rattle.dotenv_format.specs.Outcome.{Pair, Says, is_nothing}
 use Rattle.dotenv_format.specs.Items.{LookUp, meaning}
 use Rattle.dotenv_format.specs.Written.{needs_backslash, written_character}
-use Rattle.dotenv_characters.proofs.Basics.{and_left}
+use Rattle.dotenv_format.proofs.Basics.{and_left}
 
 -- the part that writes a character: its escape where it needs a backslash, else the character itself
 abbrev part_of : ℕ → Part

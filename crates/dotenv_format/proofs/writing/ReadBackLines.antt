@@ -35,8 +35,8 @@ use Rattle.std.proofs.lemmas.List.{append-nil, map-append}
 use Rattle.std.proofs.lemmas.Bool.Decides.{nat_tests}
 use Rattle.std.proofs.Math.Seq.{take-append_seam, drop-append_seam}
 use Rattle.std.proofs.Math.Utf8.{scalars}
-use Rattle.dotenv_characters.specs.declared.dialect.Dialect.{Dialect}
-use Rattle.dotenv_characters.specs.Characters.{
+use Rattle.dotenv_format.specs.declared.dialect.Dialect.{Dialect}
+use Rattle.dotenv_format.specs.Characters.{
   double_quote,
   backslash,
   equals_sign,
@@ -70,12 +70,12 @@ use Rattle.dotenv_format.specs.LogicalLine.{
   Logical,
   Text,
 }
-use Rattle.dotenv_characters.specs.Keys.{is_key}
+use Rattle.dotenv_format.specs.Keys.{is_key}
 use Rattle.dotenv_format.specs.Outcome.{Pair}
 use Rattle.dotenv_format.specs.Entries.{Entry, Declares, AreLogicalLines, GiveAll, HasEntries}
 use Rattle.dotenv_format.specs.Items.{LookUp, no_values, items, items_from, or_else, with_value}
 use Rattle.dotenv_format.specs.Written.{needs_backslash, written_character, written_pair, written_text}
-use Rattle.dotenv_characters.proofs.Basics.{and_left, and_right}
+use Rattle.dotenv_format.proofs.Basics.{and_left, and_right}
 use Rattle.dotenv_format.proofs.lines.Cuts.{
   IsSome,
   lines_some,
@@ -92,7 +92,7 @@ use Rattle.dotenv_format.proofs.writing.ReadBack.{
   quoted_text_of,
   written_says,
 }
-use Rattle.dotenv_characters.proofs.KeyCharacters.{key_continues}
+use Rattle.dotenv_format.proofs.KeyCharacters.{key_continues}
 
 -- a character of a key is no blank, backslash, quote or line feed
 key_is_plain : (c : ℕ) → continues_key c ≡ true → not (is_blank c || stands_for_itself c) ≡ true

@@ -3,7 +3,7 @@ use Rattle.std.proofs.Common.{◌≡◌, ℕ, Bool, true, false, cond, List, [],
 use Rattle.std.specs.List.{flat_map, list_all}
 use Rattle.std.proofs.lemmas.Bool.Decides.{nat_tests}
 use Rattle.std.proofs.Math.Utf8.{scalar, scalars}
-use Rattle.dotenv_characters.specs.Characters.{
+use Rattle.dotenv_format.specs.Characters.{
   double_quote,
   backslash,
   equals_sign,
@@ -11,9 +11,9 @@ use Rattle.dotenv_characters.specs.Characters.{
   begins_key,
   continues_key,
 }
-use Rattle.dotenv_characters.specs.Keys.{is_key}
+use Rattle.dotenv_format.specs.Keys.{is_key}
 use Rattle.dotenv_format.specs.Written.{needs_backslash, written_character, written_pair, written_text, AreWritable}
-use Rattle.dotenv_characters.proofs.Basics.{and_left, and_right, both}
+use Rattle.dotenv_format.proofs.Basics.{and_left, and_right, both}
 use Rattle.dotenv_format.proofs.writing.ReadBackLines.{AreKeys}
 
 -- of pairs that can be written each first part is a key

@@ -22,7 +22,7 @@ use Rattle.std.specs.Prelude.{
 }
 use denote.Ref.{Bor}
 use Rattle.std.specs.Str.{chars, encode_utf8_all, IsUtf8}
-use Rattle.dotenv_characters.specs.declared.dialect.Dialect.{Dialect}
+use Rattle.dotenv_format.specs.declared.dialect.Dialect.{Dialect}
 use Rattle.dotenv_format.specs.declared.text.Quoting.{Quoting as CodeQuoting}
 use Rattle.dotenv_format.specs.declared.text.Quoting.TheVariants.{Unquoted, DoubleQuoted}
 use Rattle.dotenv_format.specs.declared.value.Kind.{Kind}
@@ -39,7 +39,7 @@ use Rattle.dotenv_format.specs.declared.value.Piece.TheVariants.{Text, Name}
 use Rattle.dotenv_format.specs.declared.value.Given.{Given}
 use Rattle.dotenv_format.specs.declared.value.NextPiece.{NextPiece}
 use Rattle.dotenv_format.specs.declared.value.NextPiece.TheVariants.{Piece as GivesNext, End, Unfinished, Fault}
-use Rattle.dotenv_characters.specs.Characters.{single_quote, double_quote, dollar, backslash, is_space_or_tab}
+use Rattle.dotenv_format.specs.Characters.{single_quote, double_quote, dollar, backslash, is_space_or_tab}
 use Rattle.dotenv_format.specs.Value.{Quoting, unquoted, double_quoted, Piece, is_escape, escape_meaning}
 use Rattle.dotenv_format.specs.inside.Slices.{quoting_of}
 use Rattle.dotenv_format.specs.Items.{LookUp, meaning}

@@ -3,7 +3,7 @@ use Rattle.std.specs.Prelude.{ℕ, cond, List, [], ◌∷◌, ◌==◌, bytes_eq
 use denote.Ref.{Bor}
 use Rattle.std.specs.Str.{chars, skip_leading_whitespace}
 use Rattle.dotenv_format.specs.declared.statement.Statement.{Statement}
-use Rattle.dotenv_characters.specs.Characters.{begins_key, continues_key, equals_sign}
+use Rattle.dotenv_format.specs.Characters.{begins_key, continues_key, equals_sign}
 
 -- the word that may be a prefix
 abbrev pub export : List ℕ

@@ -39,8 +39,8 @@ use Rattle.dotenv_format.specs.declared.text.ByteKind.TheVariants.{
 use Rattle.dotenv_format.specs.declared.text.Quoting.{Quoting as CodeQuoting}
 use Rattle.dotenv_format.specs.declared.text.Quoting.TheVariants.{Unquoted, DoubleQuoted}
 use Rattle.std.specs.Char.{is_ascii_alphanumeric}
-use Rattle.dotenv_characters.specs.declared.dialect.Dialect.{Dialect}
-use Rattle.dotenv_characters.specs.Characters.{
+use Rattle.dotenv_format.specs.declared.dialect.Dialect.{Dialect}
+use Rattle.dotenv_format.specs.Characters.{
   tab,
   space,
   underscore,

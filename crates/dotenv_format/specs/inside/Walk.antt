@@ -11,7 +11,7 @@ use Rattle.dotenv_format.specs.declared.walk.LineMode.TheVariants.{
 use Rattle.std.specs.Str.{chars, IsCharBoundary, IsUtf8}
 use Rattle.dotenv_format.specs.declared.walk.Walked.{Walked}
 use Rattle.dotenv_format.specs.declared.walk.Walked.TheVariants.{Going, EndedAt}
-use Rattle.dotenv_characters.specs.Characters.{is_blank, is_quote, line_feed, backslash, hash}
+use Rattle.dotenv_format.specs.Characters.{is_blank, is_quote, line_feed, backslash, hash}
 use Rattle.dotenv_format.specs.Tokens.{stands_for_itself}
 use Rattle.dotenv_format.specs.LogicalLine.{without_carriage_return}
 

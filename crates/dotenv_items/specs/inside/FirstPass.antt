@@ -19,12 +19,12 @@ use Rattle.std.specs.Prelude.{
 }
 use Rattle.std.specs.Str.{chars, encode_utf8_all}
 use Rattle.std.specs.declared.string.String.{String}
-use Rattle.dotenv_characters.specs.declared.dialect.Dialect.{Dialect}
+use Rattle.dotenv_format.specs.declared.dialect.Dialect.{Dialect}
 use Rattle.dotenv_items.specs.declared.parse.Declaration.{Declaration}
 use Rattle.dotenv_items.specs.declared.parse.Value.{Value}
 use Rattle.dotenv_items.specs.declared.parse.Fault.{Fault}
 use Rattle.dotenv_items.specs.declared.parse.Copies.{Copies}
-use Rattle.dotenv_characters.specs.Characters.{byte_len, is_empty_or_comment}
+use Rattle.dotenv_format.specs.Characters.{byte_len, is_empty_or_comment}
 use Rattle.dotenv_format.specs.Statement.{IsStatement}
 use Rattle.dotenv_format.specs.Value.{Piece, IsValue}
 use Rattle.dotenv_format.specs.Places.{BeginsValue, IsPlace}

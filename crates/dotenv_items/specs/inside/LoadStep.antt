@@ -1,6 +1,6 @@
 -- What one logical line of a load leaves and answers.
 use Rattle.std.specs.Prelude.{ℕ, ◌≡◌, ◌⊎◌, List, Result}
-use Rattle.dotenv_characters.specs.declared.dialect.Dialect.{Dialect}
+use Rattle.dotenv_format.specs.declared.dialect.Dialect.{Dialect}
 use Rattle.dotenv_base.specs.declared.errors.Error.{Error}
 use Rattle.dotenv_items.specs.declared.loads.Mode.{Mode as CodeMode}
 use Rattle.dotenv_items.specs.declared.loads.Mode.TheVariants.{Keep as Keeps, Replace as Replaces}

@@ -5,9 +5,9 @@ use Rattle.std.specs.FinMap as fin
 use Rattle.std.specs.declared.string.String.{String}
 use Rattle.dotenv_base.specs.declared.errors.Error.{Error}
 use Rattle.dotenv_base.specs.Errors.{IsLineParseOf}
-use Rattle.dotenv_characters.specs.Characters.{is_empty_or_comment}
+use Rattle.dotenv_format.specs.Characters.{is_empty_or_comment}
 use Rattle.dotenv_format.specs.Statement.{IsStatement}
-use Rattle.dotenv_characters.specs.Keys.{is_key}
+use Rattle.dotenv_format.specs.Keys.{is_key}
 use Rattle.dotenv_format.specs.Outcome.{Outcome, Nothing, Pair, Fault, trimmed}
 use Rattle.dotenv_format.specs.Items.{LookUp, meaning}
 use Rattle.dotenv_items.specs.Remembered.{Remembered}

@@ -40,7 +40,7 @@ use Rattle.dotenv_lines.specs.declared.physical_line.Taken.TheVariants.{
   Comment as taken_comment,
   Broken as taken_broken,
 }
-use Rattle.dotenv_characters.specs.Characters.{begins_with, hash}
+use Rattle.dotenv_format.specs.Characters.{begins_with, hash}
 use Rattle.dotenv_format.specs.PhysicalLines.{no_line_feed, is_whole_line}
 use Rattle.dotenv_format.specs.inside.Walk.{walk, going, ended}
 use Rattle.dotenv_base.specs.Source.{Ahead}

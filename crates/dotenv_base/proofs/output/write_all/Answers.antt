@@ -1,5 +1,5 @@
 use Rattle.std.proofs.Common.{rules, arith, refl, ap, ◌≡◌, ◌≢◌, ◌∙◌, drop, length}
-use Rattle.dotenv_characters.proofs.Basics.{tested_empty, tested_some}
+use Rattle.dotenv_base.proofs.Basics.{tested_empty, tested_some}
 use Rattle.dotenv_base.proofs.Writes.{
   slice_rest,
   sending_start,

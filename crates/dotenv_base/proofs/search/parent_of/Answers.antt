@@ -25,7 +25,7 @@ use Rattle.std.specs.Prelude.{Some, None, ◌==◌}
 use Rattle.std.proofs.lemmas.Grind.{common_steps}
 use Rattle.std.proofs.lemmas.Str.Pattern.{rfind_char}
 use Rattle.dotenv_base.specs.Search.{slash, parent_of}
-use Rattle.dotenv_characters.proofs.Basics.{tested_some}
+use Rattle.dotenv_base.proofs.Basics.{tested_some}
 use Rattle.dotenv_base.proofs.Paths.{parent_of_name, parent_at_slash}
 use Rattle.dotenv_base.proofs.search.parent_of.Goals as goal
 

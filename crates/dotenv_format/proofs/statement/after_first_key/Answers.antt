@@ -4,7 +4,7 @@ use Rattle.std.specs.Str.{chars}
 use Rattle.dotenv_format.specs.inside.ParseStatement.{second_key, export, fails}
 use Rattle.dotenv_format.proofs.statements.StatementParts.{eq_export}
 use Rattle.dotenv_format.proofs.statement.after_first_key.Goals as goal
-use Rattle.dotenv_characters.proofs.Basics.{if_true, if_false}
+use Rattle.dotenv_format.proofs.Basics.{if_true, if_false}
 
 pub returns-then-eq : goal.returns-then-eq
 returns-then-eq c =

@@ -1,5 +1,5 @@
 use Rattle.std.proofs.Common.{ap, sym}
-use Rattle.dotenv_characters.specs.Characters.{begins_key}
+use Rattle.dotenv_format.specs.Characters.{begins_key}
 use Rattle.dotenv_format.specs.inside.Slices.{begins_passing}
 use Rattle.dotenv_format.proofs.bytes.Slices.{no_characters}
 use Rattle.dotenv_format.proofs.statement.begins_with_key.Goals as goal

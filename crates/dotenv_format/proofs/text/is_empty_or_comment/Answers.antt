@@ -1,5 +1,5 @@
 use Rattle.std.proofs.Common.{ap, sym}
-use Rattle.dotenv_characters.specs.Characters.{is_empty_or_comment}
+use Rattle.dotenv_format.specs.Characters.{is_empty_or_comment}
 use Rattle.dotenv_format.proofs.bytes.Slices.{no_characters}
 use Rattle.dotenv_format.proofs.text.is_empty_or_comment.Goals as goal
 

@@ -1,6 +1,6 @@
 use Rattle.std.proofs.Common.{refl, arith}
 use Rattle.dotenv_format.specs.declared.text.TheConstants.{KINDS}
-use Rattle.dotenv_characters.specs.Characters.{continues_key}
+use Rattle.dotenv_format.specs.Characters.{continues_key}
 use Rattle.dotenv_format.proofs.bytes.ByteTables.{all_below, from_table}
 use Rattle.dotenv_format.proofs.text.is_key_byte.Goals as goal
 

@@ -2,7 +2,7 @@ use Rattle.std.proofs.Common.{◌≡◌, sym, ◌∙◌, ap, rules, subst, not}
 use Rattle.std.specs.Prelude.{◌==◌}
 use Rattle.std.specs.List.{prefix_len, position_from}
 use Rattle.memchr.specs.Find.{IsFirstByte, is_byte2}
-use Rattle.dotenv_characters.specs.Characters.{double_quote, backslash, is_space_or_tab}
+use Rattle.dotenv_format.specs.Characters.{double_quote, backslash, is_space_or_tab}
 use Rattle.dotenv_format.specs.declared.text.Class.TheVariants.{Plain}
 use Rattle.dotenv_format.specs.declared.text.Quoting.TheVariants.{Unquoted, DoubleQuoted}
 use Rattle.dotenv_format.specs.inside.Slices.{is_name_byte, in_run}

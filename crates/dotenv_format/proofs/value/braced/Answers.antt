@@ -1,7 +1,7 @@
 use Rattle.std.proofs.Common.{lit<, refl}
 use Rattle.std.specs.Prelude.{◌==◌}
 use Rattle.std.specs.Str.{chars}
-use Rattle.dotenv_characters.specs.Characters.{right_brace}
+use Rattle.dotenv_format.specs.Characters.{right_brace}
 use Rattle.dotenv_format.specs.inside.Slices.{quoting_of}
 use Rattle.dotenv_format.proofs.bytes.Slices.{cut_once, characters_fail}
 use Rattle.dotenv_format.proofs.values.NextPiece.{gives_braced, braced_open}

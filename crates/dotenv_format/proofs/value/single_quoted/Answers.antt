@@ -1,7 +1,7 @@
 use Rattle.std.proofs.Common.{lit<}
 use Rattle.std.specs.Prelude.{◌==◌}
 use Rattle.std.specs.Str.{chars}
-use Rattle.dotenv_characters.specs.Characters.{single_quote}
+use Rattle.dotenv_format.specs.Characters.{single_quote}
 use Rattle.dotenv_format.proofs.bytes.Slices.{cut_once, characters_fail}
 use Rattle.dotenv_format.proofs.values.NextPiece.{gives_single, single_open}
 use Rattle.dotenv_format.proofs.value.single_quoted.Goals as goal

@@ -1,7 +1,7 @@
 use Rattle.std.proofs.Common.{[], ◌∙◌, ◌++◌, ap, sym}
 use Rattle.std.specs.Char.{encode_utf8}
 use Rattle.std.specs.Str.{chars}
-use Rattle.dotenv_characters.specs.Characters.{left_brace}
+use Rattle.dotenv_format.specs.Characters.{left_brace}
 use Rattle.dotenv_format.specs.inside.Slices.{quoting_of}
 use Rattle.dotenv_format.specs.inside.ReadValue.{naming, bracing}
 use Rattle.std.proofs.lemmas.Str.{chars_past_char}

@@ -1,5 +1,5 @@
 use Rattle.std.proofs.lemmas.Result.{err_from_is_err_and}
-use Rattle.dotenv_characters.specs.declared.dialect.Dialect.TheVariants.{V15}
+use Rattle.dotenv_format.specs.declared.dialect.Dialect.TheVariants.{V15}
 use Rattle.dotenv_format.specs.Run.{Replace}
 use Rattle.dotenv_format.specs.Loads.{override_result}
 use Rattle.dotenv_items.specs.Iter.{fresh}

@@ -1,13 +1,13 @@
 use Rattle.std.proofs.Common.{rules, ◌≡◌, Ok, ap, subst, sym, ◌∙◌, true}
 use Rattle.std.specs.Str.{chars}
 use Rattle.std.proofs.lemmas.Str.{IsUtf8-string_bytes}
-use Rattle.dotenv_characters.specs.Keys.{is_key}
+use Rattle.dotenv_format.specs.Keys.{is_key}
 use Rattle.dotenv_items.specs.Remembered.{remembered_of}
 use Rattle.dotenv_items.specs.Meaning.{values_of, names_of}
 use Rattle.dotenv_format.specs.Run.{sets}
 use Rattle.dotenv_items.specs.inside.LoadStep.{mode_of}
 use Rattle.dotenv_items.specs.inside.FirstPass.{IsDeclared, Scans}
-use Rattle.dotenv_base.proofs.Keys.{name_ok-key}
+use Rattle.dotenv_items.proofs.KeyBytes.{name_ok-key}
 use Rattle.dotenv_items.proofs.LineLoads.{fault_loaded, passed_loaded, set_loaded, set_keeps, set_changes_keys}
 use Rattle.dotenv_items.proofs.loads.load_line.Goals as goal
 

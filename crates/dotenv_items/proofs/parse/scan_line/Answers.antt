@@ -1,6 +1,6 @@
 use Rattle.std.proofs.Common.{◌∙◌, ap, sym}
 use Rattle.std.specs.Str.{chars}
-use Rattle.dotenv_characters.specs.Characters.{is_empty_or_comment}
+use Rattle.dotenv_format.specs.Characters.{is_empty_or_comment}
 use Rattle.dotenv_format.specs.Outcome.{is_nothing}
 use Rattle.dotenv_items.specs.Meaning.{look_up_of}
 use Rattle.dotenv_format.specs.inside.ParseStatement.{parse}

@@ -1,7 +1,7 @@
 use Rattle.std.proofs.Common.{◌≡◌, ◌≤◌, ◌++◌}
 use Rattle.std.specs.Prelude.{string_bytes}
 use Rattle.std.specs.String.{string_capacity}
-use Rattle.dotenv_characters.specs.Characters.{byte_len}
+use Rattle.dotenv_format.specs.Characters.{byte_len}
 use Rattle.dotenv_format.specs.Written.{written_text, written_bytes}
 use Rattle.dotenv_items.specs.Listed.{pairs_of}
 use Rattle.dotenv_items.proofs.WrittenBytes.{texts}

@@ -1,6 +1,6 @@
 use Rattle.std.proofs.Common.{◌≡◌, ◌+◌, ◌-◌, ◌≤◌}
 use Rattle.std.specs.Prelude.{◌^◌}
-use Rattle.dotenv_characters.specs.Characters.{byte_len}
+use Rattle.dotenv_format.specs.Characters.{byte_len}
 use Rattle.dotenv_format.specs.Written.{written_text}
 use Rattle.dotenv_items.specs.inside.ValuePasses.{saturated}
 use Rattle.dotenv_items.specs.Listed.{pairs_of}

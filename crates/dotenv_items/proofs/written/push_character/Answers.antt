@@ -2,7 +2,7 @@ use Rattle.std.proofs.Common.{◌≡◌, ◌++◌, ◌∷◌, [], length, append
 use Rattle.std.specs.Prelude.{string_bytes, string_len, encode_utf8, encode_utf8_all}
 use Rattle.std.specs.String.{string_capacity}
 use Rattle.std.proofs.lemmas.Str.{encode_ascii}
-use Rattle.dotenv_characters.specs.Characters.{backslash}
+use Rattle.dotenv_format.specs.Characters.{backslash}
 use Rattle.dotenv_format.specs.Written.{written_character}
 use Rattle.dotenv_items.proofs.WrittenBytes.{escaped_bytes, unescaped_bytes, when_ok}
 use Rattle.dotenv_items.proofs.written.push_character.Goals as goal

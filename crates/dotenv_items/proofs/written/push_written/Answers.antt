@@ -2,7 +2,7 @@ use Rattle.std.proofs.Common.{◌≡◌, ◌+◌, ◌∷◌, [], length, length-
 use Rattle.std.specs.Prelude.{string_bytes, string_len}
 use Rattle.std.specs.String.{string_capacity}
 use Rattle.std.specs.Str.{chars}
-use Rattle.dotenv_characters.specs.Characters.{double_quote, equals_sign, byte_len}
+use Rattle.dotenv_format.specs.Characters.{double_quote, equals_sign, byte_len}
 use Rattle.dotenv_format.specs.Written.{written_character, written_bytes}
 use Rattle.std.proofs.lemmas.Grind.{common_steps}
 use Rattle.dotenv_items.proofs.WrittenBytes.{

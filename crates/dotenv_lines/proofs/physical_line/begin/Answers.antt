@@ -3,7 +3,7 @@ use Rattle.std.specs.Str.{chars}
 use Rattle.dotenv_lines.specs.declared.physical_line.Progress.{Progress}
 use Rattle.dotenv_lines.specs.declared.physical_line.Progress.TheVariants.{Blank}
 use Rattle.dotenv_lines.specs.inside.TakenLine.{WalksOn}
-use Rattle.dotenv_characters.proofs.Basics.{ok-weaker, tested_empty, tested_some}
+use Rattle.dotenv_base.proofs.Basics.{ok-weaker, tested_empty, tested_some}
 use Rattle.dotenv_lines.proofs.WalkedPieces.{begins-comment, begins-other, stays-blank}
 use Rattle.dotenv_format.proofs.lines.LineTexts.{comment_is, blank_is, shown_is}
 use Rattle.dotenv_lines.proofs.physical_line.begin.Goals as goal

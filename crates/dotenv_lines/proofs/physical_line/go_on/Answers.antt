@@ -2,7 +2,7 @@ use Rattle.std.proofs.Common.{string_bytes, subst, sym}
 use Rattle.std.specs.Str.{chars}
 use Rattle.dotenv_lines.specs.declared.physical_line.Progress.{Progress}
 use Rattle.dotenv_lines.specs.inside.TakenLine.{WalksOn}
-use Rattle.dotenv_characters.proofs.Basics.{ok-weaker}
+use Rattle.dotenv_base.proofs.Basics.{ok-weaker}
 use Rattle.dotenv_lines.proofs.WalkedPieces.{goes-on, stays-ended, stays-comment}
 use Rattle.dotenv_lines.proofs.physical_line.go_on.Goals as goal
 use Rattle.dotenv_lines.specs.declared.physical_line.Progress.TheVariants.{Ended, Comment}

@@ -7,7 +7,7 @@ use Rattle.dotenv_lines.specs.declared.physical_line.Progress.{Progress}
 use Rattle.dotenv_lines.specs.declared.physical_line.After.{After}
 use Rattle.dotenv_lines.specs.declared.physical_line.Taken.{Taken}
 use Rattle.dotenv_lines.specs.inside.TakenLine.{LineMakes, PieceFalls}
-use Rattle.dotenv_characters.proofs.Basics.{tested_empty, tested_some}
+use Rattle.dotenv_base.proofs.Basics.{tested_empty, tested_some}
 use Rattle.dotenv_lines.proofs.LineJoins.{begun_chars}
 use Rattle.dotenv_lines.proofs.TakenLines.{
   InLine,

@@ -2,7 +2,7 @@ use Rattle.std.proofs.Common.{◌≡◌, length}
 use denote.Text.{Utf8}
 use denote.Shadow.{shadow}
 use Rattle.std.specs.Str.{chars}
-use Rattle.dotenv_characters.specs.Characters.{byte_len}
+use Rattle.dotenv_format.specs.Characters.{byte_len}
 use Rattle.dotenv_format.specs.Value.{unquoted}
 use Rattle.dotenv_format.specs.Items.{meaning}
 use Rattle.dotenv_format.specs.inside.Slices.{quoting_of}

@@ -1,6 +1,6 @@
 use Rattle.std.proofs.Common.{None, Ok, Err, ap, subst, ◌∙◌}
 use Rattle.std.proofs.lemmas.Result.{err_from_is_err_and}
-use Rattle.dotenv_characters.specs.declared.dialect.Dialect.TheVariants.{V15}
+use Rattle.dotenv_format.specs.declared.dialect.Dialect.TheVariants.{V15}
 use Rattle.dotenv_items.specs.Iter.{fresh}
 use Rattle.dotenv_format.specs.Loads.{load_result, override_result}
 use Rattle.dotenv_items.specs.LoadsLeft.{LoadsLeft}

@@ -6,9 +6,9 @@ use Rattle.std.specs.Str.Iter.{chars_rest}
 use Rattle.std.proofs.lemmas.Str.{chars_past_char, IsUtf8-past_char}
 use Rattle.std.proofs.lemmas.Iterator.{YieldsList-from_chars}
 use Rattle.std.proofs.lemmas.Iterator.Search.{all_from_yields_List}
-use Rattle.dotenv_characters.specs.Characters.{begins_key, continues_key}
-use Rattle.dotenv_base.proofs.Keys.{name_ok-key}
-use Rattle.dotenv_base.proofs.environment.is_key.Goals as goal
+use Rattle.dotenv_format.specs.Characters.{begins_key, continues_key}
+use Rattle.dotenv_items.proofs.KeyBytes.{name_ok-key}
+use Rattle.dotenv_items.proofs.keys.is_key.Goals as goal
 
 pub returns-then-begins_key-clause-key : goal.returns-then-begins_key-clause-key
 returns-then-begins_key-clause-key c =

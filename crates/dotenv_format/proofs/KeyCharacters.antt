@@ -2,9 +2,9 @@
 use Rattle.std.proofs.Common.{◌≡◌, ℕ, true, List, [], ◌∷◌, refl}
 use Rattle.std.specs.Prelude.{IsTrue}
 use Rattle.std.specs.List.{list_all}
-use Rattle.dotenv_characters.specs.Characters.{begins_key, continues_key}
-use Rattle.dotenv_characters.specs.Keys.{is_key}
-use Rattle.dotenv_characters.proofs.Basics.{and_left, and_right, both}
+use Rattle.dotenv_format.specs.Characters.{begins_key, continues_key}
+use Rattle.dotenv_format.specs.Keys.{is_key}
+use Rattle.dotenv_format.proofs.Basics.{and_left, and_right, both}
 
 -- a character that begins a key may also stand later in one
 pub key_begins_continues : (c : ℕ) → begins_key c ≡ true → continues_key c ≡ true

@@ -1,4 +1,4 @@
--- Facts on tests, options and codes that many proofs use.
+-- Facts on tests, options and lists that many proofs use.
 use Rattle.std.proofs.Common.{
   ◌≡◌,
   ◌≢◌,
@@ -17,7 +17,6 @@ use Rattle.std.proofs.Common.{
   false,
   cond,
   ◌&&◌,
-  ◌||◌,
   not,
   Option,
   Some,
@@ -38,11 +37,6 @@ pub and_right : (a b : Bool) → (a && b) ≡ true → b ≡ true
 and_right true b h = h
 and_right false b h = cc
 
--- where each of two tests holds, both hold together
-pub both : (a b : Bool) → a ≡ true → b ≡ true → (a && b) ≡ true
-both true b h k = k
-both false b h k = cc
-
 -- of two things that hold together, the first holds
 pub left_holds : (a b : Bool) → T (a && b) → T a
 left_holds true b h = tt
@@ -58,34 +52,9 @@ pub both_hold : (a b : Bool) → T a → T b → T (a && b)
 both_hold true b p q = q
 both_hold false b p q = p
 
--- a test whose negation holds is false
-pub not_is : (a : Bool) → not a ≡ true → a ≡ false
-not_is true h = cc
-not_is false h = refl
-
--- where not even one of two tests holds, both are false
-pub not_or : (a b : Bool) → not (a || b) ≡ true → (a ≡ false) × (b ≡ false)
-not_or false false h = (refl, refl)
-not_or true b h = cc
-not_or false true h = cc
-
--- of two cases by a test that holds, the first is taken
-pub when_true : {A : Type 0} (x y : A) (b : Bool) → b ≡ true → elim b [ true ↦ x | false ↦ y ] ≡ x
-when_true x y true h = refl
-when_true x y false h = cc
-
--- of two cases by a test that is false, the second is taken
-pub when_false : {A : Type 0} (x y : A) (b : Bool) → b ≡ false → elim b [ true ↦ x | false ↦ y ] ≡ y
-when_false x y true h = cc
-when_false x y false h = refl
-
 -- options that are equal and hold something hold the same
 pub some_same : {A : Type 0} (x y : A) → ◌≡◌ {A = Option A} (Some x) (Some y) → x ≡ y
 some_same x y h = cc
-
--- codes that pass the test for equal ones are the same
-pub same_from : (c d : ℕ) → (c == d) ≡ true → c ≡ d
-same_from c d h = grind (arith, nat_tests, h)
 
 -- a test whose negation is false holds
 pub not_false : (b : Bool) → not b ≡ false → b ≡ true
@@ -96,11 +65,6 @@ not_false false h = cc
 pub if_true : {A : Type 0} (x y : A) (b : Bool) → b ≡ true → cond b x y ≡ x
 if_true x y true h = refl
 if_true x y false h = cc
-
--- a choice whose test is false is its second answer
-pub if_false : {A : Type 0} (x y : A) (b : Bool) → b ≡ false → cond b x y ≡ y
-if_false x y false h = refl
-if_false x y true h = cc
 
 -- a list without length has nothing
 pub nil_of : (xs : List ℕ) → length xs ≡ 0 → xs ≡ []

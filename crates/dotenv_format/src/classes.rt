@@ -1,7 +1,7 @@
 // Classes of characters.
 ghost use Rattle.std.specs.Prelude.{◌≡◌};
 ghost use Rattle.unicode.specs.GeneralCategory.{general_category, general_category_number};
-ghost use Rattle.dotenv_characters.specs.Characters.{allows_underscore, begins_key, continues_key, is_blank, is_name_character, is_number_category};
+ghost use Rattle.dotenv_format.specs.Characters.{allows_underscore, begins_key, continues_key, is_blank, is_name_character, is_number_category};
 
 use crate::dialect::Dialect;
 use unicode::properties::{GeneralCategory, is_alphabetic};

@@ -1,7 +1,7 @@
 -- Keys: the texts that a statement of a file may name.
 use Rattle.std.specs.Prelude.{ℕ, Bool, false, ◌&&◌, List, [], ◌∷◌}
 use Rattle.std.specs.List.{list_all}
-use Rattle.dotenv_characters.specs.Characters.{begins_key, continues_key}
+use Rattle.dotenv_format.specs.Characters.{begins_key, continues_key}
 
 -- the whole text is a key
 abbrev pub is_key : List ℕ → Bool

@@ -6,10 +6,10 @@ use Rattle.std.specs.Str.{chars, IsUtf8}
 use Rattle.std.proofs.lemmas.Bool.{and_parts, and_from}
 use Rattle.std.proofs.lemmas.Bool.Decides.{nat_tests}
 use Rattle.std.proofs.lemmas.Str.{encodes-chars, encode_ascii}
-use Rattle.dotenv_characters.specs.Characters.{continues_key, equals_sign}
-use Rattle.dotenv_characters.specs.Keys.{is_key}
+use Rattle.dotenv_format.specs.Characters.{continues_key, equals_sign}
+use Rattle.dotenv_format.specs.Keys.{is_key}
 use Rattle.dotenv_base.specs.Environment.{name_ok}
-use Rattle.dotenv_characters.proofs.KeyCharacters.{key_continues}
+use Rattle.dotenv_format.proofs.KeyCharacters.{key_continues}
 
 -- a character of a key is an ASCII one
 continues-ascii : (c : ℕ) → continues_key c ≡ true → c < 128

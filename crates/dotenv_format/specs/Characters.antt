@@ -18,8 +18,8 @@ use Rattle.std.specs.Prelude.{
 use Rattle.std.specs.Char.{is_whitespace, is_ascii_alphabetic, is_ascii_digit}
 use Rattle.unicode.specs.Binary.{is_alphabetic}
 use Rattle.unicode.specs.GeneralCategory.{general_category, general_category_number}
-use Rattle.dotenv_characters.specs.declared.dialect.Dialect.{Dialect}
-use Rattle.dotenv_characters.specs.declared.dialect.Dialect.TheVariants.{V15, Next}
+use Rattle.dotenv_format.specs.declared.dialect.Dialect.{Dialect}
+use Rattle.dotenv_format.specs.declared.dialect.Dialect.TheVariants.{V15, Next}
 
 -- the characters that the format names, in the order of their codes
 abbrev pub tab : ℕ

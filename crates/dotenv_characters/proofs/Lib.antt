@@ -1,2 +1,0 @@
-pub mod Basics
-pub mod KeyCharacters
