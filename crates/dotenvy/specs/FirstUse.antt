@@ -1,9 +1,9 @@
 -- What a use of an environment answers, once the first use has loaded.
 use Rattle.std.specs.Prelude.{ℕ, ◌≡◌, List, Option, Some, None, Result, Err, IsOkAnd, string_bytes}
 use Rattle.std.specs.declared.string.String.{String}
-use Rattle.dotenv_base.specs.declared.errors.Error.{Error}
-use Rattle.dotenv_base.specs.declared.errors.Error.TheVariants.{EnvVar}
-use Rattle.dotenv_base.specs.declared.errors.VarError.TheVariants.{NotPresent}
+use Rattle.dotenvy_base.specs.declared.errors.Error.{Error}
+use Rattle.dotenvy_base.specs.declared.errors.Error.TheVariants.{EnvVar}
+use Rattle.dotenvy_base.specs.declared.errors.VarError.TheVariants.{NotPresent}
 
 -- the value, or that there is none
 abbrev pub AnswersVar : {A : Type 0} → Option (List ℕ) → Result (String A) (Error A) → Type 0

@@ -1,18 +1,18 @@
 // Loads and iterators of files, by their path or by a name that is searched for.
 ghost use Rattle.std.specs.Prelude.{◌≡◌, IfErr, IfOk, None, codes};
 ghost use Rattle.std.specs.Path.{path_bytes, path_buf_bytes};
-ghost use Rattle.dotenv_base.specs.Environment.{KeepsNames};
-ghost use Rattle.dotenv_base.specs.Errors.{IsFileFault};
-ghost use Rattle.dotenv_base.specs.Find.{IsPathOf};
-ghost use Rattle.dotenv_items.specs.Iter.{fresh};
-ghost use Rattle.dotenv_items.specs.LoadsLeft.{ChangesKeys};
+ghost use Rattle.dotenvy_base.specs.Environment.{KeepsNames};
+ghost use Rattle.dotenvy_base.specs.Errors.{IsFileFault};
+ghost use Rattle.dotenvy_base.specs.Find.{IsPathOf};
+ghost use Rattle.dotenvy_items.specs.Iter.{fresh};
+ghost use Rattle.dotenvy_items.specs.LoadsLeft.{ChangesKeys};
 
 use crate::find::{Finder, open};
-use dotenv_base::environment::Environment;
-use dotenv_base::errors::Result;
-use dotenv_base::source::Plain;
-use dotenv_format::dialect::Dialect;
-use dotenv_items::iter::{Iter, from_read, from_read_iter, from_read_override};
+use dotenvy_base::environment::Environment;
+use dotenvy_base::errors::Result;
+use dotenvy_base::source::Plain;
+use dotenvy_format::dialect::Dialect;
+use dotenvy_items::iter::{Iter, from_read, from_read_iter, from_read_override};
 use std::alloc::{Alloc, Allocator};
 use std::env::Env;
 use std::fs::Files;

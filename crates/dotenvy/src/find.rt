@@ -1,16 +1,16 @@
 // A file found in the current directory or above it, opened.
 ghost use Rattle.std.specs.Prelude.{◌≡◌, IfErr, IfOk, None, codes};
 ghost use Rattle.std.specs.Path.{path_bytes, path_buf_bytes};
-ghost use Rattle.dotenv_base.specs.Errors.{IsFileFault, IsSystemFault};
-ghost use Rattle.dotenv_base.specs.Find.{IsPathOf};
-ghost use Rattle.dotenv_items.specs.Iter.{fresh};
+ghost use Rattle.dotenvy_base.specs.Errors.{IsFileFault, IsSystemFault};
+ghost use Rattle.dotenvy_base.specs.Find.{IsPathOf};
+ghost use Rattle.dotenvy_items.specs.Iter.{fresh};
 
-use dotenv_base::errors::{Error, Result, or_memory};
-use dotenv_base::search;
-use dotenv_base::search::Look;
-use dotenv_base::source::Plain;
-use dotenv_format::dialect::Dialect;
-use dotenv_items::iter::Iter;
+use dotenvy_base::errors::{Error, Result, or_memory};
+use dotenvy_base::search;
+use dotenvy_base::search::Look;
+use dotenvy_base::source::Plain;
+use dotenvy_format::dialect::Dialect;
+use dotenvy_items::iter::Iter;
 use std::alloc::{Alloc, Allocator};
 use std::env::Env;
 use std::fs::{File, Files};

@@ -1,14 +1,14 @@
 // The values of an environment, into which the first use loads `.env`.
 ghost use Rattle.std.specs.Prelude.{◌≡◌, ◌⊎◌, Err, IfErr, IfOk, None, OnErr, OnOk, false, true};
 ghost use Rattle.std.specs.FinMap as fin;
-ghost use Rattle.dotenv_base.specs.Environment.{KeepsNames};
-ghost use Rattle.dotenv_base.specs.Errors.{IsMemory, IsMemoryErr};
+ghost use Rattle.dotenvy_base.specs.Environment.{KeepsNames};
+ghost use Rattle.dotenvy_base.specs.Errors.{IsMemory, IsMemoryErr};
 ghost use Rattle.dotenvy.specs.FirstUse.{AnswersVar};
-ghost use Rattle.dotenv_items.specs.LoadsLeft.{ChangesKeys};
+ghost use Rattle.dotenvy_items.specs.LoadsLeft.{ChangesKeys};
 
 use crate::files::dotenv;
-use dotenv_base::environment::{Environment, Vars, mark_loaded, snapshot};
-use dotenv_base::errors::{Error, Result, VarError};
+use dotenvy_base::environment::{Environment, Vars, mark_loaded, snapshot};
+use dotenvy_base::errors::{Error, Result, VarError};
 use std::alloc::{Alloc, Allocator};
 use std::env::Env;
 use std::fs::Files;

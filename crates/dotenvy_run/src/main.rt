@@ -1,8 +1,8 @@
 //! Runs a command in the environment that files give it, or lists that environment.
 #![tactic(auto)]
 
-use dotenv_command::run::run;
 use dotenvy::Plain;
+use dotenvy_command::run::run;
 use std::process::ExitCode;
 use std::rt::Env;
 use std::{env, io};

@@ -1,16 +1,16 @@
 -- Laws of layers: what calls of `add` come to.
 use Rattle.std.specs.Prelude.{ℕ, ◌≡◌, ◌<◌, ◌^◌, Bool, List, length, filter, Option, Some, None, Result, Ok, is_ok}
 use Rattle.std.specs.List.{FoldsTo}
-use Rattle.dotenv_format.specs.declared.dialect.Dialect.TheVariants.{V15}
-use Rattle.dotenv_base.specs.declared.errors.Error.{Error}
-use Rattle.dotenv_format.specs.Entries.{Entry, HasEntries}
-use Rattle.dotenv_base.specs.Environment.{Texts}
-use Rattle.dotenv_base.specs.Errors.{IsMemoryErr}
-use Rattle.dotenv_format.specs.Items.{LookUp, no_values}
-use Rattle.dotenv_format.specs.Marks.{without_mark}
-use Rattle.dotenv_items.specs.Meaning.{values_of}
-use Rattle.dotenv_format.specs.Run.{Loaded}
-use Rattle.dotenv_base.specs.Source.{Ahead}
+use Rattle.dotenvy_format.specs.declared.dialect.Dialect.TheVariants.{V15}
+use Rattle.dotenvy_base.specs.declared.errors.Error.{Error}
+use Rattle.dotenvy_format.specs.Entries.{Entry, HasEntries}
+use Rattle.dotenvy_base.specs.Environment.{Texts}
+use Rattle.dotenvy_base.specs.Errors.{IsMemoryErr}
+use Rattle.dotenvy_format.specs.Items.{LookUp, no_values}
+use Rattle.dotenvy_format.specs.Marks.{without_mark}
+use Rattle.dotenvy_items.specs.Meaning.{values_of}
+use Rattle.dotenvy_format.specs.Run.{Loaded}
+use Rattle.dotenvy_base.specs.Source.{Ahead}
 use Rattle.env_layers.specs.declared.layers.Mode.{Mode}
 use Rattle.env_layers.specs.Layers.{AddsLayer, rule_of}
 

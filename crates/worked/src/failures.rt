@@ -1,8 +1,8 @@
 //! What the program prints of each failure.
 
 use crate::shown::sees_text;
-use dotenv_command::failure::{Failure, Usage};
 use dotenvy::{Error, VarError};
+use dotenvy_command::failure::{Failure, Usage};
 use std::alloc::{AllocError, Global};
 use std::io;
 use std::io::ErrorKind;

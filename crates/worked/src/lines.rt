@@ -1,8 +1,8 @@
 //! What logical lines come of bytes, however these are read.
 
 use crate::shown::sees_text;
-use dotenv_lines::lines::{QuotedLines, Splitter};
 use dotenvy::{Bytes, Environment, Error, Iter, Result, Source};
+use dotenvy_lines::lines::{QuotedLines, Splitter};
 use std::alloc::{AllocError, Global};
 use std::fmt::Write;
 use std::io;

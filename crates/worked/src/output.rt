@@ -1,8 +1,8 @@
 //! What a loop of writes leaves and answers where no write is left.
 
 use crate::shown::sees_text;
-use dotenv_base::output::write_all;
 use dotenvy::{Plain, Result};
+use dotenvy_base::output::write_all;
 use std::alloc::Global;
 use std::io;
 use std::io::{ErrorKind, Write};

@@ -1,5 +1,5 @@
 use Rattle.std.specs.Path.{path_bytes}
-use Rattle.dotenv_base.proofs.Searching.{finds_a_path}
+use Rattle.dotenvy_base.proofs.Searching.{finds_a_path}
 use Rattle.dotenvy.proofs.find.search_up.Goals as goal
 
 pub returns-in-Ok-clause-path : goal.returns-in-Ok-clause-path

@@ -1,6 +1,0 @@
-use Rattle.std.proofs.Common.{rules}
-use Rattle.dotenv_base.proofs.TextMaps.{get-strings}
-use Rattle.dotenv_base.proofs.environment.Environment.contains.Goals as goal
-
-pub returns : goal.returns
-returns g c = rw (← c.self.view_is, get-strings, c.contains_key.ensures) (search rules)

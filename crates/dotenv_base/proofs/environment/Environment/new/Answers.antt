@@ -1,9 +1,0 @@
-use Rattle.std.proofs.Common.{rules, false}
-use Rattle.dotenv_base.proofs.TextMaps.{good-empty}
-use Rattle.dotenv_base.proofs.environment.Environment.new.Goals as goal
-
-pub invariant_of-result : goal.invariant_of-result
-invariant_of-result g c = rw c.new.ensures.empty (good-empty false)
-
-pub returns-clause-mark : goal.returns-clause-mark
-returns-clause-mark g c = search rules

@@ -1,5 +1,0 @@
-use Rattle.dotenv_base.proofs.WorkedSearches as rows
-use Rattle.dotenv_base.proofs.laws.worked_searches.Goals as goal
-
-pub returns : goal.returns
-returns c = rows.searches

@@ -1,5 +1,0 @@
-use Rattle.std.proofs.Common.{rules}
-use Rattle.dotenv_command.proofs.failure.FailureDisplay.fmt.Goals as goal
-
-pub returns-in-Usage-clause-writes : goal.returns-in-Usage-clause-writes
-returns-in-Usage-clause-writes g c = search rules

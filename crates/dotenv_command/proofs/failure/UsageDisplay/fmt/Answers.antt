@@ -1,5 +1,0 @@
-use Rattle.std.proofs.Common.{rules}
-use Rattle.dotenv_command.proofs.failure.UsageDisplay.fmt.Goals as goal
-
-pub returns-in-UnknownOption-clause-writes : goal.returns-in-UnknownOption-clause-writes
-returns-in-UnknownOption-clause-writes g c = search rules

@@ -1,5 +1,0 @@
-use Rattle.dotenv_command.proofs.WorkedWords as rows
-use Rattle.dotenv_command.proofs.laws.worked_usages.Goals as goal
-
-pub returns : goal.returns
-returns c = rows.usages

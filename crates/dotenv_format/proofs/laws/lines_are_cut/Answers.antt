@@ -1,5 +1,0 @@
-use Rattle.dotenv_format.proofs.lines.EntriesOnce.{cut_line_texts}
-use Rattle.dotenv_format.proofs.laws.lines_are_cut.Goals as goal
-
-pub returns : goal.returns
-returns c = cut_line_texts

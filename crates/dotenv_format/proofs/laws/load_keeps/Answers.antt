@@ -1,5 +1,0 @@
-use Rattle.dotenv_format.proofs.loads.LoadsTwice as loads
-use Rattle.dotenv_format.proofs.laws.load_keeps.Goals as goal
-
-pub returns : goal.returns
-returns c = loads.load_keeps

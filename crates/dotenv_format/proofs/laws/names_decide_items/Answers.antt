@@ -1,5 +1,0 @@
-use Rattle.dotenv_format.proofs.loads.LoadsTwice.{items-agree}
-use Rattle.dotenv_format.proofs.laws.names_decide_items.Goals as goal
-
-pub returns : goal.returns
-returns c = items-agree

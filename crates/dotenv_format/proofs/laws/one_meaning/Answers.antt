@@ -1,5 +1,0 @@
-use Rattle.dotenv_format.proofs.values.Values.{one_list_of_pieces}
-use Rattle.dotenv_format.proofs.laws.one_meaning.Goals as goal
-
-pub returns : goal.returns
-returns c = one_list_of_pieces

@@ -1,5 +1,0 @@
-use Rattle.dotenv_format.proofs.lines.EntriesOnce.{reads_back_once}
-use Rattle.dotenv_format.proofs.laws.reads_back.Goals as goal
-
-pub returns : goal.returns
-returns c = reads_back_once

@@ -1,5 +1,0 @@
-use Rattle.dotenv_format.proofs.WorkedFiles as worked
-use Rattle.dotenv_format.proofs.laws.worked_pairs.Goals as goal
-
-pub returns : goal.returns
-returns c = worked.written

@@ -1,5 +1,0 @@
-use Rattle.dotenv_items.proofs.KeyLookUps.{names_of_keys}
-use Rattle.dotenv_items.proofs.iter.Iter.next_item.Goals as goal
-
-pub returns-clause-name : goal.returns-clause-name
-returns-clause-name g c = names_of_keys c.next_of-item.result c.next_of-item.ensures.key

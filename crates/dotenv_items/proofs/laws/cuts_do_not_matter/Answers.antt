@@ -1,6 +1,0 @@
-use Rattle.dotenv_items.proofs.Iterations.{give_the_same}
-use Rattle.dotenv_items.proofs.WholeLoads.{loads_the_same, overrides_the_same}
-use Rattle.dotenv_items.proofs.laws.cuts_do_not_matter.Goals as goal
-
-pub returns : goal.returns
-returns g c = (give_the_same, loads_the_same, overrides_the_same)

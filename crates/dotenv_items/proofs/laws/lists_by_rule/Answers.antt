@@ -1,5 +1,0 @@
-use Rattle.dotenv_items.proofs.ListedLoads as listed
-use Rattle.dotenv_items.proofs.laws.lists_by_rule.Goals as goal
-
-pub returns : goal.returns
-returns g c = listed.lists_by_rule

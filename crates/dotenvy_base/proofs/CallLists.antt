@@ -1,0 +1,17 @@
+-- Lists of calls, joined.
+use Rattle.std.proofs.Common.{List, [], ◌∷◌, ◌++◌}
+use Rattle.std.specs.List.{AllByRecursion}
+use Rattle.dotenvy_base.specs.Calls.{Call, AllMayGoOn, OnlyLastEnds}
+
+-- what holds of each of two lists holds of each of both
+pub all_of_both : {T : Type 0} (P : T → Type 0) (xs ys : List T) → AllByRecursion P xs → AllByRecursion P ys →
+    AllByRecursion P (xs ++ ys)
+all_of_both P [] ys all later = later
+all_of_both P (x ∷ xs) ys (first, all) later = (first, all_of_both P xs ys all later)
+
+-- where another call may follow each of the first, the last of both alone may end
+pub ends_behind : (first later : List Call) → AllMayGoOn first → OnlyLastEnds later → OnlyLastEnds (first ++ later)
+ends_behind [] later all ends = ends
+ends_behind (call ∷ []) [] all ends = tt
+ends_behind (call ∷ []) (next ∷ later) (goes, all) ends = (goes, ends)
+ends_behind (call ∷ next ∷ first) later (goes, all) ends = (goes, ends_behind (next ∷ first) later all ends)

@@ -1,0 +1,276 @@
+-- A search under way: what was asked so far, and each way out.
+use denote.Enum.Bare.{sameb}
+use Rattle.std.specs.contracts.io.ErrorKind.{the_type}
+use Rattle.std.proofs.Common.{
+  ◌≡◌,
+  ℕ,
+  suc,
+  ◌<◌,
+  Bool,
+  true,
+  false,
+  not,
+  cond,
+  List,
+  [],
+  ◌∷◌,
+  ◌++◌,
+  map,
+  Option,
+  Some,
+  None,
+  Result,
+  Ok,
+  Err,
+  refl,
+  sym,
+  ◌∙◌,
+  ap,
+  subst,
+  inl,
+  inr,
+  arith,
+  length,
+}
+use Rattle.std.specs.Prelude.{◌⊎◌, IsTrue}
+use Rattle.std.specs.Option.{option_map}
+use Rattle.std.specs.IoError.{error_kind}
+use Rattle.std.specs.Path.{path_bytes, path_buf_bytes}
+use Rattle.std.specs.declared.io.Error.{Error as IoError}
+use Rattle.std.specs.declared.io.ErrorKind.{ErrorKind}
+use Rattle.std.specs.declared.io.ErrorKind.TheVariants.{NotFound}
+use Rattle.std.specs.declared.path.Path.{Path}
+use Rattle.std.specs.declared.path.PathBuf.{PathBuf}
+use Rattle.dotenvy_base.specs.declared.errors.Error.{Error}
+use Rattle.dotenvy_base.specs.declared.errors.Error.TheVariants.{Io}
+use Rattle.dotenvy_base.specs.declared.search.Look.{Look}
+use Rattle.dotenvy_base.specs.declared.search.Look.TheVariants.{File, Other, Fault}
+use Rattle.dotenvy_base.specs.Errors.{IsMemoryErr}
+use Rattle.dotenvy_base.specs.Search.{
+  path_in,
+  parent_of,
+  Ascends,
+  is_not_found,
+  ends_search,
+  AreAsked,
+  Answer,
+  FoundAt,
+  FoundNowhere,
+  EndedBy,
+  search_answer,
+  Searches,
+}
+use Rattle.dotenvy_base.specs.Find.{Calls, AsksInTurn, AnswersSearch, Finds, IsPathOf}
+use Rattle.dotenvy_base.proofs.Basics.{if_true, not_false}
+use Rattle.dotenvy_base.proofs.SearchOnce.{ascent_exists, search_exists, parent_shorter}
+
+-- the code's test of a kind
+same_kind : (kind : ErrorKind) → sameb the_type kind NotFound ≡ is_not_found kind
+same_kind NotFound = refl
+same_kind _ = refl
+
+-- the code's test whether a fault ends the search
+pub ends_by_test : (fault : IoError) (kind : ErrorKind) (test : Bool) → kind ≡ error_kind fault →
+    test ≡ not (sameb the_type kind NotFound) → ends_search (Fault fault) ≡ test
+ends_by_test fault kind test k t = ap (λ x. not (is_not_found x)) (sym k) ∙ sym (t ∙ ap not (same_kind kind))
+
+-- a fault that ends the search is its answer
+pub answers_fault : (A : Type 0) (fault : IoError) → ends_search (Fault fault) ≡ true →
+    AnswersSearch {A = A} (cond (is_not_found (error_kind fault)) FoundNowhere (EndedBy fault)) (Err (Io fault))
+answers_fault A fault h = at (is_not_found (error_kind fault)) h
+  where
+    at : (b : Bool) → not b ≡ true → AnswersSearch {A = A} (cond b FoundNowhere (EndedBy fault)) (Err (Io fault))
+    at true e = absurd (let f : false ≡ true = e in cc)
+    at false e = refl
+
+-- the directories begin with the first
+ascends_first : (directory first : List ℕ) (others : List (List ℕ)) →
+    Ascends directory (first ∷ others) → first ≡ directory
+ascends_first directory first [] h = h.0
+ascends_first directory first (second ∷ others) h = h.0
+
+-- the directories from a parent on, with the directory before them
+ascends_more : (directory parent : List ℕ) (above : List (List ℕ)) → parent_of directory ≡ Some parent →
+    Ascends parent above → Ascends directory (directory ∷ above)
+ascends_more directory parent [] e h = absurd h
+ascends_more directory parent (first ∷ others) e h = let f = ascends_first parent first others h in
+    (refl, e ∙ ap Some (sym f), subst (λ d. Ascends d (first ∷ others)) (sym f) h)
+
+-- what doesn't end a search doesn't answer it
+answer_past : (path : List ℕ) (look : Look) (asked : List (List ℕ × Look)) → ends_search look ≡ false →
+    search_answer ((path, look) ∷ asked) ≡ search_answer asked
+answer_past path File asked h = cc
+answer_past path Other asked h = refl
+answer_past path (Fault fault) asked h = if_true _ _ (is_not_found (error_kind fault)) (not_false _ h)
+
+-- what is still to be asked, from a directory on or from none
+abbrev pub SearchesOn : Option (List ℕ) → List ℕ → List (List ℕ × Look) → Answer → Type 0
+SearchesOn None name asked answer = (asked ≡ []) × (answer ≡ FoundNowhere)
+SearchesOn (Some directory) name asked answer = Searches directory name asked answer
+
+-- a search that goes on after a directory is one from that directory
+searches_past : (directory name : List ℕ) (above : Option (List ℕ)) (look : Look) (asked : List (List ℕ × Look))
+    (answer : Answer) → parent_of directory ≡ above → ends_search look ≡ false → SearchesOn above name asked answer →
+    Searches directory name ((path_in directory name, look) ∷ asked) answer
+searches_past directory name None look asked answer e h s = record {
+  directories = directory ∷ [];
+  ascends = (refl, e);
+  are_asked = (refl, inr (ap not h, s.0));
+  answers = s.1 ∙ sym (answer_past (path_in directory name) look asked h ∙ ap search_answer s.0);
+}
+searches_past directory name (Some parent) look asked answer e h s = record {
+  directories = directory ∷ s.directories;
+  ascends = ascends_more directory parent s.directories e s.ascends;
+  are_asked = (refl, inr (ap not h, s.are_asked));
+  answers = s.answers ∙ sym (answer_past (path_in directory name) look asked h);
+}
+
+-- a search that ends at its first candidate
+searches_ended : (directory name : List ℕ) (look : Look) → ends_search look ≡ true →
+    Searches directory name ((path_in directory name, look) ∷ []) (search_answer ((path_in directory name, look) ∷ []))
+searches_ended directory name look h = let a = ascent_exists directory in
+    record { directories = directory ∷ a.0; ascends = a.1; are_asked = (refl, inl (h, refl)); answers = refl }
+
+-- no call was made yet
+no_calls : {F : Type 0} (step : Calls F) (look : F) → AsksInTurn step look [] look
+no_calls step look = record { calls = []; are_asked = refl; steps = refl }
+
+-- one call was made
+one_call : {F : Type 0} (step : Calls F) (before after : F) (path : Path) (look : Look) (asked : List ℕ) →
+    step before path look after → path_bytes path ≡ asked → AsksInTurn step before ((asked, look) ∷ []) after
+one_call step before after path look asked call p =
+    record { calls = (path, look) ∷ []; are_asked = ap (λ q. (q, look) ∷ []) (sym p); steps = (after, call, refl) }
+
+module _ {F : Type 0} (step : Calls F) (start : F) (directory name : List ℕ) where
+  -- so far the search was asked: what is asked from here on completes it
+  pub record Asking (above : Option (List ℕ)) (look : F) : Type 0 where
+    pub completes : (asked later : List (List ℕ × Look)) (answer : Answer) (end : F) →
+        SearchesOn above name (asked ++ later) answer → AsksInTurn step look asked end →
+        (front : List (List ℕ × Look)) ×
+        Searches directory name (front ++ later) answer × AsksInTurn step start front end
+
+  -- at a directory the candidate was asked for and the search goes on
+  pub asking_on : (place : List ℕ) (above : Option (List ℕ)) (before after : F) (path : Path) (look : Look) →
+      Asking (Some place) before → path_bytes path ≡ path_in place name → step before path look after →
+      parent_of place ≡ above → ends_search look ≡ false → Asking above after
+  asking_on place above before after path look asking p call e h = record {
+    completes = λ asked later answer end s a.
+        asking.completes ((path_in place name, look) ∷ asked) later answer end
+        (searches_past place name above look (asked ++ later) answer e h s)
+        (one_more asked end a);
+  }
+    where
+      one_more : (asked : List (List ℕ × Look)) (end : F) → AsksInTurn step after asked end →
+          AsksInTurn step before ((path_in place name, look) ∷ asked) end
+      one_more asked end a = record {
+        calls = (path, look) ∷ a.calls;
+        are_asked = ap (λ q. (q, look) ∷ asked) (sym p) ∙ ap (λ cs. (path_bytes path, look) ∷ cs) a.are_asked;
+        steps = (after, call, a.steps);
+      }
+
+  -- refused memory cuts the search short
+  pub finds_cut : {A : Type 0} (look : F) (place : List ℕ) (result : Result (PathBuf A) (Error A)) →
+      Asking (Some place) look → IsMemoryErr result → Finds step start look directory name result
+  finds_cut look place result asking memory =
+      let rest = search_exists place name (λ _. Other) in
+      let whole = asking.completes [] rest.0 (search_answer rest.0) look rest.1 (no_calls step look) in
+      record {
+        asked = whole.0;
+        later = rest.0;
+        answer = search_answer rest.0;
+        searches = whole.1;
+        asks = whole.2;
+        outcome = inl memory;
+      }
+
+  -- what stands at a candidate ends the search
+  pub finds_ended : {A : Type 0} (before after : F) (place : List ℕ) (path : Path) (look : Look)
+      (result : Result (PathBuf A) (Error A)) →
+      Asking (Some place) before → path_bytes path ≡ path_in place name → step before path look after →
+      ends_search look ≡ true → AnswersSearch (search_answer ((path_in place name, look) ∷ [])) result →
+      Finds step start after directory name result
+  finds_ended before after place path look result asking p call h answers =
+      let last = (path_in place name, look) ∷ [] in
+      let asked = one_call step before after path look (path_in place name) call p in
+      let whole = asking.completes last [] (search_answer last) after (searches_ended place name look h) asked in
+      record {
+        asked = whole.0;
+        later = [];
+        answer = search_answer last;
+        searches = whole.1;
+        asks = whole.2;
+        outcome = inr (refl, answers);
+      }
+
+  -- no directory is left
+  pub finds_none : {A : Type 0} (look : F) (result : Result (PathBuf A) (Error A)) →
+      Asking None look → AnswersSearch FoundNowhere result → Finds step start look directory name result
+  finds_none look result asking answers =
+      let whole = asking.completes [] [] FoundNowhere look (refl, refl) (no_calls step look) in
+      record {
+        asked = whole.0;
+        later = [];
+        answer = FoundNowhere;
+        searches = whole.1;
+        asks = whole.2;
+        outcome = inr (refl, answers);
+      }
+
+-- how much is left of the directories: more than of those above
+abbrev pub size_of : Option Path → ℕ
+size_of None = 0
+size_of (Some directory) = suc (length (path_bytes directory))
+
+-- a directory above leaves less
+pub parent_is_less : (directory : Path) (above : Option Path) →
+    option_map path_bytes above ≡ parent_of (path_bytes directory) → size_of above < size_of (Some directory)
+parent_is_less directory None h = omega arith
+parent_is_less directory (Some parent) h =
+    let less = parent_shorter (path_bytes directory) (path_bytes parent) (sym h) in omega (arith, less)
+
+-- what doesn't end a search lets it go on
+went_on : (ends : Bool) (Ended GoesOn : Type 0) →
+    (IsTrue ends × Ended) ⊎ (IsTrue (not ends) × GoesOn) → ends ≡ false → GoesOn
+went_on ends Ended GoesOn (inl x) h = let both : false ≡ true = sym h ∙ x.0 in cc
+went_on ends Ended GoesOn (inr x) h = x.1
+
+-- a path that a search finds is that of the name in one of the directories
+found_among : (name : List ℕ) (directories : List (List ℕ)) (asked : List (List ℕ × Look)) (path : List ℕ) →
+    AreAsked (map (λ d. path_in d name) directories) asked → search_answer asked ≡ FoundAt path → IsPathOf name path
+found_among name [] asked path a h = let none : FoundNowhere ≡ FoundAt path = ap search_answer (sym a) ∙ h in cc
+found_among name (d ∷ directories) [] path a h = absurd a
+found_among name (d ∷ directories) ((first, File) ∷ asked) path a h =
+    let same : first ≡ path = cc in (d, sym same ∙ a.0)
+found_among name (d ∷ directories) ((first, Other) ∷ asked) path a h =
+    found_among name directories asked path (went_on false _ _ a.1 refl) h
+found_among name (d ∷ directories) ((first, Fault fault) ∷ asked) path a h =
+    at (is_not_found (error_kind fault)) a.1 h (λ x e. found_among name directories asked path x e)
+  where
+    Others : Type 0
+    Others = AreAsked (map (λ d. path_in d name) directories) asked
+
+    at : (b : Bool) → (IsTrue (not b) × (asked ≡ [])) ⊎ (IsTrue (not (not b)) × Others) →
+        cond b (search_answer asked) (EndedBy fault) ≡ FoundAt path →
+        (Others → search_answer asked ≡ FoundAt path → IsPathOf name path) → IsPathOf name path
+    at true x e later = later (went_on false _ _ x refl) e
+    at false x e later = cc
+
+-- where the answer is no error, memory was not refused
+not_cut : {A Later : Type 0} (path : PathBuf A) (answer : Answer) →
+    IsMemoryErr {T = PathBuf A} {A = A} (Ok path) ⊎ (Later × AnswersSearch {A = A} answer (Ok path)) →
+    AnswersSearch {A = A} answer (Ok path)
+not_cut path answer (inl memory) = absurd memory
+not_cut path answer (inr x) = x.1
+
+-- what `find` answers is the path of the name in some directory
+pub finds_a_path : {F A : Type 0} (step : Calls F) (before after : F) (directory name : List ℕ) (path : PathBuf A) →
+    Finds step before after directory name (Ok path) → IsPathOf name (path_buf_bytes path)
+finds_a_path {A} step before after directory name path finds =
+    at finds.answer (not_cut path finds.answer finds.outcome) finds.searches
+  where
+    at : (answer : Answer) → AnswersSearch {A = A} answer (Ok path) →
+        Searches directory name (finds.asked ++ finds.later) answer → IsPathOf name (path_buf_bytes path)
+    at (FoundAt found) e s = let p =
+        found_among name s.directories (finds.asked ++ finds.later) found s.are_asked (sym s.answers) in (p.0, e ∙ p.1)
+    at (EndedBy fault) e s = cc
+    at FoundNowhere e s = absurd e

@@ -1,0 +1,14 @@
+-- The law of the search.
+use Rattle.std.specs.Prelude.{◌≡◌, ℕ, List}
+use Rattle.dotenvy_base.specs.declared.search.Look.{Look}
+use Rattle.dotenvy_base.specs.Search as search
+
+-- whatever stands at the candidates, a search asks one list of them and has one answer
+abbrev pub HasOneSearch : Type 0
+HasOneSearch =
+    (directory name : List ℕ) (looks : ℕ → Look) →
+    (asked : List (List ℕ × Look)) × (answer : search.Answer)
+    × search.Searches directory name asked answer × search.Sees looks asked
+    × ((others : List (List ℕ × Look)) (other : search.Answer) →
+    search.Searches directory name others other → search.Sees looks others →
+    (others ≡ asked) × (other ≡ answer))

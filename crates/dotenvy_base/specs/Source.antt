@@ -1,0 +1,80 @@
+-- What a source gives and a sink takes.
+use Rattle.std.specs.Prelude.{
+  ℕ,
+  ◌≡◌,
+  ◌≤◌,
+  ◌<◌,
+  List,
+  [],
+  ◌∷◌,
+  ◌++◌,
+  length,
+  take,
+  drop,
+  ◌==◌,
+  Option,
+  Some,
+  None,
+  Result,
+  Ok,
+  Err,
+  IfOk,
+  IfErr,
+  OnErr,
+  refl,
+  if◌then◌else◌,
+}
+use Rattle.std.specs.IoError.{error_kind}
+use Rattle.std.specs.declared.io.Error.{Error}
+use Rattle.std.specs.declared.io.ErrorKind.{ErrorKind}
+use Rattle.std.specs.declared.io.ErrorKind.TheVariants.{WriteZero}
+use Rattle.std.specs.contracts.io.ErrorKind as kind
+use Rattle.std.specs.Coded.{Coded, code_by, coded×, coded_ℕ, coded_list, coded_option}
+use Rattle.dotenvy_base.specs.declared.source.Plain.{Plain}
+
+-- the bytes up to a source's end, or up to its first read that answers a fault, with the kind of that fault
+pub record Ahead : Type 0 where
+  pub bytes : List ℕ
+  pub fault : Option ErrorKind
+
+-- its code, by those of its parts
+abbrev pub ahead_code : Coded Ahead
+ahead_code =
+    code_by (List ℕ × Option ErrorKind)
+    (coded× (coded_list coded_ℕ) (coded_option kind.the_row.coded)) (λ a. (a.bytes, a.fault))
+    (λ p. record { bytes = p.0; fault = p.1 }) (λ _. refl)
+
+-- a read that answered r took its bytes from the front of what was ahead: none only at the end, and a fault only where it stands next
+abbrev pub ReadsFront : Ahead → Option Ahead → Result ℕ Error → List ℕ → Type 0
+ReadsFront a after r buf =
+    IfOk r
+    (λ n.
+    (take n buf ≡ take n a.bytes) × (n ≤ length a.bytes)
+    × (after ≡ Some (record { bytes = drop n a.bytes; fault = a.fault }))
+    × (0 < length buf → n ≡ 0 → (a.bytes ≡ []) × (a.fault ≡ None)))
+    × IfErr r (λ e. (a.bytes ≡ []) × (a.fault ≡ Some (error_kind e)))
+
+-- the same of a source that may tell nothing
+abbrev pub ReadsAhead : Option Ahead → Option Ahead → Result ℕ Error → List ℕ → Type 0
+ReadsAhead None after r buf = Unit {0}
+ReadsAhead (Some a) after r buf = ReadsFront a after r buf
+
+-- a write that answered r appended the first bytes of buf, and none on a fault
+abbrev pub WriteAppends : Option (List ℕ) → Option (List ℕ) → Result ℕ Error → List ℕ → Type 0
+WriteAppends None after r buf = Unit {0}
+WriteAppends (Some xs) after r buf =
+    IfOk r (λ n. after ≡ Some (xs ++ take n buf)) × OnErr r (after ≡ Some xs)
+
+-- the kind of the last fault of a write, after a write that answered r: WriteZero where it took none of some bytes
+abbrev pub fault_after : Option ErrorKind → List ℕ → Result ℕ Error → Option ErrorKind
+fault_after last [] r = last
+fault_after last (b ∷ bs) (Ok n) = if n == 0 then Some WriteZero else last
+fault_after last (b ∷ bs) (Err e) = Some (error_kind e)
+
+-- the reader or writer below
+abbrev pub plain_inner : {T : Type 0} → Plain T → T
+plain_inner p = p.inner
+
+-- the kind of the last fault of a write, if one has failed
+abbrev pub plain_fault : {T : Type 0} → Plain T → Option ErrorKind
+plain_fault p = p.last_fault

@@ -1,0 +1,401 @@
+// The names and values that a program is given.
+ghost use Rattle.std.specs.Prelude.{◌≡◌, IsTrue, filter, true, false, option_copied, string_bytes, IfOk, OnOk, OnErr, IfErr, IfSome, MatchResult, ◌==◌};
+ghost use Rattle.std.specs.FinMap as fin;
+ghost use Rattle.std.specs.Iterator.{YieldsFirstBy, item_count};
+ghost use Rattle.std.specs.Str.{chars};
+ghost use Rattle.dotenvy_base.specs.Environment.{name_ok, value_ok, pair_ok, text_entries, IsEnvironment, AreTexts};
+ghost use Rattle.dotenvy_base.specs.Errors.{IsMemory, IsNulOf};
+
+use crate::errors::{Error, Result};
+use crate::process::text_entries;
+use std::alloc::{Alloc, Allocator, Global};
+use std::collections::BTreeMap;
+use std::collections::btree_map::{IntoIter, Iter};
+use std::env::Env;
+use std::fmt;
+use std::marker::Model;
+
+/// Names and their values, and a mark that says whether the first load was done.
+///
+/// A name is not empty and has no `=` and no NUL; a value has no NUL. Names are compared byte by byte. It stands for
+/// the environment of a process: the loads change it, and the process's own is left alone.
+///
+/// ```
+/// let mut environment = Environment::new(alloc);
+/// environment.set(String::from_str(alloc, "HOST")?, String::from_str(alloc, "db.local")?)?;
+/// assert_eq!(rt; environment.get("HOST"), Some("db.local"));
+/// ```
+#[derive(Drop)]
+pub struct Environment<A: Allocator = Global> {
+    entries: BTreeMap<String<A>, String<A>, A>,
+    loaded: bool,
+}
+
+impl<A: Allocator> Model for Environment<A> {
+    ghost use Rattle.dotenvy_base.specs.Environment.{Env, env_code, env_of, IsEnvironment};
+
+    ghost Value = { Env };
+
+    ghost coded = { env_code };
+
+    ghost view = { λ e. env_of e.entries.entries e.loaded };
+
+    ghost invariant = { λ e. IsEnvironment (env_of e.entries.entries e.loaded) };
+}
+
+/// Whether the whole text is a name of an environment: not empty, without `=` and without NUL.
+///
+/// ```
+/// assert!(rt; is_name("my name") && !is_name("A=B"));
+/// ```
+pub fn is_name(text: &str) -> bool
+    ensures { result ≡ name_ok text.now }
+{
+    !text.is_empty() && !text.as_bytes().contains(&b'=') && !text.as_bytes().contains(&0)
+}
+
+fn is_value(text: &str) -> bool
+    ensures { result ≡ value_ok text.now }
+{
+    !text.as_bytes().contains(&0)
+}
+
+fn is_pair(name: &str, value: &str) -> bool
+    ensures { result ≡ pair_ok (name.now, value.now) }
+{
+    is_name(name) && is_value(value)
+}
+
+impl<A: Allocator> Environment<A> {
+    /// An environment with no names, whose mark is not set. It takes no memory; the names that are set later are kept
+    /// in `alloc`.
+    ///
+    /// ```
+    /// assert_eq!(rt; Environment::new(alloc).len(), 0);
+    /// ```
+    pub fn new(alloc: A) -> Environment<A>
+        ensures empty { result.names ≡ fin.empty }
+        ensures mark { result.loaded ≡ false }
+    {
+        Environment {
+            entries: BTreeMap::new(alloc),
+            loaded: false,
+        }
+    }
+
+    /// An environment of these names and values, whose mark is not set.
+    ///
+    /// A pair whose name is none (see [`is_name`]) or whose value has a NUL is passed by. Of several pairs with one
+    /// name the first counts. The error is `Memory`.
+    ///
+    /// ```
+    /// let environment = Environment::from_pairs(alloc, list)?;
+    /// // of A and 1, A and 2, and a pair without a name: A is 1, and nothing else is there
+    /// ```
+    pub fn from_pairs(alloc: A, list: Vec<(String<A>, String<A>), A>) -> Result<Environment<A>, A>
+    where
+        A: Clone,
+        // Where a name stands several times, `from_entries` keeps its first value.
+        ensures names { IfOk result
+            (λ e. e.names ≡ fin.from_entries (filter pair_ok (text_entries list.items))) }
+        ensures mark { IfOk result (λ e. e.loaded ≡ false) }
+        ensures memory { IfErr result IsMemory }
+    {
+        let mut env = Environment::new(alloc);
+        for (name, value) in list {
+            if is_pair(&name, &value) && !env.contains(&name) {
+                env.set(name, value)?;
+            }
+        }
+        Ok(env)
+    }
+
+    /// An environment of the names and values of the process, whose mark is not set.
+    ///
+    /// An entry that is no text, without a name or with a name that is none is passed by; of several entries of one
+    /// name the first counts. The process's own environment is only read. The error is `Memory`.
+    ///
+    /// ```
+    /// let environment = Environment::from_process(&rt)?;
+    /// ```
+    pub fn from_process<R: Env + Alloc<A = A>>(rt: &R) -> Result<Environment<A>, A>
+    where
+        A: Clone,
+        ensures good { IfOk result IsEnvironment }
+        ensures mark { IfOk result (λ e. e.loaded ≡ false) }
+        ensures memory { IfErr result IsMemory }
+    {
+        Environment::from_pairs(rt.alloc(), text_entries(rt)?)
+    }
+
+    /// An environment of its own with the same names and values and the same mark. The error is `Memory`.
+    ///
+    /// ```
+    /// let before = environment.try_clone()?;
+    /// ```
+    pub fn try_clone(&self) -> Result<Environment<A>, A>
+    where
+        A: Clone,
+        ensures ok { IfOk result (λ e. e ≡ self.now) }
+        ensures memory { IfErr result IsMemory }
+    {
+        Ok(Environment {
+            entries: self.entries.clone()?,
+            loaded: self.loaded,
+        })
+    }
+
+    /// How many names it has.
+    ///
+    /// ```
+    /// assert_eq!(rt; environment.len(), environment.iter().count());
+    /// ```
+    pub fn len(&self) -> usize
+        ensures { result ≡ fin.len self.now.names }
+    {
+        self.entries.len()
+    }
+
+    /// Whether it has no name.
+    ///
+    /// ```
+    /// assert!(rt; Environment::new(alloc).is_empty());
+    /// ```
+    pub fn is_empty(&self) -> bool
+        ensures { result ≡ (fin.len self.now.names == 0) }
+    {
+        self.len() == 0
+    }
+
+    /// The mark: whether the first load was done.
+    ///
+    /// ```
+    /// assert!(rt; !Environment::new(alloc).loaded());
+    /// ```
+    pub fn loaded(&self) -> bool
+        ensures { result ≡ self.now.loaded }
+    {
+        self.loaded
+    }
+
+    /// The value of a name, and `None` for a text that is no name of this environment.
+    ///
+    /// ```
+    /// let host = environment.get("HOST").unwrap_or("localhost");
+    /// ```
+    pub fn get(&self, name: &str) -> Option<&str>
+        ensures { option_copied result ≡ fin.get self.now.names name.now }
+    {
+        match self.entries.get(name) {
+            Some(value) => Some(value.as_str()),
+            None => None,
+        }
+    }
+
+    /// Whether the name has a value, be it the empty one.
+    ///
+    /// ```
+    /// if !environment.contains("HOST") { .. }
+    /// ```
+    pub fn contains(&self, name: &str) -> bool
+        ensures { result ≡ fin.contains_key self.now.names name.now }
+    {
+        self.entries.contains_key(name)
+    }
+
+    /// The names with their values, in the byte order of the names.
+    ///
+    /// ```
+    /// for (name, value) in environment.iter() {
+    ///     println!(rt; "{name}={value}")?;
+    /// }
+    /// ```
+    pub fn iter(&self) -> Pairs<'_, A>
+        ensures pairs { result ≡ fin.entries self.now.names }
+        ensures good { IsEnvironment self.now }
+        ensures texts { AreTexts self.now.names }
+    {
+        let pairs = self.entries.iter();
+        Pairs { pairs }
+    }
+
+    /// Sets the value of one name, or replaces it. The other names and the mark stay as they are.
+    ///
+    /// The caller hands in a key that is a name (see [`is_name`]; each key of the grammar is one). The error is `Nul`
+    /// with that key where the value has a NUL, and else `Memory`. After either the environment is as it was.
+    ///
+    /// ```
+    /// environment.set(String::from_str(alloc, "HOST")?, String::from_str(alloc, "db.local")?)?;
+    /// ```
+    pub fn set(&mut self, key: String<A>, value: String<A>) -> Result<(), A>
+    where
+        A: Clone,
+        requires { IsTrue (name_ok (string_bytes key)) }
+        ensures ok { OnOk result (self.new
+            ≡ record self.old {
+              names = fin.insert self.old.names (string_bytes key) (string_bytes value);
+            }) }
+        ensures same { OnErr result (self.new ≡ self.old) }
+
+        // Where the value has no NUL, memory is the only error; where it has one, the error is that.
+        ensures good { IsTrue (value_ok (string_bytes value)) → IfErr result IsMemory }
+        ensures nul { value_ok (string_bytes value) ≡ false →
+            MatchResult result (λ _. ⊥) (IsNulOf (string_bytes key)) }
+    {
+        if !is_value(value.as_str()) {
+            return Err(Error::Nul(key));
+        }
+        self.entries.insert(key, value)?;
+        Ok(())
+    }
+}
+
+/// Sets the mark of an environment. This is for the first use alone.
+pub fn mark_loaded<A: Allocator>(env: &mut Environment<A>)
+    ensures { env.new ≡ record env.old { loaded = true } }
+{
+    env.loaded = true;
+}
+
+/// The names of an environment with their values as they are now, on their own. The error is `Memory`.
+pub fn snapshot<A: Allocator + Clone>(env: &Environment<A>) -> Result<Vars<A>, A>
+    ensures pairs { IfOk result (λ pairs. pairs ≡ fin.entries env.now.names) }
+    ensures memory { IfErr result IsMemory }
+{
+    Ok(Vars {
+        pairs: env.entries.clone()?.into_iter(),
+    })
+}
+
+/// Two environments are equal where they have the same names with the same values, and the same mark.
+impl<A: Allocator> PartialEq for Environment<A> {
+    ghost use Rattle.std.specs.Cmp.{partial_equiv_from_equiv};
+    ghost use Rattle.dotenvy_base.specs.Environment.{is_same, is_same-equiv};
+
+    ghost eq = { is_same };
+
+    ghost laws = { partial_equiv_from_equiv is_same-equiv };
+
+    fn eq(&self, other: &Environment<A>) -> bool {
+        if self.entries.len() != other.entries.len() {
+            return false;
+        }
+        self.entries == other.entries && self.loaded == other.loaded
+    }
+}
+
+impl<A: Allocator> Eq for Environment<A> {
+    ghost use Rattle.dotenvy_base.specs.Environment.{is_same-equiv};
+
+    ghost laws = { is_same-equiv };
+}
+
+/// Shows the names and the mark. Values are often secrets, and are never shown.
+impl<A: Allocator> fmt::Debug for Environment<A> {
+    fn fmt<W: fmt::Write>(&self, f: &mut fmt::Formatter<W>) -> fmt::Result {
+        f.debug_struct("Environment")
+            .field("names", &Names(self))
+            .field("loaded", &self.loaded)
+            .finish()
+    }
+}
+
+// The names of an environment, to be shown.
+#[derive(Drop)]
+struct Names<'a, A: Allocator>(&'a Environment<A>);
+
+impl<'a, A: Allocator> fmt::Debug for Names<'a, A> {
+    fn fmt<W: fmt::Write>(&self, f: &mut fmt::Formatter<W>) -> fmt::Result {
+        let env = self.0;
+        f.debug_set().entries(env.entries.keys()).finish()
+    }
+}
+
+impl<'a, A: Allocator> IntoIterator for &'a Environment<A> {
+    type Item = (&'a String<A>, &'a String<A>);
+
+    type IntoIter = Pairs<'a, A>;
+
+    ghost use Rattle.std.specs.Prelude.{◌≡◌};
+    ghost use Rattle.std.specs.FinMap as fin;
+
+    ghost into_iter_gives = { λ env pairs. pairs ≡ fin.entries env.now.names };
+
+    fn into_iter(self) -> Pairs<'a, A> {
+        self.iter()
+    }
+}
+
+/// The names of an environment with their values, in the byte order of the names, each once; [`Environment::iter`]
+/// makes it. Each name and each value is one that [`Environment::set`] takes.
+#[derive(Drop)]
+pub struct Pairs<'a, A: Allocator = Global> {
+    pairs: Iter<'a, String<A>, String<A>>,
+}
+
+impl<'a, A: Allocator> Model for Pairs<'a, A> {
+    ghost use Rattle.std.specs.Prelude.{ℕ, List};
+    ghost use Rattle.dotenvy_base.specs.Environment.{text_entries, AreGood};
+
+    ghost Value = { List (List ℕ × List ℕ) };
+
+    ghost view = { λ s. text_entries s.pairs };
+
+    ghost invariant = { λ s. AreGood (text_entries s.pairs) };
+}
+
+impl<'a, A: Allocator> Iterator for Pairs<'a, A> {
+    type Item = (&'a String<A>, &'a String<A>);
+
+    ghost next_gives = { λ s item t. IfSome item
+        (λ pair. IsTrue (name_ok (string_bytes pair.0.now))
+        × IsTrue (value_ok (string_bytes pair.1.now)))
+        × YieldsFirstBy (λ pair. (string_bytes pair.0.now, string_bytes pair.1.now))
+        (λ s. s) s item t };
+
+    ghost remaining = { item_count (λ s. s) };
+
+    fn next(&mut self) -> Option<(&'a String<A>, &'a String<A>)> {
+        self.pairs.next()
+    }
+}
+
+/// Names with their values, in the byte order of the names, each once.
+///
+/// It stands on its own: what is done to the environment later doesn't change it. [`vars`](crate::vars) makes it. Each
+/// name and each value is one that [`Environment::set`] takes.
+///
+/// ```
+/// for (name, value) in vars(&rt, &mut environment)? {
+///     println!(rt; "{name}={value}")?;
+/// }
+/// ```
+#[derive(Drop)]
+pub struct Vars<A: Allocator = Global> {
+    pairs: IntoIter<String<A>, String<A>, A>,
+}
+
+impl<A: Allocator> Model for Vars<A> {
+    ghost use Rattle.std.specs.Prelude.{ℕ, List};
+    ghost use Rattle.dotenvy_base.specs.Environment.{text_entries, AreGood};
+
+    ghost Value = { List (List ℕ × List ℕ) };
+
+    ghost view = { λ s. text_entries s.pairs };
+
+    ghost invariant = { λ s. AreGood (text_entries s.pairs) };
+}
+
+impl<A: Allocator> Iterator for Vars<A> {
+    type Item = (String<A>, String<A>);
+
+    ghost next_gives = { λ s item t. IfSome item
+        (λ pair. IsTrue (name_ok (string_bytes pair.0)) × IsTrue (value_ok (string_bytes pair.1)))
+        × YieldsFirstBy (λ pair. (string_bytes pair.0, string_bytes pair.1)) (λ s. s) s item t };
+
+    ghost remaining = { item_count (λ s. s) };
+
+    fn next(&mut self) -> Option<(String<A>, String<A>)> {
+        self.pairs.next()
+    }
+}

@@ -1,0 +1,94 @@
+//! The search for a file, in a directory and in those above it.
+
+ghost use Rattle.std.specs.Prelude.{◌≡◌, IfOk};
+ghost use Rattle.std.specs.Option.{option_map};
+ghost use Rattle.std.specs.Path.{path_bytes, path_buf_bytes};
+ghost use Rattle.dotenvy_base.specs.Search.{parent_of, path_in};
+ghost use Rattle.dotenvy_base.specs.Find.{Finds};
+
+use crate::errors::{Error, Result};
+use std::alloc::{AllocError, Allocator};
+use std::io;
+use std::io::ErrorKind;
+use std::path::{Path, PathBuf};
+
+/// What stands at a path.
+#[derive(Drop)]
+pub enum Look {
+    /// A file, which ends the search.
+    File,
+    /// Anything else, such as a directory.
+    Other,
+    /// It can't be told. A fault of kind `NotFound` says that nothing is there; each other one ends the search.
+    Fault(io::Error),
+}
+
+/// The path of the first file of this name in the directory and in those above it, as `look` sees them.
+///
+/// `look` is asked once for each directory, from this one up, and no further than needed (docs/GRAMMAR.md, "Finding the
+/// file"). Paths are taken as texts: no part of them is looked up or left out, and an absolute name is asked for
+/// as it is, once for each directory. The error is `Io` of the fault that ended the search, `Io` of kind `NotFound`
+/// where no directory has the file, or `Memory`.
+///
+/// ```
+/// let path = find(alloc, Path::new("/srv/app"), Path::new(".env"), &mut |path| seen_at(path))?;
+/// // asks for /srv/app/.env, /srv/.env and /.env, up to the first file
+/// ```
+pub fn find<A: Allocator + Clone, F: FnMut(Path<'_>) -> Look>(
+    alloc: A,
+    directory: Path<'_>,
+    filename: Path<'_>,
+    look: &mut F,
+) -> Result<PathBuf<A>, A>
+    requires { F.IsAlwaysCallable look.old }
+    ensures { Finds F.step look.old look.new
+        (path_bytes directory.entry) (path_bytes filename.entry) result }
+{
+    let mut above = Some(directory);
+    'directories: while let Some(place) = above {
+        let path = path_in(alloc.clone()?, place, filename)?;
+        match look(path.as_path()) {
+            Look::File => return Ok(path),
+            Look::Other => {}
+            Look::Fault(fault) => {
+                if fault.kind() != ErrorKind::NotFound {
+                    return Err(Error::Io(fault));
+                }
+            }
+        }
+        above = parent_of(place);
+    }
+    Err(Error::Io(io::Error::new(
+        ErrorKind::NotFound,
+        "no such file in the directory or above it",
+    )))
+}
+
+// The path of the name in the directory, by their texts alone.
+fn path_in<A: Allocator>(
+    alloc: A,
+    directory: Path<'_>,
+    filename: Path<'_>,
+) -> std::result::Result<PathBuf<A>, AllocError>
+    ensures { IfOk result (λ p.
+        path_buf_bytes p ≡ path_in (path_bytes directory.entry) (path_bytes filename.entry)) }
+{
+    let mut path = PathBuf::from_str(alloc, directory.as_str())?;
+    path.push(filename)?;
+    Ok(path)
+}
+
+// The directory above, by its text alone; std's `parent` also passes by `.` and doubled slashes.
+fn parent_of<'a>(directory: Path<'a>) -> Option<Path<'a>>
+    ensures { option_map path_bytes result ≡ parent_of (path_bytes directory.entry) }
+{
+    let text = directory.as_str();
+    if text.is_empty() || text == "/" {
+        return None;
+    }
+    match text.rfind('/') {
+        Some(0) => Some(Path::new("/")),
+        Some(end) => Some(Path::new(&text[..end])),
+        None => Some(Path::new("")),
+    }
+}

@@ -1,0 +1,183 @@
+// What the bytes come from, and where they go.
+ghost use Rattle.std.specs.Prelude.{◌≡◌, ◌≤◌, ℕ, List, [], Option, None, Some, IfOk, length};
+ghost use Rattle.std.specs.declared.io.ErrorKind.{ErrorKind};
+ghost use Rattle.std.specs.Io.KnownBytes.{ReadConsumes};
+ghost use Rattle.dotenvy_base.specs.Calls.{Call, TellsCall, call_of};
+ghost use Rattle.dotenvy_base.specs.Source.{Ahead, ReadsAhead, WriteAppends, fault_after, plain_inner, plain_fault};
+
+use std::io;
+use std::io::{ErrorKind, Read, Write};
+
+/// What environment files are read from.
+///
+/// Any reader of std is one as a [`Plain`], and a slice of bytes as [`Bytes`]. A source may tell contracts what lies
+/// ahead of it: its bytes up to its end, or up to the first read that answers a fault, with the kind of that fault.
+/// Then what is read from it is known as well. It may also tell all calls that were made on it so far, in order, and
+/// what each answered. A source that tells nothing can still be read, and nothing is known of its bytes.
+pub trait Source {
+    ghost ahead: { Self → Option Ahead } = { λ _. None };
+
+    ghost calls: { Self → Option (List Call) } = { λ _. None };
+
+    /// Reads some bytes to the front of `buf` and answers how many, as `std::io::Read::read` does.
+    ///
+    /// Where `buf` is not empty, 0 bytes are the end. A fault takes no bytes.
+    fn read_some(&mut self, buf: &mut [u8]) -> io::Result<usize>
+        ensures bound { IfOk result (λ n. n ≤ length buf.new) }
+        ensures bytes { ReadsAhead (ahead self.old) (ahead self.new) result buf.new }
+        ensures calls { TellsCall (calls self.old) (calls self.new)
+            (call_of (length buf.old) result) };
+}
+
+/// What pairs are written to.
+///
+/// Any writer of std is one as a [`Plain`]. A sink may tell contracts which bytes it holds, and then each write is
+/// known to append to them. It may also tell all calls that were made on it so far, in order, and what each answered.
+/// Every sink tells the kind of the last fault that a write of some bytes answered, if one has.
+pub trait Sink {
+    ghost held: { Self → Option (List ℕ) } = { λ _. None };
+
+    ghost last_fault: { Self → Option ErrorKind };
+
+    ghost calls: { Self → Option (List Call) } = { λ _. None };
+
+    /// Writes some bytes from the front of `buf` and answers how many, as `std::io::Write::write` does.
+    ///
+    /// A fault writes none. A write of some bytes has failed where it answers a fault, an interruption among them,
+    /// or 0, which counts as a fault of kind WriteZero.
+    fn write_some(&mut self, buf: &[u8]) -> io::Result<usize>
+        ensures bound { IfOk result (λ n. n ≤ length buf.now) }
+        ensures bytes { WriteAppends (held self.old) (held self.new) result buf.now }
+        ensures fault { last_fault self.new ≡ fault_after (last_fault self.old) buf.now result }
+        ensures calls { TellsCall (calls self.old) (calls self.new)
+            (call_of (length buf.now) result) };
+}
+
+/// A source that is lent: what is read from it is read from the source itself, which its owner keeps.
+impl<'a, R: Source> Source for &'a mut R {
+    ghost ahead = { λ s. R.ahead s.now };
+
+    ghost calls = { λ s. R.calls s.now };
+
+    fn read_some(&mut self, buf: &mut [u8]) -> io::Result<usize> {
+        (**self).read_some(buf)
+    }
+}
+
+/// A source over a slice. It tells its bytes, and no read of it fails.
+///
+/// ```
+/// let source = Bytes::new(b"HOST=db.local\n");
+/// ```
+#[derive(Drop)]
+pub struct Bytes<'a> {
+    rest: &'a [u8],
+}
+
+impl<'a> std::marker::Model for Bytes<'a> {
+    ghost use Rattle.std.specs.Prelude.{ℕ, List};
+
+    ghost Value = { List ℕ };
+
+    ghost view = { λ s. s.rest.now };
+}
+
+impl<'a> Bytes<'a> {
+    /// A source of these bytes, from the first.
+    pub fn new(bytes: &'a [u8]) -> Bytes<'a>
+        ensures { result ≡ bytes.now }
+    {
+        Bytes { rest: bytes }
+    }
+}
+
+impl<'a> Source for Bytes<'a> {
+    ghost ahead = { λ s. Some (record { bytes = s; fault = None }) };
+
+    fn read_some(&mut self, buf: &mut [u8]) -> io::Result<usize> {
+        let n = self.rest.len().min(buf.len());
+        let (now, later) = self.rest.split_at(n);
+        buf[..n].copy_from_slice(now);
+        self.rest = later;
+        Ok(n)
+    }
+}
+
+/// A source over any reader of std, which tells nothing ahead, and a sink over any writer of std, which holds what
+/// that writer holds.
+///
+/// ```
+/// let source = Plain::new(File::open(&rt, ".env")?);
+/// ```
+#[derive(Drop)]
+pub struct Plain<T> {
+    inner: T,
+    last_fault: Option<ErrorKind>,
+}
+
+impl<T> Plain<T> {
+    /// Over this reader or writer. No write has failed yet.
+    pub fn new(inner: T) -> Plain<T>
+        ensures inner { plain_inner result ≡ inner }
+        ensures fresh { plain_fault result ≡ None }
+    {
+        Plain {
+            inner,
+            last_fault: None,
+        }
+    }
+
+    /// Gives the reader or writer back, as the calls left it.
+    pub fn into_inner(self) -> T
+        ensures { result ≡ plain_inner self }
+    {
+        let Plain {
+            inner,
+            last_fault: _,
+        } = self;
+        inner
+    }
+}
+
+impl<T: Read> Source for Plain<T> {
+    fn read_some(&mut self, buf: &mut [u8]) -> io::Result<usize>
+        ensures bound { IfOk result (λ n. n ≤ length buf.new) }
+
+        // The read is one of the reader's own, and no write.
+        ensures inner { ReadConsumes (T.remaining (plain_inner self.old))
+            (T.remaining (plain_inner self.new)) result buf.new }
+        ensures writes { plain_fault self.new ≡ plain_fault self.old }
+    {
+        self.inner.read(buf)
+    }
+}
+
+impl<T: Write> Sink for Plain<T> {
+    ghost held = { λ s. T.contents s.inner };
+
+    ghost last_fault = { plain_fault };
+
+    fn write_some(&mut self, buf: &[u8]) -> io::Result<usize> {
+        let outcome = self.inner.write(buf);
+        self.last_fault = fault_after(self.last_fault, buf, &outcome);
+        outcome
+    }
+}
+
+// The kind of the last fault of a write, after one more write.
+fn fault_after(
+    last_fault: Option<ErrorKind>,
+    buf: &[u8],
+    outcome: &io::Result<usize>,
+) -> Option<ErrorKind>
+    ensures { result ≡ fault_after last_fault buf.now outcome.now }
+{
+    if buf.is_empty() {
+        return last_fault;
+    }
+    match outcome {
+        Ok(0) => Some(ErrorKind::WriteZero),
+        Ok(_) => last_fault,
+        Err(e) => Some(e.kind()),
+    }
+}

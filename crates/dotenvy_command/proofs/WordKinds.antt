@@ -1,0 +1,63 @@
+-- What a word is by itself, from the tests of its front.
+use Rattle.std.proofs.Common.{
+  ◌≡◌,
+  ◌≢◌,
+  ℕ,
+  Bool,
+  true,
+  false,
+  List,
+  [],
+  ◌∷◌,
+  ◌++◌,
+  Option,
+  Some,
+  None,
+  refl,
+  sym,
+  ◌∙◌,
+  ap,
+  arith,
+}
+use Rattle.std.specs.Prelude.{◌==◌, codes, MatchOption, unwrap_or, if◌then◌else◌}
+use Rattle.std.specs.Str.Pattern.{FindsTextPrefix, StripsPrefix}
+use denote.Ref.{Bor}
+use Rattle.dotenvy_format.specs.Characters.{equals_sign}
+use Rattle.dotenvy_command.specs.declared.command_line.Group.TheVariants as found
+use Rattle.dotenvy_command.specs.Words.{IsGroup, joined_file, assigned_file, without_equals}
+use Rattle.dotenvy_command.specs.FirstGroup.{IsAlone}
+
+-- a text whose front was stripped is that front, and then what is left
+pub stripped : (front text rest : List ℕ) → StripsPrefix (FindsTextPrefix front) text rest → text ≡ front ++ rest
+stripped front text rest (n, (is_length, joins, boundary), is_rest, fits) = joins ∙ ap (λ t. front ++ t) (sym is_rest)
+
+-- a file behind `--file=`
+pub assigned : (text : List ℕ) (name : Bor (List ℕ)) → text ≡ codes "--file=" ++ name.now →
+    IsAlone text (found.File name)
+assigned text name is = (assigned_file name.now, tt, ap (λ t. t ∷ []) (sym is), (refl, refl, refl))
+
+-- a file behind `-f`
+pub joined : (text tail : List ℕ) (name : Bor (List ℕ)) → text ≡ codes "-f" ++ tail →
+    without_equals tail ≡ name.now → text ≢ codes "-f" →
+    IsAlone text (found.File name)
+joined text tail name is file more =
+    (joined_file tail, some tail is, ap (λ t. t ∷ []) (sym is), (ap (λ t. t ∷ []) file, refl, refl))
+  where
+    some : (tail : List ℕ) → text ≡ codes "-f" ++ tail → IsGroup (joined_file tail)
+    some tail is none = more (is ∙ ap (λ t. codes "-f" ++ t) none)
+
+-- what stands behind a first `=`, or else the whole text
+pub behind_equals : (text : Bor (List ℕ)) (rest : Option (Bor (List ℕ))) →
+    MatchOption rest ((later : List ℕ) → text.now ≢ equals_sign ∷ later) (λ x. text.now ≡ equals_sign ∷ x.now) →
+    (unwrap_or rest text).now ≡ without_equals text.now
+behind_equals text None none = kept text.now none
+  where
+    at : (b : Bool) (c : ℕ) (cs : List ℕ) → (c == equals_sign) ≡ b → c ∷ cs ≢ equals_sign ∷ cs →
+        c ∷ cs ≡ (if b then cs else c ∷ cs)
+    at true c cs is none = absurd (none (ap (λ d. d ∷ cs) (grind (arith, is))))
+    at false c cs is none = refl
+
+    kept : (t : List ℕ) → ((later : List ℕ) → t ≢ equals_sign ∷ later) → t ≡ without_equals t
+    kept [] none = refl
+    kept (c ∷ cs) none = at (c == equals_sign) c cs refl (none cs)
+behind_equals text (Some x) is = sym (ap without_equals is)

@@ -1,0 +1,156 @@
+//! What the words of the command line ask for.
+
+ghost use Rattle.std.specs.Prelude.{◌≡◌, [], IfOk, OnOk};
+ghost use Rattle.dotenvy_command.specs.Answers.{AnswersWords, line_of, texts};
+ghost use Rattle.dotenvy_command.specs.FirstGroup.{AttachesFile, GroupBeginsWith, IsGroupOf, IsWord};
+ghost use Rattle.dotenvy_command.specs.Words.{Group as WordGroup, command_line, with_group, without_equals};
+
+use crate::failure::Usage;
+use dotenvy::Dialect;
+use std::alloc::{AllocError, Allocator, Global};
+
+/// What the words of the command line ask for (docs/COMMAND.md).
+#[derive(Drop)]
+pub struct CommandLine<A: Allocator = Global> {
+    /// Standard input is listed, and no command is started.
+    pub list: bool,
+    /// The files that are named, in the order given, each as often as it is named.
+    pub files: Vec<String<A>, A>,
+    /// How files and standard input are read.
+    pub dialect: Dialect,
+    /// The command and its arguments. It is empty only where `list` is set.
+    pub command: Vec<String<A>, A>,
+}
+
+/// What the words say, which are those after the program's name (docs/COMMAND.md).
+///
+/// `UnknownOption` holds the first word that is no option of the program, though it begins with `-`.
+///
+/// ```
+/// // of the words `-fa --file=b sh -c -x`: the files a and b, and the command sh with -c and -x
+/// let line = command_line(alloc, &words)?;
+/// ```
+pub fn command_line<A: Allocator + Clone>(
+    alloc: A,
+    words: &[String<A>],
+) -> Result<CommandLine<A>, Usage<A>>
+    ensures { AnswersWords (texts words.now) result }
+{
+    let mut line = CommandLine::new(alloc.clone()?)?;
+    let mut rest = words;
+    'groups: while let Some((group, after)) = first_group(&alloc, rest)? {
+        line.add(group)?;
+        rest = after;
+    }
+    if rest.is_empty() && !line.list {
+        return Err(Usage::MissingCommand);
+    }
+    line.command = Vec::from_clones(alloc, rest)?;
+    Ok(line)
+}
+
+/// A group of words before the command: an option, with its file where it has one.
+#[derive(Clone, Copy, Drop)]
+enum Group<'a> {
+    File(&'a str),
+    List,
+    Next,
+}
+
+/// A word by itself, before the command.
+#[derive(Clone, Copy, Drop)]
+enum Word<'a> {
+    /// The word after it is a file.
+    BeforeFile,
+    /// A group of its own.
+    Group(Group<'a>),
+    Unknown,
+    Command,
+}
+
+impl<A: Allocator + Clone> CommandLine<A> {
+    // No words so far.
+    fn new(alloc: A) -> Result<CommandLine<A>, AllocError>
+        ensures { IfOk result (λ line. line_of line ≡ command_line [] []) }
+    {
+        Ok(CommandLine {
+            list: false,
+            files: Vec::new(alloc.clone()?),
+            dialect: Dialect::V15,
+            command: Vec::new(alloc),
+        })
+    }
+
+    // One group more.
+    fn add(&mut self, group: Group<'_>) -> Result<(), AllocError>
+        ensures { OnOk result ((spelled : WordGroup) → IsGroupOf spelled group.entry
+            → line_of self.new ≡ with_group (line_of self.old) spelled) }
+    {
+        match group {
+            Group::File(name) => {
+                let alloc = self.files.allocator().clone()?;
+                self.files.push(String::from_str(alloc, name)?)?;
+            }
+            Group::List => self.list = true,
+            Group::Next => self.dialect = Dialect::Next,
+        }
+        Ok(())
+    }
+}
+
+// The group that the words begin with, and the words after it; or `None` where no option comes first.
+fn first_group<'a, A: Allocator + Clone>(
+    alloc: &A,
+    words: &'a [String<A>],
+) -> Result<Option<(Group<'a>, &'a [String<A>])>, Usage<A>>
+    ensures { GroupBeginsWith (texts words.now) result }
+{
+    let Some((word, after)) = words.split_first() else {
+        return Ok(None);
+    };
+    match word_of(word.as_str()) {
+        Word::Command => Ok(None),
+        Word::Unknown => Err(Usage::UnknownOption(String::from_str(alloc.clone()?, word)?)),
+        Word::Group(group) => Ok(Some((group, after))),
+        Word::BeforeFile => match after.split_first() {
+            Some((name, after)) => Ok(Some((Group::File(name.as_str()), after))),
+            None => Err(Usage::MissingFile),
+        },
+    }
+}
+
+// What the word is by itself.
+fn word_of(word: &str) -> Word<'_>
+    ensures { IsWord word.now result }
+{
+    if !word.starts_with("-") {
+        return Word::Command;
+    }
+    match word {
+        "-f" | "--file" => Word::BeforeFile,
+        "--list" => Word::Group(Group::List),
+        "--next" => Word::Group(Group::Next),
+        _ => match attached_file(word) {
+            Some(name) => Word::Group(Group::File(name)),
+            None => Word::Unknown,
+        },
+    }
+}
+
+// The file in the same word as its option: behind `--file=`, or behind `-f`, where one `=` may stand between.
+fn attached_file(word: &str) -> Option<&str>
+    ensures { AttachesFile word.now result }
+{
+    if let Some(name) = word.strip_prefix("--file=") {
+        return Some(name);
+    }
+    let name = word.strip_prefix("-f")?;
+    Some(without_equals(name))
+}
+
+// The text without one `=` at its front.
+fn without_equals(text: &str) -> &str
+    ensures { result.now ≡ without_equals text.now }
+{
+    text.strip_prefix('=').unwrap_or(text)
+}

@@ -1,0 +1,103 @@
+//! What the program does once it has its words, over any reader, writer and runtime.
+
+ghost use Rattle.std.specs.Prelude.{◌≡◌, ◌≢◌, ◌⊎◌, [], Err, IfErr, IsErrAnd, Ok, false, true};
+ghost use Rattle.dotenvy_items.specs.Iter.{fresh};
+ghost use Rattle.dotenvy_items.specs.Listed.{Lists};
+ghost use Rattle.dotenvy_command.specs.Answers.{texts};
+ghost use Rattle.dotenvy_command.specs.Ends.{EndsAs, EndsByUsage, IsEarly, IsRunFault, IsUsage};
+ghost use Rattle.dotenvy_command.specs.Words.{CommandLine as Line, Usage as Refusal, HasUsage};
+
+use crate::command_line::{CommandLine, command_line};
+use crate::failure::{Failure, Usage};
+use crate::start::start;
+use dotenvy::{Dialect, Environment, Sink, Source, list_with};
+use env_layers::Layers;
+use std::alloc::{Alloc, Allocator};
+use std::env::Env;
+use std::fs::Files;
+use std::path::Path;
+use std::process::Processes;
+
+/// Does what the words ask for, and answers the status to end with (docs/COMMAND.md).
+///
+/// With `--list` it lists the reader, and reads no file. Else it loads each file that the words name, in order, or
+/// `.env`, over the names of the process, starts the command in that environment, and waits for its end.
+///
+/// Over the three lines `B=2`, `A=1`, `A=3` and the word `--list` it writes `A="1"` and `B="2"`, a line each.
+pub fn run<A: Allocator + Clone, R: Files + Env + Processes + Alloc<A = A>, S: Source, W: Sink>(
+    rt: &R,
+    words: &[String<A>],
+    reader: &mut S,
+    writer: &mut W,
+) -> Result<u8, Failure<A>>
+    // Words that are refused are answered so, before anything is read or written.
+    ensures usage { (usage : Refusal) → HasUsage (texts words.now) (Err usage)
+        → IsErrAnd result (EndsByUsage usage) }
+    ensures early { IfErr result
+        (λ failure. IsUsage failure → (reader.new ≡ reader.old) × (writer.new ≡ writer.old)) }
+
+    // A list is that of the reader, in the dialect of the words.
+    ensures lists { (line : Line) → HasUsage (texts words.now) (Ok line) → line.list ≡ true
+        → IsEarly result
+        ⊎ EndsAs (Lists (fresh (S.ahead reader.old) (S.calls reader.old) line.dialect)
+        W.held W.last_fault W.calls writer.old writer.new) result }
+
+    // A command leaves the reader and the writer as they were.
+    ensures command { (line : Line) → HasUsage (texts words.now) (Ok line) → line.list ≡ false
+        → (IsEarly result ⊎ IfErr result IsRunFault)
+        × (reader.new ≡ reader.old) × (writer.new ≡ writer.old) }
+{
+    let line = command_line(rt.alloc(), words)?;
+    if line.list {
+        list(rt.alloc(), reader, writer, line.dialect)
+    } else {
+        run_command(rt, &line)
+    }
+}
+
+// Lists the reader.
+fn list<A: Allocator + Clone, S: Source, W: Sink>(
+    alloc: A,
+    reader: &mut S,
+    writer: &mut W,
+    dialect: Dialect,
+) -> Result<u8, Failure<A>>
+    ensures { EndsAs (Lists (fresh (S.ahead reader.old) (S.calls reader.old) dialect)
+        W.held W.last_fault W.calls writer.old writer.new) result }
+{
+    list_with(alloc, reader, writer, dialect)?;
+    Ok(0)
+}
+
+// Starts the command of the line in the environment of its files. The line has a command.
+fn run_command<A: Allocator + Clone, R: Files + Env + Processes + Alloc<A = A>>(
+    rt: &R,
+    line: &CommandLine<A>,
+) -> Result<u8, Failure<A>>
+    ensures { line.now.command.items ≢ [] → IfErr result IsRunFault }
+{
+    let Some((program, arguments)) = line.command.split_first() else {
+        return Err(Failure::Usage(Usage::MissingCommand));
+    };
+    let env = loaded(rt, line.files.as_slice(), line.dialect)?;
+    match start(rt, program.as_str(), arguments, &env) {
+        Ok(status) => Ok(status),
+        Err(fault) => Err(Failure::Start(fault)),
+    }
+}
+
+// The names of the process, and over them those of each file, or of `.env`. A name that is there keeps its value.
+fn loaded<A: Allocator + Clone, R: Files + Env + Alloc<A = A>>(
+    rt: &R,
+    files: &[String<A>],
+    dialect: Dialect,
+) -> dotenvy::Result<Environment<A>, A> {
+    let mut layers = Layers::new(Environment::from_process(rt)?);
+    if files.is_empty() {
+        layers.add_file(rt, Path::new(".env"), dialect)?;
+    }
+    'files: for file in files {
+        layers.add_file(rt, Path::new(file.as_str()), dialect)?;
+    }
+    Ok(layers.into_environment())
+}

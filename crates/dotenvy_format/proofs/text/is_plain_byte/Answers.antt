@@ -1,0 +1,9 @@
+use Rattle.std.proofs.Common.{refl, arith}
+use Rattle.dotenvy_format.specs.declared.text.TheConstants.{KINDS}
+use Rattle.dotenvy_format.specs.Value.{is_plain_outside}
+use Rattle.dotenvy_format.proofs.bytes.ByteTables.{all_below, from_table}
+use Rattle.dotenvy_format.proofs.text.is_plain_byte.Goals as goal
+
+pub returns : goal.returns
+unfolding all_below
+returns c = from_table KINDS 1 is_plain_outside c.args.byte (omega arith) refl

@@ -1,0 +1,162 @@
+-- Which fronts begin a value, and the place of a fault in one.
+use Rattle.std.proofs.Common.{
+  ◌≡◌,
+  ℕ,
+  suc,
+  true,
+  false,
+  List,
+  [],
+  ◌∷◌,
+  ◌++◌,
+  Some,
+  None,
+  refl,
+  sym,
+  ◌∙◌,
+  ap,
+  append_assoc,
+  subst,
+  take,
+}
+use Rattle.dotenvy_format.specs.declared.dialect.Dialect.{Dialect}
+use Rattle.dotenvy_format.specs.declared.dialect.Dialect.TheVariants.{V15, Next}
+use Rattle.dotenvy_format.specs.Characters.{single_quote, double_quote, right_brace}
+use Rattle.dotenvy_format.specs.Value.{
+  Quoting,
+  unquoted,
+  double_quoted,
+  Piece,
+  Text,
+  Name,
+  is_left_by_name,
+  ends_name,
+  IsValue,
+}
+use Rattle.dotenvy_format.proofs.bytes.NameCharacters.{space_no_name}
+use Rattle.dotenvy_format.specs.Places.{BeginsValue, IsPlace}
+use Rattle.dotenvy_format.proofs.values.Values.{stepped, read-value, value-read, read_bare_end}
+use Rattle.dotenvy_format.specs.inside.ReadValue.{
+  ValueMode,
+  base,
+  escaping,
+  in_single,
+  naming,
+  bracing,
+  in_tail,
+  in_comment,
+  ValueReading,
+  ValueStep,
+  given,
+  read_value,
+}
+use Rattle.dotenvy_format.specs.inside.ReadValue.{value_goes, value_reach_after, value_reach}
+use Rattle.dotenvy_format.proofs.Fronts.{Placed, placed_on, placed_before, placed_at_end}
+
+-- read from this mode, the text can be completed to one that gives pieces
+abbrev Completes : (dialect : Dialect) → List ℕ → ValueMode → Type 0
+Completes dialect text m = (more : List ℕ) × (pieces : List Piece) × (read_value dialect (text ++ more) m ≡ Some pieces)
+
+-- a bare name leaves no space to what follows
+space_not_left : (dialect : Dialect) (q : Quoting) → is_left_by_name dialect q 32 ≡ false
+space_not_left V15 q = refl
+space_not_left Next double_quoted = refl
+space_not_left Next unquoted = refl
+
+-- a space ends each bare name, and means itself
+space_ends : (dialect : Dialect) (q : Quoting) (name : List ℕ) → ends_name dialect q name 32 ≡ true
+space_ends dialect q [] = rw (space_no_name dialect, space_not_left dialect q) refl
+space_ends dialect q (c ∷ name) = rw (space_no_name dialect, space_not_left dialect q) refl
+
+-- from each mode the empty text can be completed
+completes : (dialect : Dialect) (m : ValueMode) → Completes dialect [] m
+completes dialect (base unquoted) = ([], [], refl)
+completes dialect (base double_quoted) = (double_quote ∷ [], [], refl)
+completes dialect (escaping unquoted) = ([], [], refl)
+completes dialect (escaping double_quoted) = (110 ∷ double_quote ∷ [], Text (10 ∷ []) ∷ [], refl)
+completes dialect (in_single inner) = (single_quote ∷ [], Text inner ∷ [], refl)
+completes dialect (naming unquoted name) = ([], Name name ∷ [], refl)
+completes dialect (naming double_quoted name) = (
+  32 ∷ double_quote ∷ [],
+  Name name ∷ Text (32 ∷ []) ∷ [],
+  read_bare_end dialect double_quoted name 32 (double_quote ∷ []) (space_ends dialect double_quoted name),
+)
+completes dialect (bracing unquoted name) = (right_brace ∷ [], Name name ∷ [], refl)
+completes dialect (bracing double_quoted name) = (right_brace ∷ double_quote ∷ [], Name name ∷ [], refl)
+completes dialect in_tail = ([], [], refl)
+completes dialect in_comment = ([], [], refl)
+
+-- what can be completed from where a character leads can be completed with that character before it
+goes_on : (dialect : Dialect) (m : ValueMode) (c : ℕ) (cs : List ℕ) (n : ValueMode) (ps : List Piece) →
+    value_goes dialect m c ≡ Some (n, ps) → Completes dialect cs n → Completes dialect (c ∷ cs) m
+goes_on dialect m c cs n ps g (more, qs, h) = (
+  more,
+  ps ++ qs,
+  stepped dialect m c (cs ++ more) (Some (n, ps)) g ∙ ap (given ps) h,
+)
+
+-- where something is read with pieces before it, something is read without them
+given_some : (ps qs : List Piece) (r : ValueReading) → given ps r ≡ Some qs → (rs : List Piece) × (r ≡ Some rs)
+given_some ps qs None h = cc
+given_some ps qs (Some rs) h = (rs, refl)
+
+-- what can be completed with a character before it can be completed from where that character leads
+goes_back : (dialect : Dialect) (m : ValueMode) (c : ℕ) (cs : List ℕ) (n : ValueMode) (ps : List Piece) →
+    value_goes dialect m c ≡ Some (n, ps) → Completes dialect (c ∷ cs) m → Completes dialect cs n
+goes_back dialect m c cs n ps g (more, qs, h) =
+    let r =
+    given_some ps qs (read_value dialect (cs ++ more) n)
+    (sym (stepped dialect m c (cs ++ more) (Some (n, ps)) g) ∙ h) in
+    (more, r.0, r.1)
+
+-- a text whose first character leads nowhere can't be completed
+goes_nowhere : (dialect : Dialect) (m : ValueMode) (c : ℕ) (cs : List ℕ) → value_goes dialect m c ≡ None →
+    ¬ (Completes dialect (c ∷ cs) m)
+goes_nowhere dialect m c cs g (more, qs, h) =
+    let e : None ≡ Some qs = sym (stepped dialect m c (cs ++ more) None g) ∙ h in
+    cc
+
+-- the place in a text is one more than in what follows its first character, or 0 if that leads nowhere
+placed_step : (dialect : Dialect) (c : ℕ) (cs : List ℕ) (m : ValueMode) (g : ValueStep) → value_goes dialect m c ≡ g →
+    ((n : ValueMode) → Placed (Completes dialect) cs n (value_reach dialect cs n)) →
+    Placed (Completes dialect) (c ∷ cs) m (value_reach_after g (λ n. value_reach dialect cs n))
+placed_step dialect c cs m None h later =
+    placed_before (Completes dialect) m c cs (completes dialect m) (goes_nowhere dialect m c [] h)
+placed_step dialect c cs m (Some (n, ps)) h later =
+    placed_on (Completes dialect) m c n cs (value_reach dialect cs n) (record {
+      on = λ cs. goes_on dialect m c cs n ps h;
+      back = λ cs. goes_back dialect m c cs n ps h;
+    }) (later n)
+
+-- from each mode, the place that is computed is the length of the longest front that can be completed
+placed : (dialect : Dialect) (text : List ℕ) (m : ValueMode) →
+    Placed (Completes dialect) text m (value_reach dialect text m)
+placed dialect [] m = placed_at_end (Completes dialect) m (completes dialect m)
+placed dialect (c ∷ cs) m = placed_step dialect c cs m (value_goes dialect m c) refl (λ n. placed dialect cs n)
+
+-- what can be completed, read from where a value begins, is the front of a value
+to_begins : (dialect : Dialect) (text : List ℕ) → Completes dialect text (base unquoted) → BeginsValue dialect text
+to_begins dialect text (more, ps, h) = (more, ps, value-read dialect (text ++ more) ps h)
+
+-- the front of a value can be completed, read from where a value begins
+from_begins : (dialect : Dialect) (text : List ℕ) → BeginsValue dialect text → Completes dialect text (base unquoted)
+from_begins dialect text (more, ps, h) = (more, ps, read-value dialect (text ++ more) ps h)
+
+-- the place that is computed of a text is that of its longest front that begins a value
+pub value_place : (dialect : Dialect) (text : List ℕ) →
+    IsPlace (BeginsValue dialect) text (value_reach dialect text (base unquoted))
+value_place dialect text =
+    let p = placed dialect text (base unquoted) in
+    record {
+      within = p.within;
+      completed = to_begins dialect (take (value_reach dialect text (base unquoted)) text) p.completed;
+      longest =
+          λ below begins.
+          p.longest below (from_begins dialect (take (suc (value_reach dialect text (base unquoted))) text) begins);
+    }
+
+-- a front of the front of a value is the front of a value
+pub value_fronts : (dialect : Dialect) (text more : List ℕ) → BeginsValue dialect (text ++ more) →
+    BeginsValue dialect text
+value_fronts dialect text more (rest, ps, h) =
+    (more ++ rest, ps, subst (λ t. IsValue dialect t ps) (append_assoc text more rest) h)

@@ -1,0 +1,64 @@
+-- Meanings of pieces, and the items of entries under one environment.
+use Rattle.std.specs.Prelude.{
+  ℕ,
+  List,
+  [],
+  ◌∷◌,
+  ◌++◌,
+  Option,
+  Some,
+  None,
+  Result,
+  Ok,
+  Err,
+  unwrap_or,
+  bytes_eq,
+  if◌then◌else◌,
+}
+use Rattle.std.specs.Option.{option_or}
+use Rattle.dotenvy_format.specs.Value.{Piece, Text, Name}
+use Rattle.dotenvy_format.specs.Entries.{Failure, Entry, Declares, Fails}
+
+-- what some names stand for
+abbrev pub LookUp : Type 0
+LookUp = List ℕ → Option (List ℕ)
+
+-- every name is absent
+abbrev pub no_values : LookUp
+no_values name = None
+
+-- what a name stands for in a value: an absent one for the empty text
+abbrev pub text_of : LookUp → List ℕ → List ℕ
+text_of look_up name = unwrap_or (look_up name) []
+
+-- the pieces joined, each name as what it stands for; an absent name stands for the empty text
+abbrev pub meaning : LookUp → List Piece → List ℕ
+meaning look [] = []
+meaning look (Text text ∷ pieces) = text ++ meaning look pieces
+meaning look (Name name ∷ pieces) = unwrap_or (look name) [] ++ meaning look pieces
+
+-- the value of the first pair with this key
+abbrev pub first_value : List (List ℕ × List ℕ) → LookUp
+first_value [] name = None
+first_value ((key, value) ∷ pairs) name =
+    if bytes_eq key name then Some value else first_value pairs name
+
+-- what the first has for a name, else what the second has
+abbrev pub or_else : LookUp → LookUp → LookUp
+or_else first second name = option_or (first name) (second name)
+
+-- the look-up with one name changed
+abbrev pub with_value : LookUp → List ℕ → List ℕ → LookUp
+with_value look key value name = if bytes_eq key name then Some value else look name
+
+-- the items of entries; a name means the environment's value, else that of the last earlier declaration
+abbrev pub items_from : LookUp → LookUp → List Entry → List (Result (List ℕ × List ℕ) Failure)
+items_from env earlier [] = []
+items_from env earlier (Declares key pieces ∷ entries) =
+    let value = meaning (or_else env earlier) pieces in
+    Ok (key, value) ∷ items_from env (with_value earlier key value) entries
+items_from env earlier (Fails failure ∷ entries) = Err failure ∷ items_from env earlier entries
+
+-- the items of entries under one environment
+abbrev pub items : LookUp → List Entry → List (Result (List ℕ × List ℕ) Failure)
+items env entries = items_from env no_values entries

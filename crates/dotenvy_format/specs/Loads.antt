@@ -1,0 +1,78 @@
+-- The closed rules of both loads: over the environment before and the declarations, with no environment that changes.
+use Rattle.std.specs.Prelude.{
+  ◌≡◌,
+  ℕ,
+  Bool,
+  true,
+  ◌&&◌,
+  List,
+  [],
+  ◌∷◌,
+  ◌++◌,
+  Some,
+  None,
+  Result,
+  Ok,
+  Err,
+  is_none,
+  bytes_eq,
+  if◌then◌else◌,
+}
+use Rattle.std.specs.Option.{option_or}
+use Rattle.dotenvy_format.specs.Entries.{Failure, Entry, Declares, Fails, Nul}
+use Rattle.dotenvy_format.specs.Items.{LookUp, meaning, or_else, first_value}
+use Rattle.dotenvy_format.specs.Run.{Loaded, has_nul}
+
+-- the declarations before the stop, with their values, and the stop: its error, or the end
+pub record Declared : Type 0 where
+  pub pairs : List (List ℕ × List ℕ)
+  pub stop : Result (Unit {0}) Failure
+
+-- the value of the last pair with this key
+abbrev pub last_value : List (List ℕ × List ℕ) → LookUp
+last_value [] name = None
+last_value ((key, value) ∷ pairs) name =
+    option_or (last_value pairs name) (if bytes_eq key name then Some value else None)
+
+-- the declarations up to the stop, after earlier ones: `look earlier` says what a name means, and `matters earlier key` whether a NUL would be a fault
+abbrev pub declared_from : (List (List ℕ × List ℕ) → LookUp) →
+    (List (List ℕ × List ℕ) → List ℕ → Bool) → List (List ℕ × List ℕ) → List Entry → Declared
+declared_from look matters earlier [] = record { pairs = earlier; stop = Ok tt }
+declared_from look matters earlier (Fails failure ∷ entries) =
+    record { pairs = earlier; stop = Err failure }
+declared_from look matters earlier (Declares key pieces ∷ entries) =
+    let value = meaning (look earlier) pieces in
+    if matters earlier key && has_nul value
+    then record { pairs = earlier; stop = Err (Nul key) }
+    else declared_from look matters (earlier ++ (key, value) ∷ []) entries
+
+-- under `load` a name means the environment's value, else that of the first earlier declaration, else what is remembered
+abbrev pub load_look_up : LookUp → LookUp → List (List ℕ × List ℕ) → LookUp
+load_look_up env remembered earlier = or_else env (or_else (first_value earlier) remembered)
+
+-- this would be the first declaration of a name that is absent
+abbrev pub is_first_of_absent : LookUp → List (List ℕ × List ℕ) → List ℕ → Bool
+is_first_of_absent env earlier key = is_none (env key) && is_none (first_value earlier key)
+
+-- `load`: each absent name that is declared before the stop has its first value there
+abbrev pub load_result : LookUp → LookUp → List Entry → Loaded
+load_result env remembered entries =
+    let declared =
+    declared_from (load_look_up env remembered) (is_first_of_absent env) [] entries in
+    record { env = or_else env (first_value declared.pairs); answer = declared.stop }
+
+-- under `load_override` a name means the value of the last earlier declaration, else the environment's, else what is remembered
+abbrev pub override_look_up : LookUp → LookUp → List (List ℕ × List ℕ) → LookUp
+override_look_up env remembered earlier = or_else (last_value earlier) (or_else env remembered)
+
+-- `load_override`: each name that is declared before the stop has its last value there
+abbrev pub override_result : LookUp → LookUp → List Entry → Loaded
+override_result env remembered entries =
+    let declared =
+    declared_from (override_look_up env remembered) (λ earlier key. true) [] entries in
+    record { env = or_else (last_value declared.pairs) env; answer = declared.stop }
+
+-- the same answer, and the same value of each name
+pub record SameLoad (load other : Loaded) : Type 0 where
+  pub env : (name : List ℕ) → load.env name ≡ other.env name
+  pub answer : load.answer ≡ other.answer

@@ -1,0 +1,64 @@
+-- The tokens of a logical line. A token is a whole piece of text.
+use Rattle.std.specs.Prelude.{ℕ, Bool, true, false, not, ◌||◌, ◌==◌, List, [], ◌∷◌, ◌++◌, IsTrue}
+use Rattle.std.specs.List.{flat_map, list_all}
+use Rattle.dotenvy_format.specs.Characters.{is_blank, is_quote, line_feed, backslash, hash}
+
+-- what may stand between quotes: one character, or a backslash and the one after it
+pub data QuotedCharacter : Type 0 where
+  one : ℕ → QuotedCharacter
+  pair : ℕ → QuotedCharacter
+
+-- a character; a backslash and one more; a quote, what it encloses, and the quote again; a blank and one more; a blank alone
+pub data Token : Type 0 where
+  plain : ℕ → Token
+  backslash_pair : ℕ → Token
+  quoted : ℕ → List QuotedCharacter → Token
+  blank_pair : ℕ → ℕ → Token
+  blank : ℕ → Token
+
+-- the text of what stands between quotes
+abbrev pub quoted_text : QuotedCharacter → List ℕ
+quoted_text (one c) = c ∷ []
+quoted_text (pair c) = backslash ∷ c ∷ []
+
+-- the text of a token
+abbrev pub token_text : Token → List ℕ
+token_text (plain c) = c ∷ []
+token_text (backslash_pair c) = backslash ∷ c ∷ []
+token_text (quoted quote inner) = quote ∷ flat_map quoted_text inner ++ quote ∷ []
+token_text (blank_pair b c) = b ∷ c ∷ []
+token_text (blank b) = b ∷ []
+
+-- the text of a row of tokens
+abbrev pub tokens_text : List Token → List ℕ
+tokens_text tokens = flat_map token_text tokens
+
+-- it may stand between these quotes: a character other than the quote and a backslash, or a backslash and any character
+abbrev pub is_quoted : ℕ → QuotedCharacter → Bool
+is_quoted quote (one c) = not (c == quote || c == backslash)
+is_quoted quote (pair c) = true
+
+-- backslash, quotes and line feed, before which a blank stands alone
+abbrev pub stands_for_itself : ℕ → Bool
+stands_for_itself c = (c == backslash || is_quote c) || c == line_feed
+
+-- such a character stands next
+abbrev pub is_before_break : List ℕ → Bool
+is_before_break [] = false
+is_before_break (c ∷ cs) = stands_for_itself c
+
+-- the token may stand where this text follows; no line feed is outside quotes
+abbrev pub IsToken : Token → List ℕ → Type 0
+IsToken (plain c) after = IsTrue (not (is_blank c || stands_for_itself c))
+IsToken (backslash_pair c) after = IsTrue (not (c == line_feed))
+IsToken (quoted quote inner) after =
+    IsTrue (is_quote quote) × IsTrue (list_all (is_quoted quote) inner)
+IsToken (blank_pair b c) after =
+    IsTrue (is_blank b) × IsTrue (not (c == hash || stands_for_itself c))
+IsToken (blank b) after = IsTrue (is_blank b) × IsTrue (is_before_break after)
+
+-- the tokens may stand in a row where this text follows
+abbrev pub AreTokens : List Token → List ℕ → Type 0
+AreTokens [] after = Unit {0}
+AreTokens (token ∷ tokens) after =
+    IsToken token (tokens_text tokens ++ after) × AreTokens tokens after

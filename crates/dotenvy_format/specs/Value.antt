@@ -1,0 +1,212 @@
+-- Values, and the pieces that they mean.
+use Rattle.std.specs.Prelude.{
+  ◌≡◌,
+  ℕ,
+  Bool,
+  true,
+  false,
+  not,
+  ◌&&◌,
+  ◌||◌,
+  ◌==◌,
+  List,
+  [],
+  ◌∷◌,
+  ◌++◌,
+  IsTrue,
+  if◌then◌else◌,
+}
+use Rattle.std.specs.List.{flat_map, list_all}
+use Rattle.dotenvy_format.specs.declared.dialect.Dialect.{Dialect}
+use Rattle.dotenvy_format.specs.declared.dialect.Dialect.TheVariants.{V15, Next}
+use Rattle.dotenvy_format.specs.Characters.{
+  is_space_or_tab,
+  is_name_character,
+  is_empty_or_comment,
+  line_feed,
+  letter_n,
+  space,
+  single_quote,
+  double_quote,
+  dollar,
+  backslash,
+  left_brace,
+  right_brace,
+}
+
+-- what a part of a value gives: this text, or what a name stands for
+pub data Piece : Type 0 where
+  Text : List ℕ → Piece
+  Name : List ℕ → Piece
+
+-- a character; a backslash and a character; `${name}`; `$name` and the character that ends it; `$name` before a character that it leaves to what follows
+pub data Part : Type 0 where
+  plain : ℕ → Part
+  escape : ℕ → Part
+  braced : List ℕ → Part
+  bare : List ℕ → ℕ → Part
+  bare_before : List ℕ → Part
+
+-- where a part stands: outside quotes, or between double quotes
+pub data Quoting : Type 0 where
+  unquoted : Quoting
+  double_quoted : Quoting
+
+-- a part outside quotes; a text in single quotes; or parts in double quotes
+pub data Segment : Type 0 where
+  unquoted_part : Part → Segment
+  single : List ℕ → Segment
+  double : List Part → Segment
+
+-- what may stand at a value's end: nothing; a backslash; `$name`; or a tail, which is a space or tab, more of them, and a comment, if any
+pub data Close : Type 0 where
+  nothing : Close
+  lone_backslash : Close
+  bare_name : List ℕ → Close
+  tail : ℕ → List ℕ → List ℕ → Close
+
+-- the text of a part
+abbrev pub part_text : Part → List ℕ
+part_text (plain c) = c ∷ []
+part_text (escape c) = backslash ∷ c ∷ []
+part_text (braced name) = dollar ∷ left_brace ∷ (name ++ right_brace ∷ [])
+part_text (bare name c) = dollar ∷ (name ++ c ∷ [])
+part_text (bare_before name) = dollar ∷ name
+
+-- the text of a row of parts
+abbrev pub parts_text : List Part → List ℕ
+parts_text parts = flat_map part_text parts
+
+-- the text of a segment
+abbrev pub segment_text : Segment → List ℕ
+segment_text (unquoted_part p) = part_text p
+segment_text (single inner) = single_quote ∷ (inner ++ single_quote ∷ [])
+segment_text (double inner) = double_quote ∷ (parts_text inner ++ double_quote ∷ [])
+
+-- the text of a row of segments
+abbrev pub segments_text : List Segment → List ℕ
+segments_text segments = flat_map segment_text segments
+
+-- the text of what stands at the end
+abbrev pub close_text : Close → List ℕ
+close_text nothing = []
+close_text lone_backslash = backslash ∷ []
+close_text (bare_name name) = dollar ∷ name
+close_text (tail blank blanks comment) = blank ∷ (blanks ++ comment)
+
+-- the character that an escape means: a line feed for `n`, and else itself
+abbrev pub escape_meaning : ℕ → ℕ
+escape_meaning c = if c == letter_n then line_feed else c
+
+-- what a part means
+abbrev pub part_pieces : Part → List Piece
+part_pieces (plain c) = Text (c ∷ []) ∷ []
+part_pieces (escape c) = Text (escape_meaning c ∷ []) ∷ []
+part_pieces (braced name) = Name name ∷ []
+part_pieces (bare name c) = Name name ∷ Text (c ∷ []) ∷ []
+part_pieces (bare_before name) = Name name ∷ []
+
+-- what a segment means
+abbrev pub segment_pieces : Segment → List Piece
+segment_pieces (unquoted_part p) = part_pieces p
+segment_pieces (single inner) = Text inner ∷ []
+segment_pieces (double inner) = flat_map part_pieces inner
+
+-- what stands at the end means a name, or nothing
+abbrev pub close_pieces : Close → List Piece
+close_pieces nothing = []
+close_pieces lone_backslash = []
+close_pieces (bare_name name) = Name name ∷ []
+close_pieces (tail blank blanks comment) = []
+
+-- a character that means itself inside double quotes
+abbrev pub is_plain_inside : ℕ → Bool
+is_plain_inside c = not ((c == backslash || c == double_quote) || c == dollar)
+
+-- a character that means itself outside quotes
+abbrev pub is_plain_outside : ℕ → Bool
+is_plain_outside c =
+    not
+    ((((c == backslash || c == single_quote) || c == double_quote) || c == dollar)
+    || is_space_or_tab c)
+
+-- backslash, quotes, dollar, space and `n`
+abbrev pub is_escape : ℕ → Bool
+is_escape c =
+    ((((c == backslash || c == single_quote) || c == double_quote) || c == dollar) || c == space)
+    || c == letter_n
+
+-- a character that means itself there
+abbrev pub is_plain : Quoting → ℕ → Bool
+is_plain double_quoted c = is_plain_inside c
+is_plain unquoted c = is_plain_outside c
+
+-- a bare name may stand right before the closing double quote
+abbrev pub closes_after_name : Dialect → Quoting → Bool
+closes_after_name V15 quoting = false
+closes_after_name Next unquoted = false
+closes_after_name Next double_quoted = true
+
+-- a bare name leaves this character to what follows: it begins another name, or closes the quotes
+abbrev pub is_left_by_name : Dialect → Quoting → ℕ → Bool
+is_left_by_name dialect quoting c =
+    c == dollar || (closes_after_name dialect quoting && c == double_quote)
+
+-- such a character stands next
+abbrev pub is_before_left : Dialect → Quoting → List ℕ → Bool
+is_before_left dialect quoting [] = false
+is_before_left dialect quoting (c ∷ cs) = is_left_by_name dialect quoting c
+
+-- this character ends the bare name before it, and means itself; a brace after the dollar would begin a braced name
+abbrev pub ends_name : Dialect → Quoting → List ℕ → ℕ → Bool
+ends_name dialect quoting [] c =
+    not ((is_name_character dialect c || is_left_by_name dialect quoting c) || c == left_brace)
+ends_name dialect quoting (d ∷ name) c =
+    not (is_name_character dialect c || is_left_by_name dialect quoting c)
+
+-- the part may stand there, where this text follows
+abbrev pub IsPart : Dialect → Quoting → Part → List ℕ → Type 0
+IsPart dialect quoting (plain c) after = IsTrue (is_plain quoting c)
+IsPart dialect quoting (escape c) after = IsTrue (is_escape c)
+IsPart dialect quoting (braced name) after = IsTrue (list_all (λ c. not (c == right_brace)) name)
+IsPart dialect quoting (bare name c) after =
+    IsTrue (list_all (is_name_character dialect) name) × IsTrue (ends_name dialect quoting name c)
+IsPart dialect quoting (bare_before name) after =
+    IsTrue (list_all (is_name_character dialect) name)
+    × IsTrue (is_before_left dialect quoting after)
+
+-- the parts may stand there in a row, where this text follows
+abbrev pub AreParts : Dialect → Quoting → List Part → List ℕ → Type 0
+AreParts dialect quoting [] after = Unit {0}
+AreParts dialect quoting (p ∷ parts) after =
+    IsPart dialect quoting p (parts_text parts ++ after) × AreParts dialect quoting parts after
+
+-- the segment may stand, where this text follows
+abbrev pub IsSegment : Dialect → Segment → List ℕ → Type 0
+IsSegment dialect (unquoted_part p) after = IsPart dialect unquoted p after
+IsSegment dialect (single inner) after = IsTrue (list_all (λ c. not (c == single_quote)) inner)
+IsSegment dialect (double inner) after = AreParts dialect double_quoted inner (double_quote ∷ after)
+
+-- the segments may stand in a row, where this text follows
+abbrev pub AreSegments : Dialect → List Segment → List ℕ → Type 0
+AreSegments dialect [] after = Unit {0}
+AreSegments dialect (s ∷ segments) after =
+    IsSegment dialect s (segments_text segments ++ after) × AreSegments dialect segments after
+
+-- this may stand at the end of a value
+abbrev pub IsClose : Dialect → Close → Type 0
+IsClose dialect nothing = Unit {0}
+IsClose dialect lone_backslash = Unit {0}
+IsClose dialect (bare_name name) = IsTrue (list_all (is_name_character dialect) name)
+IsClose dialect (tail blank blanks comment) =
+    IsTrue (is_space_or_tab blank && list_all is_space_or_tab blanks)
+    × IsTrue (is_empty_or_comment comment)
+
+-- the text is a value, and means these pieces
+pub record IsValue (dialect : Dialect) (value : List ℕ) (pieces : List Piece) : Type 0 where
+  pub segments : List Segment
+  pub close : Close
+  pub are_segments : AreSegments dialect segments (close_text close)
+  pub is_close : IsClose dialect close
+  pub spelled : value ≡ segments_text segments ++ close_text close
+  pub means : pieces ≡ flat_map segment_pieces segments ++ close_pieces close

@@ -1,0 +1,120 @@
+-- What the functions that read a value piece by piece give, by its characters.
+use Rattle.std.specs.Prelude.{
+  ℕ,
+  ◌≡◌,
+  ◌+◌,
+  ◌<◌,
+  Bool,
+  true,
+  false,
+  ◌==◌,
+  List,
+  [],
+  ◌∷◌,
+  ◌++◌,
+  length,
+  Option,
+  Some,
+  None,
+  MatchOption,
+  unwrap_or,
+  if◌then◌else◌,
+}
+use denote.Ref.{Bor}
+use Rattle.std.specs.Str.{chars, encode_utf8_all, IsUtf8}
+use Rattle.dotenvy_format.specs.declared.dialect.Dialect.{Dialect}
+use Rattle.dotenvy_format.specs.declared.text.Quoting.{Quoting as CodeQuoting}
+use Rattle.dotenvy_format.specs.declared.text.Quoting.TheVariants.{Unquoted, DoubleQuoted}
+use Rattle.dotenvy_format.specs.declared.value.Kind.{Kind}
+use Rattle.dotenvy_format.specs.declared.value.Kind.TheVariants.{
+  Backslash,
+  SingleQuote,
+  DoubleQuote,
+  Dollar,
+  SpaceOrTab,
+  Plain,
+}
+use Rattle.dotenvy_format.specs.declared.value.Piece.{Piece as CodePiece}
+use Rattle.dotenvy_format.specs.declared.value.Piece.TheVariants.{Text, Name}
+use Rattle.dotenvy_format.specs.declared.value.Given.{Given}
+use Rattle.dotenvy_format.specs.declared.value.NextPiece.{NextPiece}
+use Rattle.dotenvy_format.specs.declared.value.NextPiece.TheVariants.{Piece as GivesNext, End, Unfinished, Fault}
+use Rattle.dotenvy_format.specs.Characters.{single_quote, double_quote, dollar, backslash, is_space_or_tab}
+use Rattle.dotenvy_format.specs.Value.{Quoting, unquoted, double_quoted, Piece, is_escape, escape_meaning}
+use Rattle.dotenvy_format.specs.inside.Slices.{quoting_of}
+use Rattle.dotenvy_format.specs.Items.{LookUp, meaning}
+use Rattle.dotenvy_format.specs.inside.ReadValue.{ValueMode, base, given, read_value, value_reach}
+
+-- a double quote changes where the code stands
+abbrev pub other_quoting : Quoting → Quoting
+other_quoting unquoted = double_quoted
+other_quoting double_quoted = unquoted
+
+-- the text has no character
+abbrev pub is_empty : List ℕ → Bool
+is_empty [] = true
+is_empty (c ∷ cs) = false
+
+-- what a character begins
+abbrev pub kind_of : CodeQuoting → ℕ → Kind
+kind_of Unquoted c =
+    if c == backslash then Backslash else
+    if c == single_quote then SingleQuote else
+    if c == double_quote then DoubleQuote else
+    if c == dollar then Dollar else
+    if is_space_or_tab c then SpaceOrTab else Plain
+kind_of DoubleQuoted c =
+    if c == backslash then Backslash else
+    if c == double_quote then DoubleQuote else
+    if c == dollar then Dollar else Plain
+
+-- the bytes that a backslash and this character mean
+abbrev pub Escapes : ℕ → Option (Bor (List ℕ)) → Type 0
+Escapes c result =
+    MatchOption result (is_escape c ≡ false)
+    (λ text. (is_escape c ≡ true) × (text.now ≡ encode_utf8_all (escape_meaning c ∷ [])))
+
+-- the bytes that a piece of the code means
+abbrev pub piece_bytes : LookUp → CodePiece → List ℕ
+piece_bytes look_up (Text text) = text.now
+piece_bytes look_up (Name name after) =
+    encode_utf8_all (unwrap_or (look_up (chars name.now)) []) ++ after.now
+
+-- reading the text from one mode gives the pieces, and goes on with the rest from another
+pub record IsReadTo (dialect : Dialect) (m : ValueMode) (text : List ℕ) (pieces : List Piece)
+    (n : ValueMode) (rest : List ℕ) : Type 0 where
+  pub front : List ℕ
+  pub spelled : text ≡ front ++ rest
+  pub reads : read_value dialect text m ≡ given pieces (read_value dialect rest n)
+  pub counts : value_reach dialect text m ≡ length front + value_reach dialect rest n
+
+-- the piece and where the value goes on, whatever names stand for
+pub record GivesPiece (dialect : Dialect) (m : ValueMode) (text : List ℕ) (next : Given)
+    : Type 0 where
+  pub pieces : List Piece
+  pub is_read :
+      IsReadTo dialect m text pieces (base (quoting_of next.quoting)) (chars next.rest.now)
+  pub follows : IsUtf8 next.rest.now
+  pub means : (look_up : LookUp) →
+      piece_bytes look_up next.piece ≡ encode_utf8_all (meaning look_up pieces)
+
+-- no value goes on with what is left
+pub record StopsAt (dialect : Dialect) (m : ValueMode) (text left : List ℕ) : Type 0 where
+  pub front : List ℕ
+  pub spelled : text ≡ front ++ left
+  pub reads : read_value dialect text m ≡ None
+  pub counts : value_reach dialect text m ≡ length front
+
+-- the end of the value, a piece, the end of a text that lacks the end of its value, or what is left at a fault
+abbrev pub NextPieceIs : (dialect : Dialect) (m : ValueMode) (text : List ℕ) → NextPiece → Type 0
+NextPieceIs dialect m text End = read_value dialect text m ≡ Some []
+NextPieceIs dialect m text (GivesNext next) = GivesPiece dialect m text next
+NextPieceIs dialect m text Unfinished = StopsAt dialect m text []
+NextPieceIs dialect m text (Fault left) = StopsAt dialect m text (chars left.now)
+
+-- a piece leaves fewer characters
+abbrev pub IsShorter : List ℕ → NextPiece → Type 0
+IsShorter text End = Unit {0}
+IsShorter text (GivesNext next) = length (chars next.rest.now) < length text
+IsShorter text Unfinished = Unit {0}
+IsShorter text (Fault left) = Unit {0}

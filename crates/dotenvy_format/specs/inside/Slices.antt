@@ -1,0 +1,124 @@
+-- Slices of a text, by its bytes and by its characters.
+use Rattle.std.specs.Prelude.{
+  ℕ,
+  ◌≡◌,
+  Bool,
+  false,
+  not,
+  ◌&&◌,
+  ◌||◌,
+  ◌==◌,
+  nat_le,
+  nat_lt,
+  List,
+  [],
+  ◌∷◌,
+  ◌++◌,
+  take,
+  IsTrue,
+}
+use Rattle.std.specs.Char.{encode_utf8}
+use Rattle.std.specs.List.{list_all}
+use Rattle.std.specs.Str.{chars, IsUtf8, IsCharBoundary}
+use Rattle.dotenvy_format.specs.declared.text.Class.{Class}
+use Rattle.dotenvy_format.specs.declared.text.Class.TheVariants.{
+  Key,
+  Name,
+  Plain,
+  SpaceOrTab,
+  DoubleQuote,
+  Token,
+  Quoted,
+}
+use Rattle.dotenvy_format.specs.declared.text.ByteKind.{ByteKind}
+use Rattle.dotenvy_format.specs.declared.text.ByteKind.TheVariants.{
+  Plain as PlainByte,
+  Token as TokenByte,
+  Key as KeyByte,
+}
+use Rattle.dotenvy_format.specs.declared.text.Quoting.{Quoting as CodeQuoting}
+use Rattle.dotenvy_format.specs.declared.text.Quoting.TheVariants.{Unquoted, DoubleQuoted}
+use Rattle.std.specs.Char.{is_ascii_alphanumeric}
+use Rattle.dotenvy_format.specs.declared.dialect.Dialect.{Dialect}
+use Rattle.dotenvy_format.specs.Characters.{
+  tab,
+  space,
+  underscore,
+  double_quote,
+  backslash,
+  is_blank,
+  continues_key,
+  allows_underscore,
+  is_name_character,
+  is_space_or_tab,
+}
+use Rattle.dotenvy_format.specs.Tokens.{stands_for_itself}
+use Rattle.dotenvy_format.specs.Value.{Quoting, unquoted, double_quoted, is_plain, is_plain_outside}
+
+-- where the code stands, in the words of the format
+abbrev pub quoting_of : CodeQuoting → Quoting
+quoting_of Unquoted = unquoted
+quoting_of DoubleQuoted = double_quoted
+
+-- the character is of the class
+abbrev pub has_character : Class → ℕ → Bool
+has_character Key c = continues_key c
+has_character (Name dialect) c = is_name_character dialect c
+has_character (Plain quoting) c = is_plain (quoting_of quoting) c
+has_character SpaceOrTab c = is_space_or_tab c
+has_character DoubleQuote c = c == double_quote
+has_character Token c = not (is_blank c || stands_for_itself c)
+has_character (Quoted quote) c = not (c == quote || c == backslash)
+
+-- an ASCII character of a bare name
+abbrev pub is_name_byte : Dialect → ℕ → Bool
+is_name_byte dialect b = is_ascii_alphanumeric b || (allows_underscore dialect && b == underscore)
+
+-- a byte that is a character of a token, or a part of one, and begins no blank
+abbrev pub is_token_byte : ℕ → Bool
+is_token_byte b = not ((stands_for_itself b || ((nat_le tab b && nat_le b 12) || b == space)) ||
+    (b == 0xC2 || (nat_le 0xE1 b && nat_le b 0xE3)))
+
+-- the byte is of the kind
+abbrev pub is_of_kind : ByteKind → ℕ → Bool
+is_of_kind PlainByte b = is_plain_outside b
+is_of_kind TokenByte b = is_token_byte b
+is_of_kind KeyByte b = continues_key b
+
+-- a byte that begins a character of the class, or goes on with one
+abbrev pub in_run : Class → ℕ → Bool
+in_run Key b = continues_key b
+in_run (Name dialect) b = is_name_byte dialect b
+in_run (Plain quoting) b = is_plain (quoting_of quoting) b
+in_run SpaceOrTab b = is_space_or_tab b
+in_run DoubleQuote b = b == double_quote
+in_run Token b = is_token_byte b
+in_run (Quoted quote) b = nat_lt quote 128 && not (b == quote || b == backslash)
+
+-- the text begins with this character, and the rest follows it
+pub record BeginsWith (text : List ℕ) (c : ℕ) (rest : List ℕ) : Type 0 where
+  pub bytes : text ≡ encode_utf8 c ++ rest
+  pub follows : IsUtf8 rest
+  pub characters : chars text ≡ c ∷ chars rest
+
+-- the first character of a text passes the test
+abbrev pub begins_passing : (ℕ → Bool) → List ℕ → Bool
+begins_passing passes [] = false
+begins_passing passes (c ∷ cs) = passes c
+
+-- the front is the longest of characters that pass, and the rest follows it
+pub record IsSpan (passes : ℕ → Bool) (text front rest : List ℕ) : Type 0 where
+  pub spelled : text ≡ front ++ rest
+  pub pass : IsTrue (list_all passes front)
+  pub longest : IsTrue (not (begins_passing passes rest))
+
+-- the rest follows bytes that pass
+pub record PassesBytes (passes : ℕ → Bool) (bytes rest : List ℕ) : Type 0 where
+  pub front : List ℕ
+  pub spelled : bytes ≡ front ++ rest
+  pub pass : IsTrue (list_all passes front)
+
+-- the front of this many bytes is a text, and its characters pass
+pub record PassesTo (passes : ℕ → Bool) (text : List ℕ) (len : ℕ) : Type 0 where
+  pub boundary : IsCharBoundary text len
+  pub pass : IsTrue (list_all passes (chars (take len text)))

@@ -1,0 +1,100 @@
+// A line up to what is assigned: white space, `export` where it is a prefix, a key and `=`.
+ghost use Rattle.std.specs.Prelude.{◌≡◌};
+ghost use Rattle.std.specs.Str.{chars};
+ghost use Rattle.dotenvy_format.specs.Characters.{begins_key};
+ghost use Rattle.dotenvy_format.specs.inside.Slices.{begins_passing};
+ghost use Rattle.dotenvy_format.specs.inside.ParseStatement.{key_then, skipping, equals_then, after_equals, after_plain_key, second_key, after_first_key, parse, Parsed, parsed_of, keyed_of, assigned_of};
+
+use crate::classes::begins_key;
+use crate::text::{Class, split_first, split_while};
+
+/// A key and what is assigned to it, as slices of the line.
+#[derive(Clone, Copy)]
+pub struct Statement<'a> {
+    pub key: &'a str,
+    pub rest: &'a str,
+}
+
+// A statement, or what is left of the line at its fault.
+type Parsed<'a> = std::result::Result<Statement<'a>, &'a str>;
+
+// A key's first character stands next.
+fn begins_with_key(text: &str) -> bool
+    ensures { result ≡ begins_passing begins_key (chars text.now) }
+{
+    match split_first(text) {
+        Some((first, _)) => begins_key(first),
+        None => false,
+    }
+}
+
+// The key that the text begins with, and what follows it and white space.
+fn split_key(text: &str) -> std::result::Result<(&str, &str), &str>
+    ensures { (next : _) → keyed_of result next ≡ key_then (chars text.now) (skipping next) }
+{
+    if begins_with_key(text) {
+        let (key, after) = split_while(text, Class::Key);
+        Ok((key, after.trim_start()))
+    } else {
+        Err(text)
+    }
+}
+
+// What is assigned to the key, where `=` stands next.
+fn assigned<'a>(key: &'a str, left: &'a str) -> Option<Statement<'a>>
+    ensures { (other : Parsed) →
+        assigned_of result other
+        ≡ equals_then (chars left.now) (after_equals (chars key.now)) other }
+{
+    let (first, rest) = split_first(left)?;
+    if first != '=' {
+        return None;
+    }
+    Some(Statement {
+        key,
+        rest: rest.trim_start(),
+    })
+}
+
+fn after_key<'a>(key: &'a str, left: &'a str) -> Parsed<'a>
+    ensures { parsed_of result ≡ after_plain_key (chars key.now) (chars left.now) }
+{
+    assigned(key, left).ok_or(left)
+}
+
+fn after_prefix(left: &str) -> Parsed<'_>
+    ensures { parsed_of result ≡ second_key (chars left.now) }
+{
+    let (key, after) = split_key(left)?;
+    after_key(key, after)
+}
+
+fn after_first_key<'a>(key: &'a str, left: &'a str) -> Parsed<'a>
+    ensures { parsed_of result ≡ after_first_key (chars key.now) (chars left.now) }
+{
+    match assigned(key, left) {
+        Some(statement) => Ok(statement),
+        None => {
+            if key == "export" {
+                after_prefix(left)
+            } else {
+                Err(left)
+            }
+        }
+    }
+}
+
+// A text that begins with no white space.
+fn trimmed_statement(text: &str) -> Parsed<'_>
+    ensures { parsed_of result ≡ key_then (chars text.now) (skipping after_first_key) }
+{
+    let (key, after) = split_key(text)?;
+    after_first_key(key, after)
+}
+
+/// The statement of a line without white space at its end, or what is left of the line where no statement goes on.
+pub fn split_statement(line: &str) -> Parsed<'_>
+    ensures { parsed_of result ≡ parse (chars line.now) }
+{
+    trimmed_statement(line.trim_start())
+}

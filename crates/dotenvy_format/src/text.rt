@@ -1,0 +1,259 @@
+// Texts cut at characters.
+ghost use Rattle.std.specs.Prelude.{◌≡◌, ◌==◌, ◌++◌, [], not, length, unwrap_or, MatchOption};
+ghost use Rattle.std.specs.Str.{chars, IsUtf8};
+ghost use Rattle.dotenvy_format.specs.Characters.{continues_key, is_space_or_tab, is_empty_or_comment};
+ghost use Rattle.std.specs.List.{prefix_len, position_from};
+ghost use Rattle.dotenvy_format.specs.inside.Slices.{BeginsWith, IsSpan, PassesBytes, PassesTo, has_character, is_name_byte, is_of_kind, is_token_byte, in_run};
+ghost use Rattle.dotenvy_format.specs.Value.{is_plain_outside};
+
+use crate::classes::{allows_underscore, continues_key, is_blank, is_name_character};
+use crate::dialect::Dialect;
+use memchr::{memchr2, memchr3};
+
+/// Where a part of a value stands.
+#[derive(Clone, Copy)]
+pub enum Quoting {
+    Unquoted,
+    DoubleQuoted,
+}
+
+/// The classes of characters of which a text takes the longest front.
+#[derive(Clone, Copy)]
+pub enum Class {
+    /// A character of a key past its first.
+    Key,
+    /// A character of a name after a dollar without braces.
+    Name(Dialect),
+    /// A character of a value that means itself.
+    Plain(Quoting),
+    SpaceOrTab,
+    DoubleQuote,
+    /// A character that changes nothing outside quotes: no white space, quote or backslash.
+    Token,
+    /// A character between these quotes that neither ends them nor escapes another.
+    Quoted(char),
+}
+
+impl Class {
+    ghost use Rattle.dotenvy_format.specs.inside.Slices.{has_character};
+
+    #[inline(always)]
+    pub fn contains(self, c: char) -> bool
+        ensures { result ≡ has_character self c }
+    {
+        match self {
+            Class::Key => continues_key(c),
+            Class::Name(dialect) => is_name_character(dialect, c),
+            Class::Plain(Quoting::Unquoted) => !matches!(c, '\\' | '\'' | '"' | '$' | ' ' | '\t'),
+            Class::Plain(Quoting::DoubleQuoted) => !matches!(c, '\\' | '"' | '$'),
+            Class::SpaceOrTab => matches!(c, ' ' | '\t'),
+            Class::DoubleQuote => c == '"',
+            Class::Token => !(is_blank(c) || matches!(c, '\\' | '\'' | '"' | '\n')),
+            Class::Quoted(quote) => c != quote && c != '\\',
+        }
+    }
+}
+
+/// The first character, and what follows it.
+#[inline(always)]
+pub fn split_first(text: &str) -> Option<(char, &str)>
+    ensures { MatchOption result (text.now ≡ []) (λ p. BeginsWith text.now p.0 p.1.now) }
+{
+    let mut chars = text.chars();
+    let first = chars.next()?;
+    Some((first, chars.as_str()))
+}
+
+pub fn char_count(text: &str) -> usize
+    ensures { result ≡ length (chars text.now) }
+{
+    text.chars().count()
+}
+
+pub fn is_empty_or_comment(text: &str) -> bool
+    ensures { result ≡ is_empty_or_comment (chars text.now) }
+{
+    match split_first(text) {
+        None => true,
+        Some((first, _)) => first == '#',
+    }
+}
+
+// An ASCII character of a name.
+fn is_name_byte(dialect: Dialect, byte: u8) -> bool
+    ensures { result ≡ is_name_byte dialect byte }
+{
+    byte.is_ascii_alphanumeric() || (allows_underscore(dialect) && byte == b'_')
+}
+
+// The byte is a character of a value that means itself outside quotes, or a part of one.
+const PLAIN: u8 = 1;
+
+// The byte is a character of a token, or a part of one, and begins no blank: those that are not ASCII begin with 0xC2 and
+// with 0xE1 to 0xE3.
+const TOKEN: u8 = 2;
+
+// The byte is a character of a key past its first.
+const KEY: u8 = 4;
+
+// What each byte is, of these.
+static KINDS: [u8; 256] = [
+    3, 3, 3, 3, 3, 3, 3, 3, 3, 0, 1, 1, 1, 3, 3, 3, 3, 3, 3, 3, 3, 3, 3, 3, 3, 3, 3, 3, 3, 3, 3, 3,
+    0, 3, 0, 3, 2, 3, 3, 0, 3, 3, 3, 3, 3, 3, 7, 3, 7, 7, 7, 7, 7, 7, 7, 7, 7, 7, 3, 3, 3, 3, 3, 3,
+    3, 7, 7, 7, 7, 7, 7, 7, 7, 7, 7, 7, 7, 7, 7, 7, 7, 7, 7, 7, 7, 7, 7, 7, 7, 7, 7, 3, 0, 3, 3, 7,
+    3, 7, 7, 7, 7, 7, 7, 7, 7, 7, 7, 7, 7, 7, 7, 7, 7, 7, 7, 7, 7, 7, 7, 7, 7, 7, 7, 3, 3, 3, 3, 3,
+    3, 3, 3, 3, 3, 3, 3, 3, 3, 3, 3, 3, 3, 3, 3, 3, 3, 3, 3, 3, 3, 3, 3, 3, 3, 3, 3, 3, 3, 3, 3, 3,
+    3, 3, 3, 3, 3, 3, 3, 3, 3, 3, 3, 3, 3, 3, 3, 3, 3, 3, 3, 3, 3, 3, 3, 3, 3, 3, 3, 3, 3, 3, 3, 3,
+    3, 3, 1, 3, 3, 3, 3, 3, 3, 3, 3, 3, 3, 3, 3, 3, 3, 3, 3, 3, 3, 3, 3, 3, 3, 3, 3, 3, 3, 3, 3, 3,
+    3, 1, 1, 1, 3, 3, 3, 3, 3, 3, 3, 3, 3, 3, 3, 3, 3, 3, 3, 3, 3, 3, 3, 3, 3, 3, 3, 3, 3, 3, 3, 3,
+];
+
+#[inline(always)]
+fn is_plain_byte(byte: u8) -> bool
+    ensures { result ≡ is_plain_outside byte }
+{
+    KINDS[byte as usize] & PLAIN != 0
+}
+
+#[inline(always)]
+fn is_token_byte(byte: u8) -> bool
+    ensures { result ≡ is_token_byte byte }
+{
+    KINDS[byte as usize] & TOKEN != 0
+}
+
+#[inline(always)]
+fn is_key_byte(byte: u8) -> bool
+    ensures { result ≡ continues_key byte }
+{
+    KINDS[byte as usize] & KEY != 0
+}
+
+// What the table tells of a byte.
+#[derive(Clone, Copy)]
+enum ByteKind {
+    Plain,
+    Token,
+    Key,
+}
+
+impl ByteKind {
+    ghost use Rattle.dotenvy_format.specs.inside.Slices.{is_of_kind};
+
+    #[inline(always)]
+    fn contains(self, byte: u8) -> bool
+        ensures { result ≡ is_of_kind self byte }
+    {
+        match self {
+            ByteKind::Plain => is_plain_byte(byte),
+            ByteKind::Token => is_token_byte(byte),
+            ByteKind::Key => is_key_byte(byte),
+        }
+    }
+}
+
+fn name_end(bytes: &[u8], dialect: Dialect) -> Option<usize>
+    ensures { result ≡ position_from (λ b. not (is_name_byte dialect b)) 0 bytes.now }
+{
+    bytes.iter().position(|b| !is_name_byte(dialect, *b))
+}
+
+fn blanks_end(bytes: &[u8]) -> Option<usize>
+    ensures { result ≡ position_from (λ b. not (is_space_or_tab b)) 0 bytes.now }
+{
+    bytes.iter().position(|b| !matches!(*b, b' ' | b'\t'))
+}
+
+// Where a row of one byte ends.
+#[inline(always)]
+fn row_end(bytes: &[u8], byte: u8) -> Option<usize>
+    ensures { result ≡ position_from (λ b. not (b == byte)) 0 bytes.now }
+{
+    bytes.iter().position(|b| *b != byte)
+}
+
+/// How many bytes at the front of a text are this one.
+#[inline(always)]
+pub fn row_len(text: &str, byte: u8) -> usize
+    ensures { result ≡ prefix_len (λ b. b == byte) text.now }
+{
+    let bytes = text.as_bytes();
+    row_end(bytes, byte).unwrap_or(bytes.len())
+}
+
+#[inline(always)]
+fn kind_end(bytes: &[u8], kind: ByteKind) -> Option<usize>
+    ensures { result ≡ position_from (λ b. not (is_of_kind kind b)) 0 bytes.now }
+{
+    bytes.iter().position(|b| !kind.contains(*b))
+}
+
+// What is left behind the blocks of eight bytes at the front that are all of the kind. A block costs half of what eight
+// bytes cost one by one.
+#[inline(always)]
+fn pass_blocks(bytes: &[u8], kind: ByteKind) -> &[u8]
+    ensures { PassesBytes (is_of_kind kind) bytes.now result.now }
+{
+    let mut rest = bytes;
+    'blocks: while let Some((block, after)) = rest.split_first_chunk::<8>() {
+        if kind_end(block, kind).is_some() {
+            break;
+        }
+        rest = after;
+    }
+    rest
+}
+
+// How many bytes at the front are of the kind.
+#[inline(always)]
+fn kind_run(bytes: &[u8], kind: ByteKind) -> usize
+    ensures { result ≡ prefix_len (is_of_kind kind) bytes.now }
+{
+    let rest = pass_blocks(bytes, kind);
+    bytes.len() - rest.len() + kind_end(rest, kind).unwrap_or(rest.len())
+}
+
+// Where the bytes end that are passed over without a look at their characters.
+#[inline(always)]
+fn run_end(bytes: &[u8], class: Class) -> Option<usize>
+    ensures { unwrap_or result (length bytes.now) ≡ prefix_len (in_run class) bytes.now }
+{
+    match class {
+        Class::Key => Some(kind_run(bytes, ByteKind::Key)),
+        Class::Name(dialect) => name_end(bytes, dialect),
+        Class::Plain(Quoting::Unquoted) => Some(kind_run(bytes, ByteKind::Plain)),
+        Class::Plain(Quoting::DoubleQuoted) => memchr3(b'\\', b'"', b'$', bytes),
+        Class::SpaceOrTab => blanks_end(bytes),
+        Class::DoubleQuote => row_end(bytes, b'"'),
+        Class::Token => Some(kind_run(bytes, ByteKind::Token)),
+        Class::Quoted(quote) if quote.is_ascii() => memchr2(quote as u8, b'\\', bytes),
+        Class::Quoted(_) => Some(0),
+    }
+}
+
+// How many bytes at the front are passed over without a look at their characters, which are all of the class.
+#[inline(always)]
+fn run_len(text: &str, class: Class) -> usize
+    ensures { PassesTo (has_character class) text.now result }
+{
+    let bytes = text.as_bytes();
+    run_end(bytes, class).unwrap_or(bytes.len())
+}
+
+/// The longest front of characters of the class, and what follows it.
+#[inline(always)]
+pub fn split_while(text: &str, class: Class) -> (&str, &str)
+    ensures bytes { text.now ≡ result.0.now ++ result.1.now }
+    ensures texts { IsUtf8 result.0.now × IsUtf8 result.1.now }
+    ensures span { IsSpan (has_character class) (chars text.now) (chars result.0.now)
+        (chars result.1.now) }
+{
+    let mut rest = text;
+    'runs: loop {
+        let (_, after) = rest.split_at(run_len(rest, class));
+        match split_first(after) {
+            Some((first, next)) if class.contains(first) => rest = next,
+            _ => return text.split_at(text.len() - after.len()),
+        }
+    }
+}

@@ -1,0 +1,320 @@
+// What is assigned, read piece by piece.
+ghost use Rattle.std.specs.Prelude.{◌≡◌, ◌<◌, ◌==◌, ◌&&◌, not, [], IsTrue};
+ghost use Rattle.std.specs.List.{prefix_len};
+ghost use Rattle.std.specs.Str.{chars};
+ghost use Rattle.dotenvy_format.specs.inside.ReadValue.{base, escaping, in_single, naming, bracing, in_tail};
+ghost use Rattle.dotenvy_format.specs.Characters.{backslash, left_brace, begins_with, is_name_character};
+ghost use Rattle.dotenvy_format.specs.inside.Slices.{quoting_of, begins_passing};
+ghost use Rattle.dotenvy_format.specs.Value.{is_left_by_name, is_plain};
+ghost use Rattle.dotenvy_format.specs.inside.NextPiece.{other_quoting, is_empty, kind_of, Escapes, NextPieceIs, IsShorter};
+
+use crate::dialect::Dialect;
+use crate::text::{Class, Quoting, is_empty_or_comment, row_len, split_first, split_while};
+
+/// What a part of a value means.
+#[derive(Clone, Copy)]
+pub enum Piece<'a> {
+    Text(&'a str),
+    /// What a name stands for, and the text right after it.
+    Name { name: &'a str, after: &'a str },
+}
+
+/// A piece, and where the value goes on.
+#[derive(Clone, Copy)]
+pub struct Given<'a> {
+    pub piece: Piece<'a>,
+    pub rest: &'a str,
+    pub quoting: Quoting,
+}
+
+/// What comes next in a value.
+#[derive(Clone, Copy)]
+pub enum NextPiece<'a> {
+    Piece(Given<'a>),
+    End,
+    /// The text ends, and the value lacks its end: a quote or a brace is open.
+    Unfinished,
+    /// No value goes on with what is left.
+    Fault(&'a str),
+}
+
+// What a character begins.
+#[derive(Clone, Copy)]
+enum Kind {
+    Backslash,
+    SingleQuote,
+    DoubleQuote,
+    Dollar,
+    SpaceOrTab,
+    Plain,
+}
+
+#[inline(always)]
+fn kind_of(quoting: Quoting, c: char) -> Kind
+    ensures { result ≡ kind_of quoting c }
+{
+    match quoting {
+        Quoting::Unquoted => match c {
+            '\\' => Kind::Backslash,
+            '\'' => Kind::SingleQuote,
+            '"' => Kind::DoubleQuote,
+            '$' => Kind::Dollar,
+            ' ' | '\t' => Kind::SpaceOrTab,
+            _ => Kind::Plain,
+        },
+        Quoting::DoubleQuoted => match c {
+            '\\' => Kind::Backslash,
+            '"' => Kind::DoubleQuote,
+            '$' => Kind::Dollar,
+            _ => Kind::Plain,
+        },
+    }
+}
+
+// The character after a bare name is no text of its own: it begins a substitution, or closes the quotes.
+fn is_left_by_name(dialect: Dialect, quoting: Quoting, c: char) -> bool
+    ensures { result ≡ is_left_by_name dialect (quoting_of quoting) c }
+{
+    match (dialect, quoting) {
+        (Dialect::Next, Quoting::DoubleQuoted) => matches!(c, '$' | '"'),
+        _ => c == '$',
+    }
+}
+
+// What a backslash and this character mean.
+#[inline(always)]
+fn escaped(c: char) -> Option<&'static str>
+    ensures { Escapes c result }
+{
+    match c {
+        '\\' => Some("\\"),
+        '\'' => Some("'"),
+        '"' => Some("\""),
+        '$' => Some("$"),
+        ' ' => Some(" "),
+        'n' => Some("\n"),
+        _ => None,
+    }
+}
+
+// Nothing follows, which is a value's end outside double quotes alone.
+#[inline(always)]
+fn at_end(text: &str, quoting: Quoting) -> NextPiece<'_>
+    requires { text.now ≡ [] }
+    ensures after_part { (dialect : _) →
+        NextPieceIs dialect (base (quoting_of quoting)) (chars text.now) result }
+    ensures shorter { IsShorter (chars text.now) result }
+    ensures after_backslash { (dialect : _) →
+        NextPieceIs dialect (escaping (quoting_of quoting)) (chars text.now) result }
+{
+    match quoting {
+        Quoting::Unquoted => NextPiece::End,
+        Quoting::DoubleQuoted => NextPiece::Unfinished,
+    }
+}
+
+// What follows a backslash that no other follows.
+#[inline(always)]
+fn escape_one(left: &str, quoting: Quoting) -> NextPiece<'_>
+    ensures { (dialect : _) →
+        NextPieceIs dialect (escaping (quoting_of quoting)) (chars left.now) result }
+{
+    match split_first(left) {
+        None => at_end(left, quoting),
+        Some((first, rest)) => match escaped(first) {
+            Some(meant) => NextPiece::Piece(Given {
+                piece: Piece::Text(meant),
+                rest,
+                quoting,
+            }),
+            None => NextPiece::Fault(left),
+        },
+    }
+}
+
+// What follows a backslash that so many others follow: each two of them mean one, and the last of an odd number is left.
+fn backslashes(left: &str, more: usize, quoting: Quoting) -> NextPiece<'_>
+    requires some { 0 < more }
+    requires row { more ≡ prefix_len (λ b. b == backslash) left.now }
+    ensures { (dialect : _) →
+        NextPieceIs dialect (escaping (quoting_of quoting)) (chars left.now) result }
+{
+    let pairs = more / 2 + more % 2;
+    let (meant, _) = left.split_at(pairs);
+    let (_, rest) = left.split_at(2 * pairs - 1);
+    NextPiece::Piece(Given {
+        piece: Piece::Text(meant),
+        rest,
+        quoting,
+    })
+}
+
+// What follows a backslash.
+#[inline(always)]
+fn escape(left: &str, quoting: Quoting) -> NextPiece<'_>
+    ensures { (dialect : _) →
+        NextPieceIs dialect (escaping (quoting_of quoting)) (chars left.now) result }
+{
+    match row_len(left, b'\\') {
+        0 => escape_one(left, quoting),
+        more => backslashes(left, more, quoting),
+    }
+}
+
+// What follows a single quote outside double quotes.
+fn single_quoted(left: &str) -> NextPiece<'_>
+    ensures { (dialect : _) → NextPieceIs dialect (in_single []) (chars left.now) result }
+{
+    match left.split_once('\'') {
+        Some((text, rest)) => NextPiece::Piece(Given {
+            piece: Piece::Text(text),
+            rest,
+            quoting: Quoting::Unquoted,
+        }),
+        None => NextPiece::Unfinished,
+    }
+}
+
+// What follows `${`.
+fn braced(left: &str, quoting: Quoting) -> NextPiece<'_>
+    ensures { (dialect : _) →
+        NextPieceIs dialect (bracing (quoting_of quoting) []) (chars left.now) result }
+{
+    match left.split_once('}') {
+        Some((name, rest)) => NextPiece::Piece(Given {
+            piece: Piece::Name { name, after: "" },
+            rest,
+            quoting,
+        }),
+        None => NextPiece::Unfinished,
+    }
+}
+
+// What follows a bare name: the character after it is text, or is left to what follows.
+fn after_name<'a>(name: &'a str, left: &'a str, quoting: Quoting, dialect: Dialect) -> NextPiece<'a>
+    requires ended { IsTrue (not (begins_passing (is_name_character dialect) (chars left.now))) }
+    requires no_brace { IsTrue
+        (not (is_empty (chars name.now) && begins_with left_brace (chars left.now))) }
+    ensures { NextPieceIs dialect (naming (quoting_of quoting) (chars name.now)) (chars left.now)
+        result }
+{
+    match split_first(left) {
+        None => match quoting {
+            Quoting::Unquoted => NextPiece::Piece(Given {
+                piece: Piece::Name { name, after: "" },
+                rest: left,
+                quoting,
+            }),
+            Quoting::DoubleQuoted => NextPiece::Unfinished,
+        },
+        Some((first, rest)) => {
+            if is_left_by_name(dialect, quoting, first) {
+                NextPiece::Piece(Given {
+                    piece: Piece::Name { name, after: "" },
+                    rest: left,
+                    quoting,
+                })
+            } else {
+                let (after, _) = left.split_at(first.len_utf8());
+                NextPiece::Piece(Given {
+                    piece: Piece::Name { name, after },
+                    rest,
+                    quoting,
+                })
+            }
+        }
+    }
+}
+
+// What follows `$` without a brace.
+fn bare(left: &str, quoting: Quoting, dialect: Dialect) -> NextPiece<'_>
+    requires { IsTrue (not (begins_with left_brace (chars left.now))) }
+    ensures { NextPieceIs dialect (naming (quoting_of quoting) []) (chars left.now) result }
+{
+    let (name, rest) = split_while(left, Class::Name(dialect));
+    after_name(name, rest, quoting, dialect)
+}
+
+// What follows `$`.
+fn substitution(left: &str, quoting: Quoting, dialect: Dialect) -> NextPiece<'_>
+    ensures { NextPieceIs dialect (naming (quoting_of quoting) []) (chars left.now) result }
+{
+    match left.strip_prefix('{') {
+        Some(name) => braced(name, quoting),
+        None => bare(left, quoting, dialect),
+    }
+}
+
+// What follows a space or tab outside quotes.
+fn tail(left: &str) -> NextPiece<'_>
+    ensures { (dialect : _) → NextPieceIs dialect in_tail (chars left.now) result }
+{
+    let (_, comment) = split_while(left, Class::SpaceOrTab);
+    if is_empty_or_comment(comment) {
+        NextPiece::End
+    } else {
+        NextPiece::Fault(comment)
+    }
+}
+
+// The longest front of characters that mean themselves.
+fn plain(text: &str, quoting: Quoting) -> NextPiece<'_>
+    requires { IsTrue (begins_passing (is_plain (quoting_of quoting)) (chars text.now)) }
+    ensures next { (dialect : _) →
+        NextPieceIs dialect (base (quoting_of quoting)) (chars text.now) result }
+    ensures shorter { IsShorter (chars text.now) result }
+{
+    let (plain, rest) = split_while(text, Class::Plain(quoting));
+    NextPiece::Piece(Given {
+        piece: Piece::Text(plain),
+        rest,
+        quoting,
+    })
+}
+
+fn other_quoting(quoting: Quoting) -> Quoting
+    ensures { quoting_of result ≡ other_quoting (quoting_of quoting) }
+{
+    match quoting {
+        Quoting::Unquoted => Quoting::DoubleQuoted,
+        Quoting::DoubleQuoted => Quoting::Unquoted,
+    }
+}
+
+// What follows a double quote. More of them right after it begin and end parts with no text, so they are taken at once.
+#[inline(always)]
+fn double_quote(left: &str, quoting: Quoting) -> NextPiece<'_>
+    ensures { (dialect : _) →
+        NextPieceIs dialect (base (other_quoting (quoting_of quoting))) (chars left.now) result }
+{
+    let (more, rest) = split_while(left, Class::DoubleQuote);
+    let quoting = if more.len() % 2 == 0 {
+        other_quoting(quoting)
+    } else {
+        quoting
+    };
+    NextPiece::Piece(Given {
+        piece: Piece::Text(""),
+        rest,
+        quoting,
+    })
+}
+
+/// The next piece of a value at this place.
+#[inline(always)]
+pub fn next_piece(text: &str, quoting: Quoting, dialect: Dialect) -> NextPiece<'_>
+    ensures next { NextPieceIs dialect (base (quoting_of quoting)) (chars text.now) result }
+    ensures shorter { IsShorter (chars text.now) result }
+{
+    match split_first(text) {
+        None => at_end(text, quoting),
+        Some((first, left)) => match kind_of(quoting, first) {
+            Kind::Backslash => escape(left, quoting),
+            Kind::SingleQuote => single_quoted(left),
+            Kind::DoubleQuote => double_quote(left, quoting),
+            Kind::Dollar => substitution(left, quoting, dialect),
+            Kind::SpaceOrTab => tail(left),
+            Kind::Plain => plain(text, quoting),
+        },
+    }
+}

@@ -1,0 +1,161 @@
+use Rattle.std.proofs.Common.{rules, ◌∙◌, Err, Ok, ap, refl, subst}
+use Rattle.std.specs.Str.{chars}
+use Rattle.std.proofs.lemmas.Result.{err_from_is_err_and}
+use Rattle.dotenvy_format.specs.Run.{run}
+use Rattle.dotenvy_items.specs.Iter.{IterState}
+use Rattle.dotenvy_items.specs.LoadsLeft.{LoadsLeft}
+use Rattle.dotenvy_items.specs.inside.LoadStep.{mode_of, LoadsLine}
+use Rattle.dotenvy_items.specs.Remembered.{remembered_of}
+use Rattle.dotenvy_items.specs.inside.ItemStep.{state_of}
+use Rattle.dotenvy_items.proofs.LineLoads.{keeps_twice, changes_keys-twice}
+use Rattle.dotenvy_items.proofs.LoadSteps.{
+  CameTo,
+  came_start,
+  came_line,
+  loads_line,
+  loads_none,
+  loads_fault,
+  loads_mark,
+}
+use Rattle.dotenvy_items.proofs.iter.Iter.load_lines.Goals as goal
+
+pub returns-in_err-drop_mark-clause-told : goal.returns-in_err-drop_mark-clause-told
+returns-in_err-drop_mark-clause-told g c = λ opened.
+    let p = err_from_is_err_and c.from_residual.result c.from_residual.ensures.1 in
+    let e = c.in_err-drop_mark.field-0.0 in
+    let names = c.args.env.now.names in
+    let mode = mode_of c.args.mode in
+    let view = c.self.view_is in
+    let inside =
+    state_of c.self.inside.lines.lines (remembered_of c.self.inside.remembered.entries) c.self.inside.dialect
+    c.self.inside.item_lines in
+    rw (p.1, p.2) (subst (λ s. LoadsLeft (run mode) s names (Err e) names) view
+    (loads_mark mode inside c.drop_mark.new.self.lines.input names e
+    (λ a told. c.in_err-drop_mark.ensures.told a (ap (λ (s : IterState). s.lines.stage) view ∙ opened) told)))
+
+pub loading-init : goal.loading-init
+loading-init g c =
+    let names = c.args.env.now.names in
+    let mode = mode_of c.args.mode in
+    let inside =
+    state_of c.self.inside.lines.lines (remembered_of c.self.inside.remembered.entries) c.self.inside.dialect
+    c.self.inside.item_lines in
+    let start : IterState = record inside { lines = c.drop_mark.new.self.lines } in record {
+      shut = λ shut. search rules;
+      came =
+          subst (λ s. CameTo mode s names names start) c.self.view_is
+          (came_start g.row.A.Denot mode inside start names c.in_ok-drop_mark.ensures.ok refl refl
+          c.in_ok-drop_mark.ensures.told);
+      keeps = λ keep k there. refl;
+      keys = λ n other. refl;
+      mark = refl;
+    }
+
+pub loading-preserved : goal.loading-preserved
+loading-preserved g c =
+    let A = g.row.A.Denot in
+    let names = c.loading.env.names in
+    let new = c.load_line.new.env.names in
+    let mode = mode_of c.args.mode in
+    let self = c.loading.self-inside in
+    let now = state_of self.lines.lines (remembered_of self.remembered.entries) self.dialect self.item_lines in
+    let next : IterState = record now { lines = c.advance.new.self.lines } in record {
+      shut = λ shut. absurd (search rules);
+      came =
+          came_line mode c.args.self now next c.args.env.now.names names new c.in-Some.outcome c.advance.new.self.line
+          c.loading.invariant.came c.in_ok-outcome.was (λ shut. (c.in-Some.ensures.shut shut).0) c.in-Some.ensures.told
+          (subst (λ bytes. LoadsLine {A = A} mode now.dialect now.remembered (chars bytes) names (Ok tt) new)
+          c.line.ensures c.in_ok-load_line.ensures.loads) refl refl;
+      keeps = λ keep.
+          keeps_twice c.args.env.now.names names new (c.loading.invariant.keeps keep) (c.load_line.ensures.keeps keep);
+      keys = changes_keys-twice c.args.env.now.names names new c.loading.invariant.keys c.load_line.ensures.keys;
+      mark = c.load_line.ensures.mark ∙ c.loading.invariant.mark;
+    }
+
+pub returns-in_err-outcome-clause-told : goal.returns-in_err-outcome-clause-told
+returns-in_err-outcome-clause-told g c = λ opened.
+    let p = err_from_is_err_and c.from_residual-in_err-outcome.result c.from_residual-in_err-outcome.ensures.1 in
+    let self = c.loading.self-inside in
+    let now = state_of self.lines.lines (remembered_of self.remembered.entries) self.dialect self.item_lines in
+    rw (p.1, p.2) (loads_fault (mode_of c.args.mode) c.args.self now c.advance.new.self.lines c.args.env.now.names
+    c.loading.env.names c.in-Some.outcome c.advance.new.self.line c.in_err-outcome.field-0.0 opened
+    c.loading.invariant.came c.in_err-outcome.was
+    (λ shut. (c.in-Some.ensures.shut shut).0) c.in-Some.ensures.told)
+
+pub returns-in_err-load_line-clause-told : goal.returns-in_err-load_line-clause-told
+returns-in_err-load_line-clause-told g c = λ opened.
+    let p = err_from_is_err_and c.from_residual-in_err-load_line.result c.from_residual-in_err-load_line.ensures.1 in
+    let e = c.in_err-load_line.field-0.0 in
+    let names = c.loading.env.names in
+    let new = c.load_line.new.env.names in
+    let mode = mode_of c.args.mode in
+    let self = c.loading.self-inside in
+    let now = state_of self.lines.lines (remembered_of self.remembered.entries) self.dialect self.item_lines in
+    rw (p.1, p.2)
+    (loads_line mode c.args.self now c.advance.new.self.lines c.args.env.now.names names new c.in-Some.outcome
+    c.advance.new.self.line e opened c.loading.invariant.came c.in_ok-outcome.was
+    (λ shut. (c.in-Some.ensures.shut shut).0) c.in-Some.ensures.told
+    (subst (λ bytes. LoadsLine mode now.dialect now.remembered (chars bytes) names (Err e) new)
+    c.line.ensures c.in_err-load_line.ensures.loads))
+
+pub returns-clause-told : goal.returns-clause-told
+returns-clause-told g c = λ opened.
+    let self = c.loading.self-inside in
+    let now = state_of self.lines.lines (remembered_of self.remembered.entries) self.dialect self.item_lines in
+    loads_none {A = g.row.A.Denot} (mode_of c.args.mode) c.args.self now c.advance.new.self.lines c.args.env.now.names
+    c.loading.env.names c.advance.new.self.line opened c.loading.invariant.came c.in_default.ensures.told
+
+pub returns-clause-shut : goal.returns-clause-shut
+returns-clause-shut g c = λ shut. (refl, (c.loading.invariant.shut shut).1)
+
+pub returns-clause-keeps : goal.returns-clause-keeps
+returns-clause-keeps g c = c.loading.invariant.keeps
+
+pub returns-clause-keys : goal.returns-clause-keys
+returns-clause-keys g c = c.loading.invariant.keys
+
+pub returns-clause-mark : goal.returns-clause-mark
+returns-clause-mark g c = c.loading.invariant.mark
+
+pub returns-in_err-drop_mark-clause-shut : goal.returns-in_err-drop_mark-clause-shut
+returns-in_err-drop_mark-clause-shut g c = search rules
+
+pub returns-in_err-drop_mark-clause-keeps : goal.returns-in_err-drop_mark-clause-keeps
+returns-in_err-drop_mark-clause-keeps g c = λ keep k there. refl
+
+pub returns-in_err-drop_mark-clause-keys : goal.returns-in_err-drop_mark-clause-keys
+returns-in_err-drop_mark-clause-keys g c = λ n other. refl
+
+pub returns-in_err-drop_mark-clause-mark : goal.returns-in_err-drop_mark-clause-mark
+returns-in_err-drop_mark-clause-mark g c = refl
+
+pub returns-in_err-load_line-clause-shut : goal.returns-in_err-load_line-clause-shut
+returns-in_err-load_line-clause-shut g c = λ shut. absurd (search rules)
+
+pub returns-in_err-load_line-clause-keeps : goal.returns-in_err-load_line-clause-keeps
+returns-in_err-load_line-clause-keeps g c = λ keep.
+    keeps_twice c.args.env.now.names c.loading.env.names c.load_line.new.env.names (c.loading.invariant.keeps keep)
+    (c.load_line.ensures.keeps keep)
+
+pub returns-in_err-load_line-clause-keys : goal.returns-in_err-load_line-clause-keys
+returns-in_err-load_line-clause-keys g c =
+    changes_keys-twice c.args.env.now.names c.loading.env.names c.load_line.new.env.names c.loading.invariant.keys
+    c.load_line.ensures.keys
+
+pub returns-in_err-load_line-clause-mark : goal.returns-in_err-load_line-clause-mark
+returns-in_err-load_line-clause-mark g c = c.load_line.ensures.mark ∙ c.loading.invariant.mark
+
+pub returns-in_err-outcome-clause-shut : goal.returns-in_err-outcome-clause-shut
+returns-in_err-outcome-clause-shut g c = λ shut. absurd (search rules)
+
+pub returns-in_err-outcome-clause-keeps : goal.returns-in_err-outcome-clause-keeps
+returns-in_err-outcome-clause-keeps g c = c.loading.invariant.keeps
+
+pub returns-in_err-outcome-clause-keys : goal.returns-in_err-outcome-clause-keys
+returns-in_err-outcome-clause-keys g c = c.loading.invariant.keys
+
+pub returns-in_err-outcome-clause-mark : goal.returns-in_err-outcome-clause-mark
+returns-in_err-outcome-clause-mark g c = c.loading.invariant.mark
+
+pub loading-smaller : goal.loading-smaller
+loading-smaller g c = search rules

@@ -1,0 +1,28 @@
+use Rattle.std.proofs.Common.{◌≡◌, ◌≢◌}
+use Rattle.dotenvy_base.specs.Environment.{KeepsNames}
+use Rattle.dotenvy_lines.specs.declared.lines.Stage.TheVariants.{Open}
+use Rattle.dotenvy_lines.specs.Lines.{fuel_of}
+use Rattle.dotenvy_format.specs.Run.{Keep}
+use Rattle.dotenvy_items.specs.LoadsLeft.{ChangesKeys}
+use Rattle.dotenvy_items.specs.inside.LoadStep.{mode_of}
+use Rattle.dotenvy_items.specs.Remembered.{remembered_of}
+use Rattle.dotenvy_items.specs.inside.ItemStep.{state_of}
+use Rattle.dotenvy_items.proofs.LoadSteps.{CameTo}
+use Rattle.dotenvy_items.proofs.iter.Iter.load_lines.Given as goal
+
+-- some lines were loaded
+abbrev pub invariant-loading : goal.invariant-loading
+invariant-loading g l =
+    let now =
+    state_of l.self-inside.lines.lines (remembered_of l.self-inside.remembered.entries)
+    l.self-inside.dialect l.self-inside.item_lines in
+    record {
+      shut : l.fn.self.lines.stage ≢ Open → (now.lines.stage ≢ Open) × (l.env ≡ l.fn.env);
+      came : CameTo (mode_of l.mode) l.fn.self l.fn.env.names l.env.names now;
+      keeps : mode_of l.mode ≡ Keep → KeepsNames l.fn.env.names l.env.names;
+      keys : ChangesKeys l.fn.env.names l.env.names;
+      mark : l.env.loaded ≡ l.fn.env.loaded;
+    }
+
+abbrev pub decreases-loading : goal.decreases-loading
+decreases-loading g l = fuel_of l.self-inside.lines.lines

@@ -1,0 +1,24 @@
+use Rattle.std.proofs.Common.{◌≡◌, length}
+use denote.Text.{Utf8}
+use denote.Shadow.{shadow}
+use Rattle.std.specs.Str.{chars}
+use Rattle.dotenvy_format.specs.Characters.{byte_len}
+use Rattle.dotenvy_format.specs.Value.{unquoted}
+use Rattle.dotenvy_format.specs.Items.{meaning}
+use Rattle.dotenvy_format.specs.inside.Slices.{quoting_of}
+use Rattle.dotenvy_format.specs.inside.ReadValue.{base}
+use Rattle.dotenvy_format.specs.inside.NextPiece.{IsReadTo}
+use Rattle.dotenvy_items.specs.Meaning.{look_up_of}
+use Rattle.dotenvy_items.specs.inside.ValuePasses.{saturated}
+use Rattle.dotenvy_items.proofs.meaning.Names.measure.Given as goal
+
+-- the pieces so far lead to the rest, and their meaning was counted
+abbrev pub invariant-loop-given : goal.invariant-loop-given
+invariant-loop-given g l =
+    shadow (Utf8 l.rest)
+    × ((pieces : _) × IsReadTo l.dialect (base unquoted) (chars l.value) pieces (base
+    (quoting_of l.quoting)) (chars l.rest) × (l.len
+    ≡ saturated (byte_len (meaning (look_up_of l.self) pieces))))
+
+abbrev pub decreases-loop-given : goal.decreases-loop-given
+decreases-loop-given g l = length (chars l.rest)

@@ -1,0 +1,85 @@
+-- What calls of `next_item` give one after another, and when items and answers say the same.
+use Rattle.std.specs.Prelude.{
+  ℕ,
+  ◌≡◌,
+  ◌≢◌,
+  ◌^◌,
+  ◌+◌,
+  ◌<◌,
+  List,
+  [],
+  ◌∷◌,
+  length,
+  Some,
+  None,
+  Result,
+  Ok,
+  Err,
+  string_bytes,
+}
+use Rattle.std.specs.Str.{chars}
+use Rattle.std.specs.declared.string.String.{String}
+use Rattle.std.specs.declared.io.ErrorKind.TheVariants.{Interrupted}
+use Rattle.dotenvy_base.specs.declared.errors.Error.{Error}
+use Rattle.dotenvy_base.specs.Errors.{IsMemoryErr}
+use Rattle.dotenvy_format.specs.Entries.{Failure}
+use Rattle.dotenvy_base.specs.Environment.{Texts}
+use Rattle.dotenvy_base.specs.Source.{Ahead}
+use Rattle.dotenvy_lines.specs.Input.{end_reads}
+use Rattle.dotenvy_items.specs.Iter.{IterState, IsOpen, TellsLeft}
+use Rattle.dotenvy_items.specs.NextItem.{IsFailure, NextItem}
+use Rattle.dotenvy_items.specs.LoadsLeft.{IsAnswer}
+
+-- what a call of `next_item` gives, if not `None`
+abbrev pub Item : Type 0 → Type 0
+Item A = Result (String A × String A) (Error A)
+
+-- calls from s on, under this environment, give these items one after another, and then `None`
+abbrev pub GivesItems : {A : Type 0} → Texts → IterState → List (Item A) → Type 0
+GivesItems {A = A} names s [] = (t : IterState) × NextItem {A = A} names s None t
+GivesItems names s (item ∷ items) =
+    (t : IterState) × NextItem names s (Some item) t × GivesItems names t items
+
+-- no call was refused memory
+abbrev pub NoneRefused : {A : Type 0} → List (Item A) → Type 0
+NoneRefused [] = Unit {0}
+NoneRefused (item ∷ items) = ¬ (IsMemoryErr item) × NoneRefused items
+
+-- a source tells fewer than 2^32 bytes, and no interrupted read
+pub record IsReadable (a : Ahead) : Type 0 where
+  pub few : length a.bytes < 2 ^ 32
+  pub not_interrupted : a.fault ≢ Some Interrupted
+
+-- an open iterator has this left: no interrupted read, and fewer bytes than the reads that may still be made and the bytes that were read already
+pub record CanRead (s : IterState) (a : Ahead) : Type 0 where
+  pub is_open : IsOpen s
+  pub is_told : TellsLeft s a
+  pub few :
+      length a.bytes < s.lines.input.reads + s.lines.input.unread + end_reads s.lines.input.at_end
+
+-- what was given says this item, by its characters
+abbrev pub SaysItem : {A : Type 0} → Item A → Result (List ℕ × List ℕ) Failure → Type 0
+SaysItem (Ok pair) (Ok (key, value)) =
+    (chars (string_bytes pair.0) ≡ key) × (chars (string_bytes pair.1) ≡ value)
+SaysItem (Ok pair) (Err failure) = ⊥
+SaysItem (Err e) (Ok pair) = ⊥
+SaysItem (Err e) (Err failure) = IsFailure failure e
+
+-- what was given says these items: all, and in order
+abbrev pub SayItems : {A : Type 0} → List (Item A) → List (Result (List ℕ × List ℕ) Failure) →
+    Type 0
+SayItems [] [] = Unit {0}
+SayItems [] (item ∷ items) = ⊥
+SayItems (given ∷ others) [] = ⊥
+SayItems (given ∷ others) (item ∷ items) = SaysItem given item × SayItems others items
+
+-- both say the same items
+abbrev pub SayTheSame : {A : Type 0} → List (Item A) → List (Item A) → Type 0
+SayTheSame given others =
+    (items : List (Result (List ℕ × List ℕ) Failure)) × SayItems given items × SayItems others items
+
+-- both answers say the same
+abbrev pub AnswerTheSame : {A : Type 0} → Result (Unit {0}) (Error A) →
+    Result (Unit {0}) (Error A) → Type 0
+AnswerTheSame answer other =
+    (said : Result (Unit {0}) Failure) × IsAnswer said answer × IsAnswer said other

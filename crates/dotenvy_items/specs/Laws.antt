@@ -1,0 +1,152 @@
+-- Laws of iteration and of loads over bytes: what a source tells alone decides.
+use Rattle.std.specs.Prelude.{ℕ, ◌≡◌, ◌≤◌, List, ◌++◌, length, Option, Some, option_map, Result, Ok, Err}
+use Rattle.std.specs.Str.{encode_utf8_all}
+use Rattle.std.specs.FinMap as fin
+use Rattle.std.specs.declared.io.ErrorKind.{ErrorKind}
+use Rattle.dotenvy_format.specs.declared.dialect.Dialect.{Dialect}
+use Rattle.dotenvy_base.specs.declared.errors.Error.{Error}
+use Rattle.dotenvy_format.specs.PhysicalLines.{physical_lines}
+use Rattle.dotenvy_base.specs.Errors.{IsMemoryErr}
+use Rattle.dotenvy_format.specs.Entries.{Entry, Failure}
+use Rattle.dotenvy_format.specs.Items.{LookUp, items_from, items, no_values}
+use Rattle.dotenvy_format.specs.Run.{Loaded}
+use Rattle.dotenvy_format.specs.Written.{written_bytes}
+use Rattle.dotenvy_base.specs.Output.{Writes}
+use Rattle.dotenvy_format.specs.Loads.{load_result, override_result}
+use Rattle.dotenvy_base.specs.Environment.{Texts}
+use Rattle.dotenvy_items.specs.Meaning.{values_of, recalled_of}
+use Rattle.dotenvy_format.specs.Marks.{without_mark}
+use Rattle.dotenvy_base.specs.Calls.{Call}
+use Rattle.dotenvy_base.specs.Source.{Ahead}
+use Rattle.dotenvy_lines.specs.Reading.{HasLeft, told_fault}
+use Rattle.dotenvy_items.specs.Iter.{IterState, fresh}
+use Rattle.dotenvy_items.specs.Listed.{Lists, pairs_of}
+use Rattle.dotenvy_items.specs.LoadsLeft.{IsAnswer, Rule, Leaves, LoadsLeft}
+use Rattle.dotenvy_items.specs.Iteration.{
+  Item,
+  GivesItems,
+  NoneRefused,
+  IsReadable,
+  CanRead,
+  SayItems,
+  SayTheSame,
+  AnswerTheSame,
+}
+
+-- a fresh iterator gives the items of what its source tells, and the fault that is told, if one is, as the last
+abbrev pub ItemsInOrder : Type 0 → Type 0
+ItemsInOrder A =
+    (dialect : Dialect) (a : Ahead) (calls : Option (List Call)) (names : Texts)
+    (entries : List Entry) (given : List (Item A)) →
+    IsReadable a → HasLeft dialect a.fault a.bytes entries →
+    GivesItems names (fresh (Some a) calls dialect) given → NoneRefused given →
+    SayItems given (items (values_of names) (entries ++ told_fault a.fault))
+
+-- an iterator that was used gives the items of what is left, where a name may also mean what is remembered
+abbrev pub ItemsGoOn : Type 0 → Type 0
+ItemsGoOn A =
+    (s : IterState) (a : Ahead) (names : Texts) (entries : List Entry) (given : List (Item A)) →
+    CanRead s a → HasLeft s.dialect a.fault a.bytes entries →
+    GivesItems names s given → NoneRefused given →
+    SayItems given
+    (items_from (values_of names) (recalled_of s.remembered) (entries ++ told_fault a.fault))
+
+-- two fresh iterators over what a source tells give the same items
+abbrev pub GiveTheSame : Type 0 → Type 0
+GiveTheSame A =
+    (dialect : Dialect) (a : Ahead) (calls other_calls : Option (List Call)) (names : Texts)
+    (given others : List (Item A)) →
+    IsReadable a → GivesItems names (fresh (Some a) calls dialect) given → NoneRefused given →
+    GivesItems names (fresh (Some a) other_calls dialect) others → NoneRefused others →
+    SayTheSame given others
+
+-- a load by this rule of what a source tells, by a fresh iterator, which was not refused memory
+pub record LoadsFresh {A : Type 0} (rule : Rule) (dialect : Dialect) (a : Ahead) (old : Texts)
+    (answer : Result (Unit {0}) (Error A)) (new : Texts) : Type 0 where
+  pub calls : Option (List Call)
+  pub loads : LoadsLeft rule (fresh (Some a) calls dialect) old answer new
+  pub not_refused : ¬ (IsMemoryErr answer)
+
+-- both environments have the same values
+abbrev pub HaveSameValues : Texts → Texts → Type 0
+HaveSameValues names others = (name : List ℕ) → values_of others name ≡ values_of names name
+
+-- two such loads from one environment leave the same values and answer the same
+abbrev pub LoadTheSame : Rule → Type 0 → Type 0
+LoadTheSame rule A =
+    (dialect : Dialect) (a : Ahead) (old new other : Texts)
+    (answer another : Result (Unit {0}) (Error A)) →
+    IsReadable a →
+    LoadsFresh rule dialect a old answer new → LoadsFresh rule dialect a old another other →
+    HaveSameValues new other × AnswerTheSame answer another
+
+-- what a source tells decides items and loads
+abbrev pub CutsDoNotMatter : Type 0 → Type 0
+CutsDoNotMatter A = GiveTheSame A × LoadTheSame load_result A × LoadTheSame override_result A
+
+-- a load that was not refused memory is the load of all the entries left, and of the fault that is told
+abbrev pub LoadsAllLeft : Rule → Type 0 → Type 0
+LoadsAllLeft rule A =
+    (s : IterState) (a : Ahead) (old new : Texts) (answer : Result (Unit {0}) (Error A))
+    (entries : List Entry) →
+    CanRead s a → HasLeft s.dialect a.fault (without_mark a.bytes) entries →
+    LoadsLeft rule s old answer new → ¬ (IsMemoryErr answer) →
+    Leaves (rule (values_of old) (recalled_of s.remembered) (entries ++ told_fault a.fault)) new
+    answer
+
+-- of both loads
+abbrev pub LoadsTakeAll : Type 0 → Type 0
+LoadsTakeAll A = LoadsAllLeft load_result A × LoadsAllLeft override_result A
+
+-- to `load` what a source tells a second time leaves the values as they are, and answers the same
+abbrev pub LoadsAgain : Type 0 → Type 0
+LoadsAgain A =
+    (dialect : Dialect) (a : Ahead) (old new newer : Texts)
+    (answer another : Result (Unit {0}) (Error A)) →
+    IsReadable a →
+    LoadsFresh load_result dialect a old answer new →
+    LoadsFresh load_result dialect a new another newer →
+    HaveSameValues new newer × AnswerTheSame answer another
+
+-- a map holds the values of this look-up, by their bytes, and no others
+abbrev pub HoldsLoaded : Texts → LookUp → Type 0
+HoldsLoaded names look = (name : List ℕ) →
+    fin.get names name ≡ option_map encode_utf8_all (look name)
+
+-- after a load that leaves these values: its failure is answered, and the sink is as it was; else
+-- the written form of the pairs is sent
+abbrev pub ListsValues : {A W : Type 0} → (W → Option (List ℕ)) → (W → Option ErrorKind) →
+    (W → Option (List Call)) → W → W → LookUp → Result (Unit {0}) Failure →
+    Result (Unit {0}) (Error A) → Type 0
+ListsValues held last_fault calls old new look (Err failure) answer =
+    IsAnswer (Err failure) answer × (new ≡ old)
+ListsValues held last_fault calls old new look (Ok done) answer =
+    (names : Texts) × HoldsLoaded names look
+    × Writes held last_fault calls old new (written_bytes (pairs_of names)) answer
+
+-- what a load leaves and answers is listed
+abbrev pub ListsLoaded : {A W : Type 0} → (W → Option (List ℕ)) → (W → Option ErrorKind) →
+    (W → Option (List Call)) → W → W → Loaded → Result (Unit {0}) (Error A) → Type 0
+ListsLoaded held last_fault calls old new loaded answer =
+    ListsValues held last_fault calls old new loaded.env loaded.answer answer
+
+-- a listing by a fresh iterator, which was not refused memory, is that of what the rule leaves where
+-- no name has a value, of all that is told
+abbrev pub ListsByRule : Type 0 → Type 0 → Type 0
+ListsByRule A W =
+    (dialect : Dialect) (a : Ahead) (reads : Option (List Call)) (held : W → Option (List ℕ))
+    (last_fault : W → Option ErrorKind) (calls : W → Option (List Call)) (old new : W)
+    (answer : Result (Unit {0}) (Error A)) (entries : List Entry) →
+    IsReadable a → HasLeft dialect a.fault (without_mark a.bytes) entries →
+    Lists (fresh (Some a) reads dialect) held last_fault calls old new answer →
+    ¬ (IsMemoryErr answer) →
+    ListsLoaded held last_fault calls old new
+    (load_result no_values no_values (entries ++ told_fault a.fault)) answer
+
+-- there are no more entries than physical lines, and each entry is one item
+abbrev pub OneEntryALine : Type 0
+OneEntryALine =
+    ((dialect : Dialect) (fault : Option ErrorKind) (bytes : List ℕ) (entries : List Entry) →
+    HasLeft dialect fault bytes entries → length entries ≤ length (physical_lines bytes))
+    × ((env remembered : LookUp) (entries : List Entry) →
+    length (items_from env remembered entries) ≡ length entries)

@@ -1,0 +1,46 @@
+-- What a load leaves and answers.
+use Rattle.std.specs.Prelude.{ℕ, ◌≡◌, false, List, Result, Ok, Err}
+use Rattle.std.specs.FinMap as fin
+use Rattle.dotenvy_base.specs.declared.errors.Error.{Error}
+use Rattle.dotenvy_format.specs.Keys.{is_key}
+use Rattle.dotenvy_format.specs.Entries.{Failure, Entry}
+use Rattle.dotenvy_format.specs.Items.{LookUp}
+use Rattle.dotenvy_format.specs.Run.{Loaded}
+use Rattle.dotenvy_base.specs.Environment.{Texts}
+use Rattle.dotenvy_items.specs.Meaning.{values_of, recalled_of}
+use Rattle.dotenvy_format.specs.Marks.{without_mark}
+use Rattle.dotenvy_base.specs.Source.{Ahead}
+use Rattle.dotenvy_lines.specs.Reading.{HasLeft, IsReading}
+use Rattle.dotenvy_items.specs.NextItem.{IsFailure}
+use Rattle.dotenvy_items.specs.Iter.{IterState, TellsLeft}
+
+-- the answer says the same
+abbrev pub IsAnswer : {A : Type 0} → Result (Unit {0}) Failure → Result (Unit {0}) (Error A) →
+    Type 0
+IsAnswer (Ok done) (Ok r) = Unit {0}
+IsAnswer (Ok done) (Err e) = ⊥
+IsAnswer (Err failure) (Ok r) = ⊥
+IsAnswer (Err failure) (Err e) = IsFailure failure e
+
+-- the environment has the values that the load leaves, and the answer is its answer
+pub record Leaves {A : Type 0} (loaded : Loaded) (new : Texts)
+    (answer : Result (Unit {0}) (Error A)) : Type 0 where
+  pub values : (name : List ℕ) → values_of new name ≡ loaded.env name
+  pub is_answer : IsAnswer loaded.answer answer
+
+-- a rule of loads, which is given the environment before, what is remembered, and the entries that are read
+abbrev pub Rule : Type 0
+Rule = LookUp → LookUp → List Entry → Loaded
+
+-- a load by this rule of what s has left, without a byte order mark at its front
+abbrev pub LoadsLeft : {A : Type 0} → Rule → IterState → Texts → Result (Unit {0}) (Error A) →
+    Texts → Type 0
+LoadsLeft rule s old answer new =
+    (a : Ahead) → TellsLeft s a → (entries : List Entry) →
+    HasLeft s.dialect a.fault (without_mark a.bytes) entries →
+    (read : List Entry) × IsReading s.dialect a s.lines.input entries read
+    × Leaves (rule (values_of old) (recalled_of s.remembered) read) new answer
+
+-- a name that is no key has the value that it had
+abbrev pub ChangesKeys : Texts → Texts → Type 0
+ChangesKeys old new = (name : List ℕ) → is_key name ≡ false → fin.get new name ≡ fin.get old name

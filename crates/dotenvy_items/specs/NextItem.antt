@@ -1,0 +1,147 @@
+-- What the next item is, and what it leaves.
+use Rattle.std.specs.Prelude.{
+  ℕ,
+  ◌≡◌,
+  ◌⊎◌,
+  ◌+◌,
+  List,
+  [],
+  ◌∷◌,
+  ◌++◌,
+  Option,
+  Some,
+  None,
+  Result,
+  Ok,
+  Err,
+  IfSome,
+  IfOk,
+  IsTrue,
+  drop,
+  string_bytes,
+}
+use Rattle.std.specs.Str.{chars}
+use Rattle.std.specs.IoError.{error_kind}
+use Rattle.std.specs.declared.string.String.{String}
+use Rattle.dotenvy_base.specs.declared.errors.Error.{Error}
+use Rattle.dotenvy_lines.specs.declared.lines.Stage.TheVariants.{Ended}
+use Rattle.dotenvy_base.specs.Errors.{IsMemory, IsNulOf, IsIoOf, IsLineParseOf}
+use Rattle.dotenvy_format.specs.PhysicalLines.{physical_lines}
+use Rattle.dotenvy_format.specs.LogicalLine.{Logical}
+use Rattle.dotenvy_format.specs.Entries.{
+  Failure,
+  LineParse,
+  Io,
+  Nul,
+  Memory,
+  Entry,
+  Declares,
+  Fails,
+  AreFirstLines,
+  Gives,
+  GiveAll,
+}
+use Rattle.dotenvy_format.specs.declared.dialect.Dialect.{Dialect}
+use Rattle.dotenvy_format.specs.Decided.{HasDecided}
+use Rattle.dotenvy_format.specs.Items.{LookUp, text_of, meaning, with_value}
+use Rattle.dotenvy_base.specs.Environment.{Texts, name_ok}
+use Rattle.dotenvy_items.specs.Meaning.{recalled_of, names_of}
+use Rattle.dotenvy_base.specs.Source.{Ahead}
+use Rattle.dotenvy_lines.specs.Input.{Moves}
+use Rattle.dotenvy_lines.specs.Lines.{whole_lines, IsAtEnd, GoesOn, FailsFor, Counts}
+use Rattle.dotenvy_lines.specs.Splitter.{no_line}
+use Rattle.dotenvy_lines.specs.Reading.{HasLeft}
+use Rattle.dotenvy_items.specs.Iter.{IterState, IsOpen, TellsLeft}
+
+-- the error says this failure
+abbrev pub IsFailure : {A : Type 0} → Failure → Error A → Type 0
+IsFailure (LineParse text index) e = IsLineParseOf text index e
+IsFailure (Io kind) e = IsIoOf (λ fault. error_kind fault ≡ kind) e
+IsFailure (Nul key) e = IsNulOf key e
+IsFailure Memory e = IsMemory e
+
+-- the item is what the entry says, where names stand for these texts
+abbrev pub IsItem : {A : Type 0} → LookUp → Entry → Result (String A × String A) (Error A) → Type 0
+IsItem look_up (Declares key pieces) (Ok pair) =
+    (chars (string_bytes pair.0) ≡ key) × (chars (string_bytes pair.1) ≡ meaning look_up pieces)
+IsItem look_up (Declares key pieces) (Err e) = ⊥
+IsItem look_up (Fails failure) (Ok pair) = ⊥
+IsItem look_up (Fails failure) (Err e) = IsFailure failure e
+
+-- after a declaration its key stands for the value that it was given, and the other names for what they did; after a fault all do
+abbrev pub RemembersEntry : LookUp → LookUp → LookUp → Entry → Type 0
+RemembersEntry look_up old new (Declares key pieces) =
+    (name : List ℕ) → text_of new name ≡ text_of (with_value old key (meaning look_up pieces)) name
+RemembersEntry look_up old new (Fails failure) =
+    (name : List ℕ) → text_of new name ≡ text_of old name
+
+-- whatever follows the bytes, these are the first entries that are decided
+abbrev pub DecideFirst : Dialect → List ℕ → List Entry → Type 0
+DecideFirst dialect bytes entries =
+    (more : List ℕ) (decided : List Entry) → HasDecided dialect more decided →
+    HasDecided dialect (bytes ++ more) (entries ++ decided)
+
+-- of what is told these logical lines were used, and no more; this is left
+pub record UsesLines (a : Ahead) (lines : List Logical) (left : List ℕ) : Type 0 where
+  pub count : ℕ
+  pub are_first : AreFirstLines (whole_lines a) count lines
+  pub rest : physical_lines left ≡ drop count (physical_lines a.bytes)
+
+-- lines that give no entry were used, then the one that gives this entry, and nothing behind it
+pub record UsesUpTo (dialect : Dialect) (a : Ahead) (entry : Entry) (left : List ℕ) : Type 0 where
+  pub silent : List Logical
+  pub before : ℕ
+  pub are_before : AreFirstLines (whole_lines a) before silent
+  pub last : Logical
+  pub give_none : GiveAll dialect silent []
+  pub gives : Gives dialect last (entry ∷ [])
+  pub uses : UsesLines a (silent ++ last ∷ []) left
+
+-- behind so many physical lines that give no entry an item took those up to the last one used, as
+-- they are counted from s to t
+abbrev pub StandsOn : IterState → ℕ → ℕ → IterState → Type 0
+StandsOn s before used t =
+    Counts s.lines.lines_taken (before + 1) t.item_lines.0
+    × Counts s.lines.lines_taken used t.item_lines.1
+    × Counts s.lines.lines_taken used t.lines.lines_taken
+
+-- of these entries, which are those of what s has left, the first was taken, and t has the later ones left; unless the end was read, the bytes that were used decide it whatever follows
+pub record TakesEntry (names : Texts) (a : Ahead) (s : IterState) (entries : List Entry)
+    (entry : Entry) (t : IterState) : Type 0 where
+  pub later : List Entry
+  pub first : entries ≡ entry ∷ later
+  pub used : List ℕ
+  pub left : List ℕ
+  pub moves : Moves a s.lines.input used left t.lines.input
+  pub reaches : UsesUpTo s.dialect a entry left
+  pub stands : StandsOn s reaches.before reaches.uses.count t
+  pub stays : IsAtEnd a.fault left t.lines.input ⊎ DecideFirst s.dialect used (entry ∷ [])
+  pub has_left : HasLeft s.dialect a.fault left later
+  pub goes_on : GoesOn t.lines
+  pub remembers :
+      RemembersEntry (names_of names s.remembered) (recalled_of s.remembered)
+      (recalled_of t.remembered) entry
+  pub dialect : t.dialect ≡ s.dialect
+
+-- the item under this environment: the first of the entries left; none where there is none and no fault; or a fault of reading, which stands on no line, where the bytes before it decide no entry
+abbrev pub ItemIs : {A : Type 0} → Texts → Ahead → IterState → List Entry →
+    Option (Result (String A × String A) (Error A)) → IterState → Type 0
+ItemIs names a s entries None t =
+    (entries ≡ []) × (a.fault ≡ None) × (t.lines.stage ≡ Ended) × (t.item_lines ≡ s.item_lines)
+ItemIs names a s entries (Some item) t =
+    ((entry : Entry) × IsItem (names_of names s.remembered) entry item
+    × TakesEntry names a s entries entry t)
+    ⊎ (FailsFor a s.lines.input item (λ bytes. HasDecided s.dialect bytes []) t.lines
+    × (t.item_lines ≡ no_line))
+
+-- the same of every iterator: one that has ended or failed gives none, and stays as it is
+abbrev pub NextItem : {A : Type 0} → Texts → IterState →
+    Option (Result (String A × String A) (Error A)) → IterState → Type 0
+NextItem names s item t =
+    (IsOpen s → (a : Ahead) → TellsLeft s a → (entries : List Entry) →
+    HasLeft s.dialect a.fault a.bytes entries → ItemIs names a s entries item t)
+    × (¬ (IsOpen s) → (item ≡ None) × (t ≡ s))
+
+-- a pair that is given has a name that an environment can hold
+abbrev pub GivesName : {A : Type 0} → Option (Result (String A × String A) (Error A)) → Type 0
+GivesName item = IfSome item (λ given. IfOk given (λ pair. IsTrue (name_ok (string_bytes pair.0))))

@@ -1,0 +1,91 @@
+-- What the first pass over a line says, in the words of the format.
+use Rattle.std.specs.Prelude.{
+  ℕ,
+  ◌≡◌,
+  not,
+  List,
+  [],
+  IsTrue,
+  Option,
+  Some,
+  None,
+  is_some,
+  option_map,
+  Result,
+  Ok,
+  Err,
+  string_bytes,
+  if◌then◌else◌,
+}
+use Rattle.std.specs.Str.{chars, encode_utf8_all}
+use Rattle.std.specs.declared.string.String.{String}
+use Rattle.dotenvy_format.specs.declared.dialect.Dialect.{Dialect}
+use Rattle.dotenvy_items.specs.declared.parse.Declaration.{Declaration}
+use Rattle.dotenvy_items.specs.declared.parse.Value.{Value}
+use Rattle.dotenvy_items.specs.declared.parse.Fault.{Fault}
+use Rattle.dotenvy_items.specs.declared.parse.Copies.{Copies}
+use Rattle.dotenvy_format.specs.Characters.{byte_len, is_empty_or_comment}
+use Rattle.dotenvy_format.specs.Statement.{IsStatement}
+use Rattle.dotenvy_format.specs.Value.{Piece, IsValue}
+use Rattle.dotenvy_format.specs.Places.{BeginsValue, IsPlace}
+use Rattle.dotenvy_format.specs.Outcome.{Nothing, Fault as SaysFault, Says, trimmed, is_nothing, value_index}
+use Rattle.dotenvy_format.specs.Items.{LookUp, meaning}
+use Rattle.dotenvy_items.specs.inside.ValuePasses.{saturated}
+
+-- what is assigned is nothing or a comment; or it is a value, whose meaning takes so many bytes
+abbrev pub IsAssigned : (dialect : Dialect) → LookUp → List ℕ → List Piece → Option Value → Type 0
+IsAssigned dialect look_up rest pieces None = IsTrue (is_empty_or_comment rest) × (pieces ≡ [])
+IsAssigned dialect look_up rest pieces (Some value) =
+    IsTrue (not (is_empty_or_comment rest)) × (chars value.text.now ≡ rest)
+    × IsValue dialect rest pieces × (value.len ≡ saturated (byte_len (meaning look_up pieces)))
+
+-- what is assigned begins no value past this index
+pub record StopsAtIndex (dialect : Dialect) (rest : List ℕ) (index : ℕ) : Type 0 where
+  pub assigned : IsTrue (not (is_empty_or_comment rest))
+  pub none : (pieces : List Piece) → ¬ (IsValue dialect rest pieces)
+  pub place : ℕ
+  pub is_place : IsPlace (BeginsValue dialect) rest place
+  pub index_is : index ≡ value_index rest place
+
+-- the declaration of what is assigned to this key, or the fault in it
+abbrev pub ScansAssigned : (dialect : Dialect) → LookUp → List ℕ → List ℕ →
+    Result Declaration Fault → Type 0
+ScansAssigned dialect look_up key rest (Ok declaration) =
+    (chars declaration.key.now ≡ key) × (pieces : List Piece)
+    × IsAssigned dialect look_up rest pieces declaration.value
+ScansAssigned dialect look_up key rest (Err fault) =
+    (chars fault.text.now ≡ rest) × StopsAtIndex dialect rest fault.index
+
+-- the line declares this
+pub record IsDeclared (dialect : Dialect) (look_up : LookUp) (line : List ℕ)
+    (declaration : Declaration) : Type 0 where
+  pub some : IsTrue (not (is_nothing (trimmed line)))
+  pub rest : List ℕ
+  pub statement : IsStatement (trimmed line) (chars declaration.key.now) rest
+  pub pieces : List Piece
+  pub is_assigned : IsAssigned dialect look_up rest pieces declaration.value
+
+-- what the line says
+abbrev pub Scans : (dialect : Dialect) → LookUp → List ℕ → Result (Option Declaration) Fault →
+    Type 0
+Scans dialect look_up line (Ok None) = Says dialect line Nothing
+Scans dialect look_up line (Ok (Some declaration)) = IsDeclared dialect look_up line declaration
+Scans dialect look_up line (Err fault) =
+    Says dialect line (SaysFault (chars fault.text.now) fault.index)
+
+-- the key, and the meaning of the pieces
+pub record IsPairOf {A : Type 0} (look_up : LookUp) (declaration : Declaration)
+    (pieces : List Piece)
+    (pair : String A × String A) : Type 0 where
+  pub key : string_bytes pair.0 ≡ declaration.key.now
+  pub value : string_bytes pair.1 ≡ encode_utf8_all (meaning look_up pieces)
+
+-- the key, the meaning of the pieces, and the same to be remembered; no value where none is assigned
+pub record AreCopiesOf {A : Type 0} (look_up : LookUp) (declaration : Declaration)
+    (pieces : List Piece) (copies : Copies A) : Type 0 where
+  pub key : string_bytes copies.key ≡ declaration.key.now
+  pub value : string_bytes copies.value ≡ encode_utf8_all (meaning look_up pieces)
+  pub remembered_key : string_bytes copies.remembered_key ≡ declaration.key.now
+  pub remembered_value :
+      option_map string_bytes copies.remembered_value
+      ≡ (if is_some declaration.value then Some (string_bytes copies.value) else None)

@@ -1,0 +1,28 @@
+-- What one logical line of a load leaves and answers.
+use Rattle.std.specs.Prelude.{ℕ, ◌≡◌, ◌⊎◌, List, Result}
+use Rattle.dotenvy_format.specs.declared.dialect.Dialect.{Dialect}
+use Rattle.dotenvy_base.specs.declared.errors.Error.{Error}
+use Rattle.dotenvy_items.specs.declared.loads.Mode.{Mode as CodeMode}
+use Rattle.dotenvy_items.specs.declared.loads.Mode.TheVariants.{Keep as Keeps, Replace as Replaces}
+use Rattle.dotenvy_base.specs.Errors.{IsMemoryErr}
+use Rattle.dotenvy_format.specs.Outcome.{Outcome, Says}
+use Rattle.dotenvy_format.specs.Entries.{outcome_entries}
+use Rattle.dotenvy_format.specs.Run.{Mode, Keep, Replace, run}
+use Rattle.dotenvy_base.specs.Environment.{Texts}
+use Rattle.dotenvy_items.specs.Remembered.{Remembered}
+use Rattle.dotenvy_items.specs.Meaning.{values_of, recalled_of}
+use Rattle.dotenvy_items.specs.LoadsLeft.{Leaves}
+
+-- the mode that the code names
+abbrev pub mode_of : CodeMode → Mode
+mode_of Keeps = Keep
+mode_of Replaces = Replace
+
+-- memory was refused, and nothing changed; or what the line says was loaded
+abbrev pub LoadsLine : {A : Type 0} → Mode → Dialect → Remembered → List ℕ →
+    Texts → Result (Unit {0}) (Error A) → Texts → Type 0
+LoadsLine mode dialect remembered line old answer new =
+    (IsMemoryErr answer × (new ≡ old))
+    ⊎ ((outcome : Outcome) × Says dialect line outcome
+    × Leaves (run mode (values_of old) (recalled_of remembered) (outcome_entries outcome)) new
+    answer)

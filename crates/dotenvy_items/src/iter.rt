@@ -1,0 +1,396 @@
+//! The pairs of an environment file, one at a time, and the two loads.
+
+ghost use Rattle.std.specs.Prelude.{ℕ, ◌≡◌, ◌<◌, ◌≤◌, ◌↔◌, ◌⊎◌, Err, IfErr, IfOk, IfSome, IsSome, IsTrue, None, Ok, OnOk, OnErr, chars, string_bytes};
+ghost use Rattle.std.specs.Iterator.{at_most};
+ghost use Rattle.dotenvy_lines.specs.declared.lines.Stage.TheVariants.{Failed, Open};
+ghost use Rattle.dotenvy_base.specs.Errors.{IsMemory, IsMemoryErr};
+ghost use Rattle.dotenvy_lines.specs.Input.{AsksReads};
+ghost use Rattle.dotenvy_items.specs.Iter.{fresh, item_fuel, AsksBetween, DropsNextMark, HasFailed, IsOpen, KeepsItems};
+ghost use Rattle.dotenvy_base.specs.Environment.{KeepsNames};
+ghost use Rattle.dotenvy_format.specs.Keys.{is_key};
+ghost use Rattle.dotenvy_format.specs.Run.{Keep, Replace, run};
+ghost use Rattle.dotenvy_format.specs.Loads.{load_result, override_result};
+ghost use Rattle.dotenvy_format.specs.Outcome.{Outcome, Says};
+ghost use Rattle.dotenvy_items.specs.Meaning.{names_of};
+ghost use Rattle.dotenvy_items.specs.inside.ParsedLine.{IsLineAnswer, Remembers, HasKey};
+ghost use Rattle.dotenvy_lines.specs.Lines.{fuel_of};
+ghost use Rattle.dotenvy_items.specs.Remembered.{remembered_of};
+ghost use Rattle.dotenvy_items.specs.inside.ItemStep.{AddsLine, item_lines_then, reading_of, state_of};
+ghost use Rattle.dotenvy_items.specs.NextItem.{GivesName, NextItem};
+ghost use Rattle.dotenvy_items.specs.LoadsLeft.{ChangesKeys, LoadsLeft};
+ghost use Rattle.dotenvy_items.specs.inside.LoadStep.{mode_of};
+
+use crate::loads::{Mode, load_line};
+use crate::parse::{Pair, ParsedLine, parse_line};
+use crate::remembered::Remembered;
+use dotenvy_base::environment::Environment;
+use dotenvy_base::errors::{Error, Result};
+use dotenvy_base::source::Source;
+use dotenvy_format::dialect::Dialect;
+use dotenvy_lines::lines::Splitter;
+use std::alloc::{Allocator, Global};
+use std::collections::HashMap;
+use std::marker::Model;
+
+/// Reads the pairs of an environment file, one at a time, and remembers their values for those after them.
+///
+/// A fault of the grammar, or a line that isn't UTF-8, is one item; the iterator then goes on at the next physical
+/// line. After the end, after a reader's own fault, after the bound on reads (2^32) and after refused memory it gives
+/// `None` for good (docs/GRAMMAR.md, "Reading").
+///
+/// ```text
+/// let mut file = Iter::new(alloc, Bytes::new(b"A=1\nB=$A\n"))?;
+/// file.next_item(&env)    // Some(Ok(("A", "1")))
+/// file.next_item(&env)    // Some(Ok(("B", "1")))
+/// file.next_item(&env)    // None
+/// ```
+#[derive(Drop)]
+pub struct Iter<R: Source, A: Allocator = Global> {
+    lines: Splitter<R, A>,
+    remembered: Remembered<A>,
+    dialect: Dialect,
+    // The first and the last physical line of the last item.
+    item_lines: (u64, u64),
+}
+
+impl<R: Source, A: Allocator> Model for Iter<R, A> {
+    ghost use Rattle.dotenvy_items.specs.Iter.{IterState, iter_code};
+    ghost use Rattle.dotenvy_items.specs.inside.ItemStep.{state_of};
+    ghost use Rattle.dotenvy_items.specs.Remembered.{remembered_of};
+
+    ghost Value = { IterState };
+
+    ghost coded = { iter_code };
+
+    ghost view = { λ s. state_of s.lines.lines (remembered_of s.remembered.entries) s.dialect
+        s.item_lines };
+}
+
+// Whether memory was refused.
+fn is_refused<A: Allocator>(said: &ParsedLine<A>) -> bool
+    ensures { IsTrue result ↔ IsMemoryErr said.now }
+{
+    matches!(said, Err(Error::Memory(_)))
+}
+
+impl<R: Source, A: Allocator + Clone> Iter<R, A> {
+    /// A fresh iterator over a reader, in the first dialect. Nothing is read yet.
+    pub fn new(alloc: A, reader: R) -> Result<Iter<R, A>, A>
+    where
+        R: Drop,
+        ensures ok { IfOk result (λ s. s ≡ fresh (R.ahead reader) (R.calls reader) Dialect.V15) }
+        ensures memory { IfErr result IsMemory }
+    {
+        Iter::with_dialect(alloc, reader, Dialect::V15)
+    }
+
+    /// As `new`, with the dialect of the file (docs/GRAMMAR.md, "The second dialect").
+    pub fn with_dialect(alloc: A, reader: R, dialect: Dialect) -> Result<Iter<R, A>, A>
+    where
+        R: Drop,
+        ensures ok { IfOk result (λ s. s ≡ fresh (R.ahead reader) (R.calls reader) dialect) }
+        ensures memory { IfErr result IsMemory }
+    {
+        let remembered = HashMap::new(alloc.clone()?);
+        Ok(Iter {
+            lines: Splitter::new(alloc, reader)?,
+            remembered,
+            dialect,
+            item_lines: (0, 0),
+        })
+    }
+
+    /// The next pair or fault. A name that a value mentions means its value in `env`, else the last one remembered,
+    /// else the empty text; `env` may be another at each call (docs/GRAMMAR.md, "What a name means").
+    pub fn next_item(&mut self, env: &Environment<A>) -> Option<Result<(String<A>, String<A>), A>>
+        ensures next { NextItem env.now.names self.old result self.new }
+        ensures falls { IsSome result → item_fuel self.new < item_fuel self.old }
+        ensures memory { IfSome result (λ item. IsMemoryErr item → HasFailed self.new) }
+        ensures key { IfSome result
+            (λ item. IfOk item (λ pair. IsTrue (is_key (chars (string_bytes pair.0))))) }
+        ensures name { GivesName result }
+
+        // Which reads it asks for, over every reader that tells its calls.
+        ensures asks { AsksBetween self.old self.new }
+    {
+        let item = next_of(&mut self.lines, &mut self.remembered, env, self.dialect);
+        self.item_lines = lines_then(&item, &self.lines, self.item_lines);
+        item
+    }
+
+    /// The physical line on which the last item begins, counted from 1.
+    ///
+    /// It is 0 before the first item, and for an item that stands on no line: a reader's own fault, the bound on reads,
+    /// refused memory. `None` leaves it as it is. (A count that 64 bits don't hold would need more reads than are
+    /// made.)
+    ///
+    /// ```text
+    /// let mut file = Iter::new(alloc, Bytes::new(b"# a comment\nA=1\nB=\"2\n3\"\n"))?;
+    /// file.next_item(&env)    // A, with first_line 2 and last_line 2
+    /// file.next_item(&env)    // B, with first_line 3 and last_line 4
+    /// ```
+    pub fn first_line(&self) -> u64
+        ensures { result ≡ self.now.item_lines.0 }
+    {
+        self.item_lines.0
+    }
+
+    /// The physical line on which the last item ends, counted from 1, and 0 where `first_line` is 0.
+    pub fn last_line(&self) -> u64
+        ensures { result ≡ self.now.item_lines.1 }
+    {
+        self.item_lines.1
+    }
+
+    /// Drops a byte order mark that stands next, as both loads do before their first line; `next_item` keeps it.
+    ///
+    /// Does nothing after the end or a final fault. The errors are those of reading, and `Memory`; each is final.
+    ///
+    /// ```text
+    /// let mut file = Iter::new(alloc, reader)?;
+    /// file.drop_mark()?;    // and now the items are what a load sets
+    /// ```
+    pub fn drop_mark(&mut self) -> Result<(), A>
+        ensures shut { ¬ (IsOpen self.old) → (result ≡ Ok tt) × (self.new ≡ self.old) }
+        ensures told { DropsNextMark self.old result self.new }
+        ensures ok { OnOk result (IsOpen self.old → IsOpen self.new) }
+        ensures err { OnErr result (HasFailed self.new) }
+        ensures same { KeepsItems self.old self.new }
+        ensures falls { item_fuel self.new ≤ item_fuel self.old }
+        ensures asks { AsksBetween self.old self.new }
+    {
+        self.lines.drop_mark()
+    }
+
+    /// What `next_item` gives under this one environment, as an iterator.
+    ///
+    /// ```text
+    /// for item in file.items(&env) {
+    ///     let (key, value) = item?;
+    /// }
+    /// ```
+    pub fn items<'a>(&'a mut self, env: &'a Environment<A>) -> Items<'a, R, A>
+        ensures file { (result.file.now ≡ self.old)
+            × (result.file.ghost_name ≡ self.entry.ghost_name) }
+        ensures env { result.env.now ≡ env.now }
+    {
+        Items { file: self, env }
+    }
+}
+
+// The lines on which the last item stands, once this one was given, if it was.
+fn lines_then<R: Source, A: Allocator + Clone>(
+    item: &Option<Result<Pair<A>, A>>,
+    lines: &Splitter<R, A>,
+    before: (u64, u64),
+) -> (u64, u64)
+    ensures { result ≡ item_lines_then item.now lines.now.lines before }
+{
+    match item {
+        Some(_) => lines.last_lines(),
+        None => before,
+    }
+}
+
+// The next item of these logical lines.
+fn next_of<R: Source, A: Allocator + Clone>(
+    lines: &mut Splitter<R, A>,
+    remembered: &mut Remembered<A>,
+    env: &Environment<A>,
+    dialect: Dialect,
+) -> Option<Result<Pair<A>, A>>
+    ensures next { (before : ℕ × ℕ) → NextItem env.now.names
+        (state_of lines.old.lines (remembered_of remembered.old.entries) dialect before) result
+        (state_of lines.new.lines (remembered_of remembered.new.entries) dialect
+        (item_lines_then result lines.new.lines before)) }
+    ensures falls { IsSome result → fuel_of lines.new.lines < fuel_of lines.old.lines }
+    ensures memory { IfSome result (λ item. IsMemoryErr item → lines.new.lines.stage ≡ Failed) }
+    ensures key { IfSome result
+        (λ item. IfOk item (λ pair. IsTrue (is_key (chars (string_bytes pair.0))))) }
+    ensures asks { AsksReads (lines.new.lines.stage ≡ Open) lines.old.lines.input
+        lines.new.lines.input }
+{
+    'lines: while let Some(outcome) = lines.advance() {
+        let item = item_of(lines, outcome, remembered, env, dialect);
+        if item.is_some() {
+            return item;
+        }
+    }
+    None
+}
+
+// What the last logical line adds to the items, if anything. Refused memory is the last item.
+fn item_of<R: Source, A: Allocator + Clone>(
+    lines: &mut Splitter<R, A>,
+    outcome: Result<(), A>,
+    remembered: &mut Remembered<A>,
+    env: &Environment<A>,
+    dialect: Dialect,
+) -> Option<Result<Pair<A>, A>>
+    ensures adds { AddsLine env.now.names
+        (reading_of lines.old.lines (remembered_of remembered.old.entries) dialect) outcome
+        lines.old.line result
+        (reading_of lines.new.lines (remembered_of remembered.new.entries) dialect) }
+    ensures falls { fuel_of lines.new.lines ≤ fuel_of lines.old.lines }
+    ensures input { lines.new.lines.input ≡ lines.old.lines.input }
+    ensures stage { lines.new.lines.stage ≡ Open → lines.old.lines.stage ≡ Open }
+    ensures memory { IfSome result (λ item. IsMemoryErr item → lines.new.lines.stage ≡ Failed) }
+    ensures key { IfSome result
+        (λ item. IfOk item (λ pair. IsTrue (is_key (chars (string_bytes pair.0))))) }
+{
+    let said = said_by(lines, outcome, remembered, env, dialect);
+    if is_refused(&said) {
+        lines.fail();
+    }
+    said.transpose()
+}
+
+// What the last logical line says. Its own fault stays as it is.
+fn said_by<R: Source, A: Allocator + Clone>(
+    lines: &Splitter<R, A>,
+    outcome: Result<(), A>,
+    remembered: &mut Remembered<A>,
+    env: &Environment<A>,
+    dialect: Dialect,
+) -> ParsedLine<A>
+    ensures says { OnOk outcome (IsMemoryErr result
+        ⊎ ((said : Outcome) × Says dialect (chars lines.now.line) said × IsLineAnswer (names_of
+        env.now.names (remembered_of remembered.old.entries)) said result)) }
+    ensures remembers { OnOk outcome (Remembers (chars lines.now.line)
+        (remembered_of remembered.old.entries) (remembered_of remembered.new.entries) result) }
+    ensures fault { IfErr outcome (λ e.
+        (result ≡ Err e)
+        × (remembered_of remembered.new.entries ≡ remembered_of remembered.old.entries)) }
+    ensures key { IfOk result HasKey }
+{
+    outcome?;
+    let alloc = lines.allocator().clone()?;
+    parse_line(alloc, lines.line(), remembered, env, dialect)
+}
+
+impl<R: Source + Drop, A: Allocator + Clone> Iter<R, A> {
+    /// Drops a byte order mark at the present place, then sets each name that is absent; a name that is there keeps
+    /// its value (docs/GRAMMAR.md, "Loading").
+    ///
+    /// Stops at the first fault and answers it; what stands before it stays set. A value with a NUL that would be set
+    /// is such a fault. An iterator that has ended or failed loads nothing and answers `Ok`.
+    ///
+    /// ```text
+    /// Iter::new(alloc, Bytes::new(b"A=1\nA=2\n"))?.load(&mut env)?;    // A is 1, or what it was before
+    /// ```
+    pub fn load(self, env: &mut Environment<A>) -> Result<(), A>
+        ensures shut { ¬ (IsOpen self) → (result ≡ Ok tt) × (env.new ≡ env.old) }
+        ensures told { IsOpen self →
+            LoadsLeft load_result self env.old.names result env.new.names }
+        ensures keeps { KeepsNames env.old.names env.new.names }
+        ensures keys { ChangesKeys env.old.names env.new.names }
+        ensures mark { env.new.loaded ≡ env.old.loaded }
+    {
+        self.load_lines(Mode::Keep, env)
+    }
+
+    /// As `load`, but each name is set, whether it is there or not.
+    ///
+    /// ```text
+    /// Iter::new(alloc, Bytes::new(b"A=1\nA=2\n"))?.load_override(&mut env)?;    // A is 2
+    /// ```
+    pub fn load_override(self, env: &mut Environment<A>) -> Result<(), A>
+        ensures shut { ¬ (IsOpen self) → (result ≡ Ok tt) × (env.new ≡ env.old) }
+        ensures told { IsOpen self →
+            LoadsLeft override_result self env.old.names result env.new.names }
+        ensures keys { ChangesKeys env.old.names env.new.names }
+        ensures mark { env.new.loaded ≡ env.old.loaded }
+    {
+        self.load_lines(Mode::Replace, env)
+    }
+
+    // Drops a byte order mark at the present place, then loads line after line. The values that were remembered before
+    // stay as they are.
+    fn load_lines(mut self, mode: Mode, env: &mut Environment<A>) -> Result<(), A>
+        ensures shut { ¬ (IsOpen self) → (result ≡ Ok tt) × (env.new ≡ env.old) }
+        ensures told { IsOpen self →
+            LoadsLeft (run (mode_of mode)) self env.old.names result env.new.names }
+        ensures keeps { mode_of mode ≡ Keep → KeepsNames env.old.names env.new.names }
+        ensures keys { ChangesKeys env.old.names env.new.names }
+        ensures mark { env.new.loaded ≡ env.old.loaded }
+    {
+        self.lines.drop_mark()?;
+        'loading: while let Some(outcome) = self.lines.advance() {
+            outcome?;
+            load_line(
+                self.lines.allocator(),
+                self.lines.line(),
+                &self.remembered,
+                env,
+                mode,
+                self.dialect,
+            )?;
+        }
+        Ok(())
+    }
+}
+
+/// The items of an iterator under one environment; `Iter::items` makes it.
+#[derive(Drop)]
+pub struct Items<'a, R: Source, A: Allocator = Global> {
+    file: &'a mut Iter<R, A>,
+    env: &'a Environment<A>,
+}
+
+impl<'a, R: Source, A: Allocator + Clone> Iterator for Items<'a, R, A> {
+    type Item = Result<(String<A>, String<A>), A>;
+
+    ghost next_gives = { λ s item t. NextItem s.env.now.names s.file.now item t.file.now
+        × AsksBetween s.file.now t.file.now
+        × (t.file.ghost_name ≡ s.file.ghost_name) × (t.env.now ≡ s.env.now) × GivesName item };
+
+    ghost remaining = { λ s. at_most (item_fuel s.file.now) };
+
+    fn next(&mut self) -> Option<Result<(String<A>, String<A>), A>> {
+        self.file.next_item(self.env)
+    }
+}
+
+/// Loads a reader by `Iter::load`: a name that is there keeps its value.
+pub fn from_read<R: Source + Drop, A: Allocator + Clone>(
+    alloc: A,
+    reader: R,
+    env: &mut Environment<A>,
+) -> Result<(), A>
+    ensures told { LoadsLeft load_result (fresh (R.ahead reader) (R.calls reader) Dialect.V15)
+        env.old.names result env.new.names }
+    ensures in_turn { LoadsLeft (run Keep) (fresh (R.ahead reader) (R.calls reader) Dialect.V15)
+        env.old.names result env.new.names }
+    ensures keeps { KeepsNames env.old.names env.new.names }
+    ensures keys { ChangesKeys env.old.names env.new.names }
+    ensures mark { env.new.loaded ≡ env.old.loaded }
+{
+    Iter::new(alloc, reader)?.load(env)
+}
+
+/// Loads a reader by `Iter::load_override`: each name that it declares is set.
+pub fn from_read_override<R: Source + Drop, A: Allocator + Clone>(
+    alloc: A,
+    reader: R,
+    env: &mut Environment<A>,
+) -> Result<(), A>
+    ensures told { LoadsLeft override_result (fresh (R.ahead reader) (R.calls reader) Dialect.V15)
+        env.old.names result env.new.names }
+    ensures in_turn { LoadsLeft (run Replace)
+        (fresh (R.ahead reader) (R.calls reader) Dialect.V15) env.old.names result env.new.names }
+    ensures keys { ChangesKeys env.old.names env.new.names }
+    ensures mark { env.new.loaded ≡ env.old.loaded }
+{
+    Iter::new(alloc, reader)?.load_override(env)
+}
+
+/// A fresh iterator over a reader; nothing is set.
+pub fn from_read_iter<R: Source + Drop, A: Allocator + Clone>(
+    alloc: A,
+    reader: R,
+) -> Result<Iter<R, A>, A>
+    ensures ok { IfOk result (λ s. s ≡ fresh (R.ahead reader) (R.calls reader) Dialect.V15) }
+    ensures memory { IfErr result IsMemory }
+{
+    Iter::new(alloc, reader)
+}

@@ -1,0 +1,212 @@
+// What one logical line says.
+ghost use Rattle.std.specs.Prelude.{◌≡◌, ◌⊎◌, ◌<◌, ◌++◌, not, length, List, ℕ, IfOk, IfErr};
+ghost use Rattle.std.specs.Str.{chars};
+ghost use Rattle.dotenvy_format.specs.Characters.{byte_len};
+ghost use Rattle.dotenvy_format.specs.Outcome.{Outcome, Says, value_index};
+ghost use Rattle.dotenvy_base.specs.Errors.{IsMemory, IsMemoryErr};
+ghost use Rattle.dotenvy_items.specs.Remembered.{remembered_of};
+ghost use Rattle.dotenvy_items.specs.Meaning.{look_up_of, names_of};
+ghost use Rattle.dotenvy_format.specs.Value.{Piece};
+ghost use Rattle.dotenvy_items.specs.inside.FirstPass.{IsAssigned, ScansAssigned, Scans, IsPairOf, AreCopiesOf};
+ghost use Rattle.dotenvy_items.specs.inside.ParsedLine.{IsLineAnswer, Remembers, HasKey};
+
+use crate::meaning::Names;
+use crate::remembered::{Remembered, remember};
+use dotenvy_base::environment::Environment;
+use dotenvy_base::errors::{Result, fault_error};
+use dotenvy_format::dialect::Dialect;
+use dotenvy_format::statement::split_statement;
+use dotenvy_format::text::{char_count, is_empty_or_comment};
+use std::alloc::Allocator;
+
+pub(crate) type Pair<A> = (String<A>, String<A>);
+
+pub(crate) type ParsedLine<A> = Result<Option<Pair<A>>, A>;
+
+// A value as it is written, and how many bytes it means.
+#[derive(Clone, Copy)]
+pub(crate) struct Value<'a> {
+    text: &'a str,
+    len: usize,
+}
+
+// A key and its value, or `None` where nothing or a comment is assigned.
+#[derive(Clone, Copy)]
+pub(crate) struct Declaration<'a> {
+    pub(crate) key: &'a str,
+    value: Option<Value<'a>>,
+}
+
+// A text that is no statement or no value, and the index of its fault.
+#[derive(Clone, Copy)]
+pub(crate) struct Fault<'a> {
+    pub(crate) text: &'a str,
+    pub(crate) index: usize,
+}
+
+// The texts of a declaration: those that are answered, and those that are remembered.
+#[derive(Drop)]
+struct Copies<A: Allocator> {
+    key: String<A>,
+    value: String<A>,
+    remembered_key: String<A>,
+    remembered_value: Option<String<A>>,
+}
+
+// How many bytes of the text stand before what is left of it.
+fn front_len(text: &str, left: &str) -> usize
+    requires { (front : List ℕ) × (chars text.now ≡ front ++ chars left.now) }
+    ensures { (front : List ℕ) → chars text.now ≡ front ++ chars left.now →
+        result ≡ byte_len front }
+{
+    text.len() - left.len()
+}
+
+// The index of a fault in a value: in characters, but in bytes for a value that only lacks its end.
+fn fault_index(value: &str, left: &str) -> usize
+    requires cut { (front : List ℕ) × (chars value.now ≡ front ++ chars left.now) }
+    requires nonempty { 0 < length value.now }
+    ensures { (front : List ℕ) → chars value.now ≡ front ++ chars left.now →
+        result ≡ value_index (chars value.now) (length front) }
+{
+    if left.is_empty() {
+        value.len() - 1
+    } else {
+        char_count(value) - char_count(left)
+    }
+}
+
+// The declaration of what is assigned to a key, or the fault in it.
+fn scan_assigned<'a, A: Allocator>(
+    key: &'a str,
+    text: &'a str,
+    names: &Names<'_, A>,
+    dialect: Dialect,
+) -> std::result::Result<Declaration<'a>, Fault<'a>>
+    ensures { ScansAssigned dialect (look_up_of names.now) (chars key.now) (chars text.now) result }
+{
+    if is_empty_or_comment(text) {
+        return Ok(Declaration { key, value: None });
+    }
+    match names.measure(text, dialect) {
+        Ok(len) => Ok(Declaration {
+            key,
+            value: Some(Value { text, len }),
+        }),
+        Err(left) => Err(Fault {
+            text,
+            index: fault_index(text, left),
+        }),
+    }
+}
+
+/// The first pass, which takes no memory: nothing, a declaration with the length of its value's meaning, or the fault.
+pub(crate) fn scan_line<'a, A: Allocator>(
+    line: &'a str,
+    names: &Names<'_, A>,
+    dialect: Dialect,
+) -> std::result::Result<Option<Declaration<'a>>, Fault<'a>>
+    ensures { Scans dialect (look_up_of names.now) (chars line.now) result }
+{
+    let trimmed = line.trim_end();
+    if is_empty_or_comment(trimmed.trim_start()) {
+        return Ok(None);
+    }
+    match split_statement(trimmed) {
+        Ok(statement) => match scan_assigned(statement.key, statement.rest, names, dialect) {
+            Ok(declaration) => Ok(Some(declaration)),
+            Err(fault) => Err(fault),
+        },
+        Err(left) => Err(Fault {
+            text: line,
+            index: front_len(trimmed, left),
+        }),
+    }
+}
+
+/// The second pass: the key of a declaration, and what its value means.
+pub(crate) fn pair_of<A: Allocator + Clone>(
+    alloc: A,
+    declaration: Declaration<'_>,
+    names: &Names<'_, A>,
+    dialect: Dialect,
+) -> Result<Pair<A>, A>
+    requires { (rest : List ℕ) × (pieces : List Piece)
+        × IsAssigned dialect (look_up_of names.now) rest pieces declaration.value }
+    ensures pair { (rest : List ℕ) (pieces : List Piece) →
+        IsAssigned dialect (look_up_of names.now) rest pieces declaration.entry.value →
+        IfOk result (IsPairOf (look_up_of names.now) declaration.entry pieces) }
+    ensures refused { IfErr result IsMemory }
+{
+    let key = String::from_str(alloc.clone()?, declaration.key)?;
+    match declaration.value {
+        None => Ok((key, String::new(alloc))),
+        Some(written) => {
+            let value = names.expand(alloc, written.text, written.len, dialect)?;
+            Ok((key, value))
+        }
+    }
+}
+
+// The memory for a declaration that is remembered, all but that of the map.
+fn copies_of<A: Allocator + Clone>(
+    alloc: A,
+    declaration: Declaration<'_>,
+    names: &Names<'_, A>,
+    dialect: Dialect,
+) -> Result<Copies<A>, A>
+    requires { (rest : List ℕ) × (pieces : List Piece)
+        × IsAssigned dialect (look_up_of names.now) rest pieces declaration.value }
+    ensures copies { (rest : List ℕ) (pieces : List Piece) →
+        IsAssigned dialect (look_up_of names.now) rest pieces declaration.entry.value →
+        IfOk result (AreCopiesOf (look_up_of names.now) declaration.entry pieces) }
+    ensures refused { IfErr result IsMemory }
+{
+    let (key, value) = pair_of(alloc.clone()?, declaration, names, dialect)?;
+    let remembered_key = String::from_str(alloc.clone()?, declaration.key)?;
+    let remembered_value = match declaration.value {
+        None => None,
+        Some(_) => Some(String::from_str(alloc, value.as_str())?),
+    };
+    Ok(Copies {
+        key,
+        value,
+        remembered_key,
+        remembered_value,
+    })
+}
+
+/// What one logical line says: nothing, a key and its value, or a fault. A pair is remembered.
+pub(crate) fn parse_line<A: Allocator + Clone>(
+    alloc: A,
+    line: &str,
+    remembered: &mut Remembered<A>,
+    env: &Environment<A>,
+    dialect: Dialect,
+) -> ParsedLine<A>
+    ensures answer { IsMemoryErr result
+        ⊎ ((outcome : Outcome) × Says dialect (chars line.now) outcome × IsLineAnswer (names_of
+        env.now.names (remembered_of remembered.old.entries)) outcome result) }
+    ensures remembers { Remembers (chars line.now) (remembered_of remembered.old.entries)
+        (remembered_of remembered.new.entries) result }
+    ensures key { IfOk result HasKey }
+{
+    let names = Names {
+        env,
+        remembered: &*remembered,
+    };
+    let declaration = match scan_line(line, &names, dialect) {
+        Ok(Some(declaration)) => declaration,
+        Ok(None) => return Ok(None),
+        Err(fault) => return Err(fault_error(alloc, fault.text, fault.index)),
+    };
+    let copies = copies_of(alloc, declaration, &names, dialect)?;
+    let Copies {
+        key,
+        value,
+        remembered_key,
+        remembered_value,
+    } = copies;
+    remember(remembered, remembered_key, remembered_value)?;
+    Ok(Some((key, value)))
+}

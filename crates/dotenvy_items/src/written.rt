@@ -1,0 +1,171 @@
+//! The written form of pairs, and the listing of a file.
+
+ghost use Rattle.std.specs.Prelude.{◌≡◌, ◌≤◌, ◌+◌, ◌++◌, ◌∷◌, [], length, filter, IfOk, IfErr, IsTrue, chars, encode_utf8_all, string_bytes, string_len};
+ghost use Rattle.std.specs.String.{string_capacity};
+ghost use Rattle.dotenvy_format.specs.Keys.{is_key};
+ghost use Rattle.dotenvy_format.specs.Characters.{byte_len};
+ghost use Rattle.dotenvy_items.specs.inside.ValuePasses.{saturated};
+ghost use Rattle.dotenvy_base.specs.Errors.{IsIoOf};
+ghost use Rattle.dotenvy_format.specs.Written.{needs_backslash, written_character, written_text, written_bytes};
+ghost use Rattle.dotenvy_base.specs.Output.{Sends, Writes};
+ghost use Rattle.dotenvy_base.specs.Environment.{AreTexts};
+ghost use Rattle.dotenvy_items.specs.Iter.{fresh};
+ghost use Rattle.dotenvy_items.specs.Listed.{pairs_of, Lists};
+
+use crate::iter::Iter;
+use dotenvy_base::environment::Environment;
+use dotenvy_base::errors::Result;
+use dotenvy_base::output::{MOST_WRITES, write_all};
+use dotenvy_base::source::{Sink, Source};
+use dotenvy_format::dialect::Dialect;
+use dotenvy_format::text::{Class, Quoting, split_first, split_while};
+use memchr::memchr3_iter;
+use std::alloc::{AllocError, Allocator};
+
+fn needs_backslash(c: char) -> bool
+    ensures { result ≡ needs_backslash c }
+{
+    matches!(c, '\\' | '"' | '$')
+}
+
+// How many characters are written after a backslash. Each of them is a byte, so bytes are counted.
+fn backslash_count(text: &str) -> usize
+    ensures { result ≡ length (filter needs_backslash (chars text.now)) }
+{
+    memchr3_iter(b'\\', b'"', b'$', text.as_bytes()).count()
+}
+
+// How many bytes the written form of a pair takes, or the greatest number where that is more.
+fn written_len(key: &str, text: &str) -> usize
+    ensures { result ≡ saturated (byte_len (written_text ((chars key.now, chars text.now) ∷ []))) }
+{
+    let around = "=\"\"\n".len();
+    key.len()
+        .saturating_add(text.len())
+        .saturating_add(backslash_count(text))
+        .saturating_add(around)
+}
+
+// Appends a character of a value, as it is written, to a text that has room for it.
+fn push_character<A: Allocator>(out: &mut String<A>, c: char)
+    requires { string_len out.old + byte_len (written_character c) ≤ string_capacity out.old }
+    ensures bytes { string_bytes out.new
+        ≡ string_bytes out.old ++ encode_utf8_all (written_character c) }
+    ensures capacity { string_capacity out.old ≤ string_capacity out.new }
+{
+    if needs_backslash(c) {
+        out.push('\\').unwrap();
+    }
+    out.push(c).unwrap();
+}
+
+// Appends the written form of a pair to a text that has room for it.
+fn push_written<A: Allocator>(out: &mut String<A>, key: &str, text: &str)
+    requires { string_len out.old + byte_len (written_text ((chars key.now, chars text.now) ∷ []))
+        ≤ string_capacity out.old }
+    ensures bytes { string_bytes out.new
+        ≡ string_bytes out.old ++ written_bytes ((chars key.now, chars text.now) ∷ []) }
+    ensures capacity { string_capacity out.old ≤ string_capacity out.new }
+{
+    out.push_str(key).unwrap();
+    out.push_str("=\"").unwrap();
+    let mut rest = text;
+    'parts: while let Some((first, after_first)) = split_first(rest) {
+        if needs_backslash(first) {
+            push_character(out, first);
+            rest = after_first;
+        } else {
+            let (plain, after) = split_while(rest, Class::Plain(Quoting::DoubleQuoted));
+            out.push_str(plain).unwrap();
+            rest = after;
+        }
+    }
+    out.push_str("\"\n").unwrap();
+}
+
+// How many bytes the listing takes, or the greatest number where that is more.
+fn listing_len<A: Allocator>(env: &Environment<A>) -> usize
+    ensures len { result ≡ saturated (byte_len (written_text (pairs_of env.now.names))) }
+    ensures texts { AreTexts env.now.names }
+{
+    let mut len = 0usize;
+    'pairs: for (key, value) in env.iter() {
+        len = len.saturating_add(written_len(key.as_str(), value.as_str()));
+    }
+    len
+}
+
+// Each pair in its written form, in byte order of the names. Memory is asked for once.
+fn listing<A: Allocator + Clone>(
+    alloc: A,
+    env: &Environment<A>,
+) -> std::result::Result<String<A>, AllocError>
+    ensures bytes { IfOk result
+        (λ text. string_bytes text ≡ written_bytes (pairs_of env.now.names)) }
+    ensures texts { AreTexts env.now.names }
+{
+    let mut out = String::with_capacity(alloc, listing_len(env))?;
+    'pairs: for (key, value) in env.iter() {
+        push_written(&mut out, key.as_str(), value.as_str());
+    }
+    Ok(out)
+}
+
+/// Writes one pair in its written form, which is read back as that pair (docs/GRAMMAR.md, "The written form").
+///
+/// The form is built before the first write. An interrupted write is asked again; a write that takes nothing is `Io`
+/// of kind WriteZero, and past 2^32 writes the answer is `Io` of kind Other.
+///
+/// ```text
+/// write_pair(alloc, &mut writer, "K", "it costs $1")?;    // K="it costs \$1"
+/// ```
+pub fn write_pair<W: Sink, A: Allocator + Clone>(
+    alloc: A,
+    writer: &mut W,
+    key: &str,
+    text: &str,
+) -> Result<(), A>
+    requires { IsTrue (is_key (chars key.now)) }
+    ensures { Writes W.held W.last_fault W.calls writer.old writer.new
+        (written_bytes ((chars key.now, chars text.now) ∷ [])) result }
+{
+    let mut out = String::with_capacity(alloc, written_len(key, text))?;
+    push_written(&mut out, key, text);
+    write_all(writer, out.as_bytes(), MOST_WRITES)
+}
+
+/// Loads a reader into an empty environment by `from_read`, and writes each pair in its written form, in byte order of
+/// the names.
+///
+/// The whole output is built before the first write, so after a fault of the load, or refused memory, nothing was
+/// written. Faults of the writer are as for `write_pair`.
+///
+/// ```text
+/// list(alloc, Bytes::new(b"B=2\nA=1\nA=3\n"), &mut writer)?;    // A="1" and B="2", a line each
+/// ```
+pub fn list<R: Source + Drop, W: Sink, A: Allocator + Clone>(
+    alloc: A,
+    reader: R,
+    writer: &mut W,
+) -> Result<(), A>
+    ensures { Lists (fresh (R.ahead reader) (R.calls reader) Dialect.V15)
+        W.held W.last_fault W.calls writer.old writer.new result }
+{
+    list_with(alloc, reader, writer, Dialect::V15)
+}
+
+/// As `list`, with the dialect of the file (docs/GRAMMAR.md, "The second dialect").
+pub fn list_with<R: Source + Drop, W: Sink, A: Allocator + Clone>(
+    alloc: A,
+    reader: R,
+    writer: &mut W,
+    dialect: Dialect,
+) -> Result<(), A>
+    ensures { Lists (fresh (R.ahead reader) (R.calls reader) dialect)
+        W.held W.last_fault W.calls writer.old writer.new result }
+{
+    let mut env = Environment::new(alloc.clone()?);
+    Iter::with_dialect(alloc.clone()?, reader, dialect)?.load(&mut env)?;
+    let text = listing(alloc, &env)?;
+    write_all(writer, text.as_bytes(), MOST_WRITES)
+}

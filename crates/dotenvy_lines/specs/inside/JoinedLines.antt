@@ -1,0 +1,118 @@
+-- What private functions of the splitter say of one another.
+use Rattle.std.specs.Prelude.{
+  ℕ,
+  ◌≡◌,
+  ◌⊎◌,
+  ◌<◌,
+  Bool,
+  true,
+  false,
+  List,
+  [],
+  ◌∷◌,
+  length,
+  Option,
+  Some,
+  None,
+  Result,
+  Ok,
+  Err,
+  IsSomeAnd,
+  IsErrAnd,
+  if◌then◌else◌,
+}
+use Rattle.std.specs.Str.{chars}
+use Rattle.std.specs.IoError.{error_kind}
+use Rattle.std.specs.declared.io.ErrorKind.TheVariants.{InvalidData}
+use Rattle.dotenvy_base.specs.declared.errors.Error.{Error}
+use Rattle.dotenvy_base.specs.declared.errors.Error.TheVariants.{LineParse, Io, EnvVar, Nul, Memory}
+use Rattle.dotenvy_format.specs.declared.walk.LineMode.{LineMode}
+use Rattle.dotenvy_format.specs.declared.walk.LineMode.TheVariants.{
+  Outside,
+  Escaping,
+  Inside,
+  InsideEscaping,
+  AfterBlank,
+}
+use Rattle.dotenvy_lines.specs.declared.lines.Joined.{Joined}
+use Rattle.dotenvy_lines.specs.declared.lines.Joined.TheVariants.{Nothing, Skipped, Whole, OpenEnd, BrokenLine}
+use Rattle.dotenvy_lines.specs.declared.lines.Stage.{Stage}
+use Rattle.dotenvy_lines.specs.declared.lines.Stage.TheVariants.{Open as stage_open, Ended, Failed}
+use Rattle.dotenvy_base.specs.Source.{Ahead}
+use Rattle.dotenvy_format.specs.LogicalLine.{Skip, Text, Open, Broken}
+use Rattle.dotenvy_base.specs.Errors.{IsIoOf, IsMemory, IsLineParseOf}
+use Rattle.dotenvy_lines.specs.Input.{InputState, IsFinal, supply}
+use Rattle.dotenvy_lines.specs.Lines.{TakesNext, Counts, IsUndecided}
+
+-- what a text that was begun is at the end of input
+abbrev pub begun_at_end : LineMode → Joined
+begun_at_end Outside = Whole
+begun_at_end Escaping = OpenEnd
+begun_at_end (Inside quote) = OpenEnd
+begun_at_end (InsideEscaping quote) = OpenEnd
+begun_at_end AfterBlank = OpenEnd
+
+-- and nothing where none was
+abbrev pub joined_at_end : List ℕ → LineMode → Joined
+joined_at_end [] m = Nothing
+joined_at_end (b ∷ text) m = begun_at_end m
+
+-- what was joined is the next logical line, with this text, and so many physical lines
+abbrev pub TakesJoined : Ahead → InputState → Joined → List ℕ → ℕ → InputState → Type 0
+TakesJoined a s Nothing text count t = (a.bytes ≡ []) × (a.fault ≡ None)
+TakesJoined a s Skipped text count t = (text ≡ []) × TakesNext a s Skip count t
+TakesJoined a s Whole text count t = TakesNext a s (Text (chars text)) count t
+TakesJoined a s OpenEnd text count t = TakesNext a s (Open (chars text) (length text)) count t
+TakesJoined a s BrokenLine text count t = TakesNext a s Broken count t
+
+-- and those are counted, from one number to the other
+abbrev pub JoinsNext : {A : Type 0} → Ahead → InputState → ℕ → Result Joined (Error A) → List ℕ →
+    InputState → ℕ → Type 0
+JoinsNext a s before (Ok joined) text t after =
+    (count : ℕ) × TakesJoined a s joined text count t × Counts before count after
+JoinsNext a s before (Err e) text t after = IsFinal a s IsUndecided e t
+
+-- something was used up, but at the end
+abbrev pub UsesSome : InputState → Joined → InputState → Type 0
+UsesSome s Nothing t = Unit {0}
+UsesSome s Skipped t = supply t < supply s
+UsesSome s Whole t = supply t < supply s
+UsesSome s OpenEnd t = supply t < supply s
+UsesSome s BrokenLine t = supply t < supply s
+
+-- where what was read is used up, nothing is left to open
+abbrev pub stage_if : Bool → Stage
+stage_if used_up = if used_up then Ended else stage_open
+
+-- the stage behind what was joined, if it was not refused
+abbrev pub stage_joined : Joined → Bool → Stage
+stage_joined Nothing used_up = Ended
+stage_joined Skipped used_up = stage_if used_up
+stage_joined Whole used_up = stage_if used_up
+stage_joined OpenEnd used_up = stage_if used_up
+stage_joined BrokenLine used_up = stage_if used_up
+
+-- refused memory is final
+abbrev pub stage_after : Joined → Bool → Bool → Stage
+stage_after joined used_up refused = if refused then Failed else stage_joined joined used_up
+
+-- what was joined, as an outcome
+abbrev pub IsOutcome : {A : Type 0} → Joined → List ℕ → Option (Result (Unit {0}) (Error A)) →
+    Type 0
+IsOutcome Nothing text r = r ≡ None
+IsOutcome Skipped text r = r ≡ Some (Ok tt)
+IsOutcome Whole text r = r ≡ Some (Ok tt)
+IsOutcome OpenEnd text r =
+    IsSomeAnd r (λ q. IsErrAnd q (λ e. IsMemory e ⊎ IsLineParseOf (chars text) (length text) e))
+IsOutcome BrokenLine text r =
+    IsSomeAnd r (λ q. IsErrAnd q (IsIoOf (λ e. error_kind e ≡ InvalidData)))
+
+-- the outcome says that memory was refused
+abbrev pub is_refused : {A : Type 0} → Option (Result (Unit {0}) (Error A)) → Bool
+is_refused None = false
+is_refused (Some (Ok _)) = false
+is_refused (Some (Err (LineParse text index))) = false
+is_refused (Some (Err (Io e))) = false
+is_refused (Some (Err (EnvVar e))) = false
+is_refused (Some (Err (Nul key))) = false
+is_refused (Some (Err (Memory e))) = true

@@ -1,0 +1,84 @@
+// The bytes that were read and are not used yet, in one buffer.
+ghost use Rattle.std.specs.Prelude.{◌≡◌, ◌≤◌, ◌<◌, ◌==◌, IfErr, IfOk, [], length, drop};
+ghost use Rattle.dotenvy_base.specs.Errors.{IsMemory};
+ghost use Rattle.dotenvy_lines.specs.inside.Buffer.{Fills};
+
+use dotenvy_base::errors::Result;
+use dotenvy_base::source::Source;
+use std::alloc::Allocator;
+use std::io;
+use std::marker::Model;
+
+// How many bytes the buffer has room for, and so the most that one read asks for.
+const BUFFER_SIZE: usize = 8192;
+
+#[derive(Drop)]
+pub struct Buffer<A: Allocator> {
+    bytes: Vec<u8, A>,
+    used: usize,
+    filled: usize,
+}
+
+impl<A: Allocator> Model for Buffer<A> {
+    ghost use Rattle.std.specs.Prelude.{ℕ, List, ◌≡◌, ◌≤◌, ◌-◌, take, drop, vec_len};
+
+    ghost Value = { List ℕ };
+
+    ghost view = { λ s. take (s.filled - s.used) (drop s.used s.bytes.items) };
+
+    ghost invariant = { λ s. (s.used ≤ s.filled) × (s.filled ≤ 8192) × (vec_len s.bytes ≡ 8192) };
+}
+
+impl<A: Allocator> Buffer<A> {
+    // An empty buffer, for which all its memory is taken.
+    pub fn new(alloc: A) -> Result<Buffer<A>, A>
+        ensures empty { IfOk result (λ s. s ≡ []) }
+        ensures memory { IfErr result IsMemory }
+    {
+        let mut bytes = Vec::new(alloc);
+        bytes.resize(BUFFER_SIZE, 0u8)?;
+        Ok(Buffer {
+            bytes,
+            used: 0,
+            filled: 0,
+        })
+    }
+
+    pub fn allocator(&self) -> &A {
+        self.bytes.allocator()
+    }
+
+    pub fn is_empty(&self) -> bool
+        ensures { result ≡ (length self.now == 0) }
+    {
+        self.used == self.filled
+    }
+
+    pub fn unread(&self) -> &[u8]
+        ensures bytes { result.now ≡ self.now }
+        ensures bound { length self.now ≤ 8192 }
+    {
+        &self.bytes[self.used..self.filled]
+    }
+
+    pub fn use_up(&mut self, n: usize)
+        requires { n ≤ length self.old }
+        ensures { self.new ≡ drop n self.old }
+    {
+        self.used += n;
+    }
+
+    // One read. The unread bytes move to the front, and it asks for as many as there is room for behind them.
+    pub fn read_from<R: Source>(&mut self, reader: &mut R) -> io::Result<usize>
+        requires { length self.old < 8192 }
+        ensures { Fills (R.ahead reader.old) (R.calls reader.old) self.old result
+            (R.ahead reader.new) (R.calls reader.new) self.new }
+    {
+        self.bytes.copy_within(self.used..self.filled, 0);
+        self.filled -= self.used;
+        self.used = 0;
+        let count = reader.read_some(&mut self.bytes[self.filled..])?;
+        self.filled += count;
+        Ok(count)
+    }
+}

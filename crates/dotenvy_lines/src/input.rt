@@ -1,0 +1,288 @@
+// The bytes of a source, as they are read: a physical line at a time.
+ghost use Rattle.std.specs.Prelude.{[], ◌≡◌, ◌≤◌, ◌<◌, ◌+◌, ◌==◌, ◌⊎◌, true, false, Some, None, IfOk, IfErr, IsOk, IsTrue, ◌↔◌, OnOk, MatchOption, MatchBool, position, nat_eq, length, take, drop, vec_len};
+ghost use Rattle.std.specs.IoError.{error_kind};
+ghost use Rattle.dotenvy_base.specs.Source.{Ahead};
+ghost use Rattle.dotenvy_lines.specs.Input.{WhereTold, ReadsOnce, IsAllRead, used_up, supply, IsLinePiece, ReadsMore, FindsMore, MovesLine, SkipsLine, begins_mark, DropsMark, AsksOnce, AsksReads};
+ghost use Rattle.std.specs.List.{starts_with};
+ghost use Rattle.dotenvy_format.specs.PhysicalLines.{is_whole_line, no_line_feed};
+ghost use Rattle.dotenvy_format.specs.Marks.{byte_order_mark};
+ghost use Rattle.dotenvy_base.specs.Errors.{IsMemory, IsIoOf};
+
+use crate::buffer::Buffer;
+use dotenvy_base::errors::{Error, Result};
+use dotenvy_base::source::Source;
+use memchr::memchr;
+use std::alloc::Allocator;
+use std::io;
+use std::io::ErrorKind;
+use std::marker::Model;
+
+const BYTE_ORDER_MARK: [u8; 3] = [0xEF, 0xBB, 0xBF];
+
+// A source and the bytes that were read from it and not used. The end is remembered, and no read follows it.
+#[derive(Drop)]
+pub struct Input<R: Source, A: Allocator> {
+    reader: R,
+    buffer: Buffer<A>,
+    reads_left: u64,
+    at_end: bool,
+}
+
+// A part of a physical line, from its front, and whether its LF is the last byte of it.
+#[derive(Clone, Copy)]
+pub struct LinePiece<'a> {
+    pub bytes: &'a [u8],
+    pub is_whole: bool,
+}
+
+impl<R: Source, A: Allocator> Model for Input<R, A> {
+    ghost use Rattle.std.specs.Prelude.{length};
+    ghost use Rattle.dotenvy_lines.specs.Input.{InputState, input_code, left_of};
+
+    ghost Value = { InputState };
+
+    ghost coded = { input_code };
+
+    ghost view = { λ s.
+        record {
+          left = left_of s.at_end (R.ahead s.reader) s.buffer;
+          unread = length s.buffer;
+          reads = s.reads_left;
+          at_end = s.at_end;
+          calls = R.calls s.reader;
+        } };
+}
+
+impl<R: Source, A: Allocator> Input<R, A> {
+    // Nothing is read. The memory of the buffer is taken.
+    pub fn new(alloc: A, reader: R, reads_left: u64) -> Result<Input<R, A>, A>
+    where
+        R: Drop,
+        ensures ok { IfOk result (λ s.
+            s
+            ≡ record {
+              left = R.ahead reader;
+              unread = 0;
+              reads = reads_left;
+              at_end = false;
+              calls = R.calls reader;
+            }) }
+        ensures memory { IfErr result IsMemory }
+    {
+        Ok(Input {
+            buffer: Buffer::new(alloc)?,
+            reader,
+            reads_left,
+            at_end: false,
+        })
+    }
+
+    pub fn allocator(&self) -> &A {
+        self.buffer.allocator()
+    }
+
+    // Nothing is left, and the end was read.
+    pub fn is_used_up(&self) -> bool
+        ensures value { IsTrue result ↔ ((self.now.at_end ≡ true) × (self.now.unread ≡ 0)) }
+        ensures told { (a : Ahead) → self.now.left ≡ Some a → result ≡ true →
+            (a.bytes ≡ []) × (a.fault ≡ None) }
+    {
+        self.at_end && self.buffer.is_empty()
+    }
+
+    pub fn is_at_end(&self) -> bool
+        ensures value { result ≡ self.now.at_end }
+        ensures told { (a : Ahead) → self.now.left ≡ Some a → result ≡ true →
+            IsAllRead a self.now.unread }
+    {
+        self.at_end
+    }
+
+    fn unread(&self) -> &[u8]
+        ensures len { length result.now ≡ self.now.unread }
+        ensures told { (a : Ahead) → self.now.left ≡ Some a →
+            result.now ≡ take self.now.unread a.bytes }
+    {
+        self.buffer.unread()
+    }
+
+    pub fn use_up(&mut self, n: usize)
+        requires { n ≤ self.old.unread }
+        ensures { self.new ≡ used_up n self.old }
+    {
+        self.buffer.use_up(n);
+    }
+
+    // The unread bytes of the physical line that stands next: up to its LF, or all where it has none.
+    pub fn line_piece(&self) -> LinePiece<'_>
+        ensures { IsLinePiece self.now result.bytes.now result.is_whole }
+    {
+        let unread = self.unread();
+        match whole_line_len(unread) {
+            Some(len) => LinePiece {
+                bytes: &unread[..len],
+                is_whole: true,
+            },
+            None => LinePiece {
+                bytes: unread,
+                is_whole: false,
+            },
+        }
+    }
+}
+
+fn too_many_reads<A: Allocator>() -> Error<A>
+    ensures { IsIoOf (λ e. error_kind e ≡ ErrorKind.Other) result }
+{
+    Error::Io(io::Error::other("too many reads"))
+}
+
+fn line_feed_place(bytes: &[u8]) -> Option<usize>
+    ensures { result ≡ position (λ b. b == 10) bytes.now }
+{
+    memchr(b'\n', bytes)
+}
+
+// The length of the first line of the bytes, its LF included.
+fn whole_line_len(bytes: &[u8]) -> Option<usize>
+    ensures { MatchOption result (no_line_feed bytes.now ≡ true)
+        (λ n. (n ≤ length bytes.now) × (is_whole_line (take n bytes.now) ≡ true)) }
+{
+    match line_feed_place(bytes) {
+        Some(place) => Some(place + 1),
+        None => None,
+    }
+}
+
+// One read: appends what it gives, and answers whether it met the end. An interrupted read gives nothing.
+fn read_once<R: Source, A: Allocator>(reader: &mut R, buffer: &mut Buffer<A>) -> Result<bool, A>
+    requires { length buffer.old < 8192 }
+    ensures bound { length buffer.new ≤ 8192 }
+    ensures grows { length buffer.old ≤ length buffer.new }
+    ensures told { WhereTold (R.ahead reader.old)
+        (λ a. ReadsOnce a buffer.old result (R.ahead reader.new) buffer.new) }
+    ensures asks { AsksOnce (R.calls reader.old) result (R.calls reader.new) }
+{
+    match buffer.read_from(reader) {
+        Ok(n) => Ok(n == 0),
+        Err(e) => {
+            if e.kind() == ErrorKind::Interrupted {
+                Ok(false)
+            } else {
+                Err(Error::Io(e))
+            }
+        }
+    }
+}
+
+impl<R: Source, A: Allocator> Input<R, A> {
+    // One read, which counts as one where it is interrupted too.
+    pub fn read_more(&mut self) -> Result<(), A>
+        requires unread { self.old.unread < 8192 }
+        requires unended { self.old.at_end ≡ false }
+        ensures falls { OnOk result (supply self.new < supply self.old) }
+        ensures grows { self.old.unread ≤ self.new.unread }
+        ensures told { WhereTold self.old.left (λ a. ReadsMore a self.old result self.new) }
+        ensures asks { AsksReads (IsOk result) self.old self.new }
+    {
+        if self.reads_left == 0 {
+            return Err(too_many_reads());
+        }
+        self.reads_left -= 1;
+        self.at_end = read_once(&mut self.reader, &mut self.buffer)?;
+        Ok(())
+    }
+
+    // Nothing is unread, and more may come.
+    fn is_waiting(&self) -> bool
+        ensures waits { result ≡ true → (self.now.unread ≡ 0) × (self.now.at_end ≡ false) }
+        ensures told { (a : Ahead) → self.now.left ≡ Some a → result ≡ false →
+            self.now.unread ≡ 0 → (a.bytes ≡ []) × (a.fault ≡ None) × (self.now.at_end ≡ true) }
+    {
+        self.buffer.is_empty() && !self.at_end
+    }
+
+    // Whether there is something to use: reads until a byte is unread, or the end.
+    pub fn has_more(&mut self) -> Result<bool, A>
+        ensures falls { OnOk result (supply self.new ≤ supply self.old) }
+        ensures some { IfOk result (λ more. more ≡ true → 0 < self.new.unread) }
+        ensures ended { self.old.at_end ≡ true → self.new ≡ self.old }
+        ensures told { WhereTold self.old.left (λ a. FindsMore a self.old result self.new) }
+        ensures asks { AsksReads (IsOk result) self.old self.new }
+    {
+        'waiting: while self.is_waiting() {
+            self.read_more()?;
+        }
+        Ok(!self.buffer.is_empty())
+    }
+
+    // Uses the unread bytes of the physical line that stands next, and answers whether its LF is among them.
+    fn use_piece(&mut self) -> bool
+        ensures supply { supply self.new ≤ supply self.old }
+        ensures some { 0 < self.old.unread → supply self.new < supply self.old }
+        ensures spent { result ≡ false → self.new.unread ≡ 0 }
+        ensures told { (a : Ahead) → self.old.left ≡ Some a → MovesLine a self.old result self.new }
+        ensures asks { AsksReads (Unit {0}) self.old self.new }
+    {
+        let piece = self.line_piece();
+        let (len, is_whole) = (piece.bytes.len(), piece.is_whole);
+        self.use_up(len);
+        is_whole
+    }
+
+    // Passes by what is left of the physical line that stands next, and keeps none of it.
+    pub fn skip_line(&mut self) -> Result<(), A>
+        ensures falls { OnOk result (supply self.new ≤ supply self.old) }
+        ensures some { 0 < self.old.unread → OnOk result (supply self.new < supply self.old) }
+        ensures told { WhereTold self.old.left (λ a. SkipsLine a self.old result self.new) }
+        ensures asks { AsksReads (IsOk result) self.old self.new }
+    {
+        'skipping: loop {
+            if self.use_piece() {
+                return Ok(());
+            }
+            if self.is_at_end() {
+                return Ok(());
+            }
+            self.read_more()?;
+        }
+    }
+
+    // Whether a byte order mark may stand next, and more has to be read to know.
+    fn is_undecided(&self) -> bool
+        ensures told { (a : Ahead) → self.now.left ≡ Some a →
+            MatchBool result
+            ((self.now.at_end ≡ false) × (begins_mark (take self.now.unread a.bytes) ≡ true))
+            (IsAllRead a self.now.unread ⊎ (begins_mark (take self.now.unread a.bytes) ≡ false)) }
+        ensures unended { result ≡ true → self.now.at_end ≡ false }
+        ensures short { result ≡ true → self.now.unread < 3 }
+    {
+        let unread = self.unread();
+        !self.is_at_end()
+            && unread.len() < BYTE_ORDER_MARK.len()
+            && BYTE_ORDER_MARK.starts_with(unread)
+    }
+
+    fn is_at_mark(&self) -> bool
+        ensures len { result ≡ true → 3 ≤ self.now.unread }
+        ensures told { (a : Ahead) → self.now.left ≡ Some a →
+            result ≡ starts_with nat_eq (take self.now.unread a.bytes) byte_order_mark }
+    {
+        self.unread().starts_with(&BYTE_ORDER_MARK)
+    }
+
+    // Drops a byte order mark, if the next bytes are one. Bytes that are no whole mark stay.
+    pub fn drop_mark(&mut self) -> Result<(), A>
+        ensures falls { OnOk result (supply self.new ≤ supply self.old) }
+        ensures told { WhereTold self.old.left (λ a. DropsMark a self.old result self.new) }
+        ensures asks { AsksReads (IsOk result) self.old self.new }
+    {
+        'deciding: while self.is_undecided() {
+            self.read_more()?;
+        }
+        if self.is_at_mark() {
+            self.use_up(BYTE_ORDER_MARK.len());
+        }
+        Ok(())
+    }
+}

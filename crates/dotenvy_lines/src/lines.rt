@@ -1,0 +1,339 @@
+// The logical lines of a source: physical lines, joined where quotes stand open.
+ghost use Rattle.std.specs.Prelude.{◌≡◌, ◌≢◌, ◌≤◌, ◌<◌, ◌^◌, ◌⊎◌, None, Ok, IfOk, IfErr, IsOk, OnOk, OnErr, IfSome, IsSome, IsTrue, ◌↔◌, length, string_bytes};
+ghost use Rattle.std.specs.Str.{chars};
+ghost use Rattle.std.specs.IoError.{error_kind};
+ghost use Rattle.dotenvy_base.specs.Errors.{IsIoOf, IsLineParseOf, IsMemory, IsMemoryErr};
+ghost use Rattle.dotenvy_lines.specs.Input.{AsksReads, DropsMark, WhereTold};
+ghost use Rattle.dotenvy_lines.specs.Lines.{fuel_of, NextTextIs, WhereOpen};
+ghost use Rattle.dotenvy_lines.specs.inside.JoinedLines.{joined_at_end, JoinsNext, UsesSome, stage_after, is_refused, IsOutcome};
+ghost use Rattle.dotenvy_lines.specs.Splitter.{fresh_lines, last_lines, AdvanceIs};
+
+use crate::input::Input;
+use crate::physical_line::{Taken, take_line};
+use dotenvy_base::errors::{Error, Result, fault_error};
+use dotenvy_base::source::Source;
+use dotenvy_format::walk::LineMode;
+use std::alloc::Allocator;
+use std::io;
+use std::io::ErrorKind;
+use std::marker::Model;
+
+// The most reads that an iterator makes.
+const READ_LIMIT: u64 = 4_294_967_296;
+
+// What the next physical lines make; the text is in the line buffer.
+#[derive(Clone, Copy, Drop)]
+pub enum Joined {
+    Nothing,
+    Skipped,
+    Whole,
+    OpenEnd,
+    BrokenLine,
+}
+
+fn at_input_end(text: &str, mode: LineMode) -> Joined
+    ensures { result ≡ joined_at_end text.now mode }
+{
+    if text.is_empty() {
+        return Joined::Nothing;
+    }
+    match mode {
+        LineMode::Outside => Joined::Whole,
+        _ => Joined::OpenEnd,
+    }
+}
+
+// Takes physical lines until they make a logical line, whose text is left in the line buffer, and counts them. More
+// than 2^64 - 1 are not counted; so many reads are never made.
+fn join_lines<R: Source, A: Allocator>(
+    input: &mut Input<R, A>,
+    text: &mut String<A>,
+    lines_taken: &mut u64,
+) -> Result<Joined, A>
+    ensures falls { IfOk result (λ joined. UsesSome input.old joined input.new) }
+    ensures told { WhereTold input.old.left
+        (λ a. JoinsNext a input.old lines_taken.old result (string_bytes text.new) input.new
+        lines_taken.new) }
+    ensures asks { AsksReads (IsOk result) input.old input.new }
+{
+    text.clear();
+    let mut mode = LineMode::Outside;
+    'joining: loop {
+        if !input.has_more()? {
+            return Ok(at_input_end(text.as_str(), mode));
+        }
+        let taken = take_line(input, text, mode)?;
+        *lines_taken = lines_taken.saturating_add(1);
+        match taken {
+            Taken::Going(next) => mode = next,
+            Taken::Ended => return Ok(Joined::Whole),
+            Taken::Comment => {
+                text.clear();
+                return Ok(Joined::Skipped);
+            }
+            Taken::Broken => return Ok(Joined::BrokenLine),
+        }
+    }
+}
+
+#[derive(Clone, Copy, Drop)]
+pub enum Stage {
+    Open,
+    Ended,
+    Failed,
+}
+
+// Reads logical lines into one line buffer, until the end or a fault that is final.
+#[derive(Drop)]
+pub struct Splitter<R: Source, A: Allocator> {
+    input: Input<R, A>,
+    stage: Stage,
+    line: String<A>,
+    lines_taken: u64,
+    first_line: u64,
+}
+
+impl<R: Source, A: Allocator> Model for Splitter<R, A> {
+    ghost use Rattle.std.specs.Prelude.{string_bytes};
+    ghost use Rattle.dotenvy_lines.specs.Splitter.{SplitterState, splitter_code};
+
+    ghost Value = { SplitterState };
+
+    ghost coded = { splitter_code };
+
+    ghost view = { λ s.
+        record {
+          lines = record {
+            input = s.input;
+            stage = s.stage;
+            lines_taken = s.lines_taken;
+            first_line = s.first_line;
+          };
+          line = string_bytes s.line;
+        } };
+}
+
+impl<R: Source, A: Allocator + Clone> Splitter<R, A> {
+    // Nothing is read. The memory for reading is taken; that of the line grows with the lines.
+    pub fn new(alloc: A, reader: R) -> Result<Splitter<R, A>, A>
+    where
+        R: Drop,
+        ensures ok { IfOk result
+            (λ s. s.lines ≡ fresh_lines (R.ahead reader) (R.calls reader) (2 ^ 32)) }
+        ensures memory { IfErr result IsMemory }
+    {
+        Splitter::with_limit(alloc, reader, READ_LIMIT)
+    }
+
+    pub fn with_limit(alloc: A, reader: R, reads: u64) -> Result<Splitter<R, A>, A>
+    where
+        R: Drop,
+        ensures ok { IfOk result
+            (λ s. s.lines ≡ fresh_lines (R.ahead reader) (R.calls reader) reads) }
+        ensures memory { IfErr result IsMemory }
+    {
+        let line = String::new(alloc.clone()?);
+        Ok(Splitter {
+            input: Input::new(alloc, reader, reads)?,
+            stage: Stage::Open,
+            line,
+            lines_taken: 0,
+            first_line: 0,
+        })
+    }
+
+    pub fn allocator(&self) -> &A {
+        self.input.allocator()
+    }
+
+    // From now on `None` is the answer.
+    pub fn fail(&mut self)
+        ensures lines { self.new.lines ≡ record self.old.lines { stage = Stage.Failed } }
+        ensures line { self.new.line ≡ self.old.line }
+    {
+        self.stage = Stage::Failed;
+    }
+
+    fn is_open(&self) -> bool
+        ensures { IsTrue result ↔ (self.now.lines.stage ≡ Stage.Open) }
+    {
+        matches!(self.stage, Stage::Open)
+    }
+
+    // The text that `advance` left: that of the last logical line, and the empty one for a line that is skipped.
+    pub fn line(&self) -> &str
+        ensures { result.now ≡ self.now.line }
+    {
+        self.line.as_str()
+    }
+
+    // The first and the last physical line of the last logical line, counted from 1. Zeros before the first, and after
+    // a final fault, which stands on no line.
+    pub fn last_lines(&self) -> (u64, u64)
+        ensures { result ≡ last_lines self.now.lines }
+    {
+        match self.stage {
+            Stage::Failed => (0, 0),
+            Stage::Open | Stage::Ended => (self.first_line, self.lines_taken),
+        }
+    }
+}
+
+fn stage_after(joined: Joined, is_used_up: bool, is_refused: bool) -> Stage
+    ensures { result ≡ stage_after joined is_used_up is_refused }
+{
+    if is_refused {
+        return Stage::Failed;
+    }
+    match joined {
+        Joined::Nothing => Stage::Ended,
+        _ => {
+            if is_used_up {
+                Stage::Ended
+            } else {
+                Stage::Open
+            }
+        }
+    }
+}
+
+fn broken_line<A: Allocator>() -> Error<A>
+    ensures { IsIoOf (λ e. error_kind e ≡ ErrorKind.InvalidData) result }
+{
+    Error::Io(io::Error::new(ErrorKind::InvalidData, "the line is not UTF-8"))
+}
+
+// The fault of a line that stays open: all of its text, and the length of that in bytes.
+fn open_end<A: Allocator + Clone>(alloc: &A, line: &str) -> Error<A>
+    ensures { IsMemory result ⊎ IsLineParseOf (chars line.now) (length line.now) result }
+{
+    match alloc.clone() {
+        Ok(alloc) => fault_error(alloc, line, line.len()),
+        Err(refused) => Error::Memory(refused),
+    }
+}
+
+fn outcome<A: Allocator + Clone>(alloc: &A, joined: Joined, line: &str) -> Option<Result<(), A>>
+    ensures { IsOutcome joined line.now result }
+{
+    match joined {
+        Joined::Nothing => None,
+        Joined::Skipped | Joined::Whole => Some(Ok(())),
+        Joined::OpenEnd => Some(Err(open_end(alloc, line))),
+        Joined::BrokenLine => Some(Err(broken_line())),
+    }
+}
+
+fn is_refused<A: Allocator>(outcome: &Option<Result<(), A>>) -> bool
+    ensures { result ≡ is_refused outcome.now }
+{
+    matches!(outcome, Some(Err(Error::Memory(_))))
+}
+
+impl<R: Source, A: Allocator + Clone> Splitter<R, A> {
+    // Takes the next logical line: its text is left in the line buffer, empty for a line that is skipped. Answers its
+    // fault, and `None` at the end and after a final fault.
+    pub fn advance(&mut self) -> Option<Result<(), A>>
+        ensures shut { self.old.lines.stage ≢ Stage.Open → (result ≡ None) × (self.new ≡ self.old) }
+        ensures falls { IsSome result → fuel_of self.new.lines < fuel_of self.old.lines }
+        ensures none { result ≡ None → self.new.lines.stage ≢ Stage.Open }
+        ensures memory { IfSome result (λ r. IsMemoryErr r → self.new.lines.stage ≡ Stage.Failed) }
+        ensures told { WhereOpen self.old.lines
+            (λ a. AdvanceIs a self.old.lines result self.new.line self.new.lines) }
+        ensures asks { AsksReads (self.new.lines.stage ≡ Stage.Open) self.old.lines.input
+            self.new.lines.input }
+    {
+        if !self.is_open() {
+            return None;
+        }
+        self.first_line = self.lines_taken.saturating_add(1);
+        let joined = match join_lines(&mut self.input, &mut self.line, &mut self.lines_taken) {
+            Ok(joined) => joined,
+            Err(e) => {
+                self.stage = Stage::Failed;
+                return Some(Err(e));
+            }
+        };
+        let outcome = outcome(self.input.allocator(), joined, self.line.as_str());
+        self.stage = stage_after(joined, self.input.is_used_up(), is_refused(&outcome));
+        outcome
+    }
+
+    // Drops a byte order mark that stands next. Does nothing after the end or a final fault.
+    pub fn drop_mark(&mut self) -> Result<(), A>
+        ensures shut { self.old.lines.stage ≢ Stage.Open →
+            (result ≡ Ok tt) × (self.new ≡ self.old) }
+        ensures falls { fuel_of self.new.lines ≤ fuel_of self.old.lines }
+        ensures ok { OnOk result (self.new.lines.stage ≡ self.old.lines.stage) }
+        ensures err { OnErr result (self.new.lines.stage ≡ Stage.Failed) }
+        ensures counts { (self.new.lines.lines_taken ≡ self.old.lines.lines_taken)
+            × (self.new.lines.first_line ≡ self.old.lines.first_line) }
+        ensures told { WhereOpen self.old.lines
+            (λ a. DropsMark a self.old.lines.input result self.new.lines.input) }
+        ensures asks { AsksReads (self.new.lines.stage ≡ Stage.Open) self.old.lines.input
+            self.new.lines.input }
+    {
+        if !self.is_open() {
+            return Ok(());
+        }
+        match self.input.drop_mark() {
+            Ok(()) => Ok(()),
+            Err(e) => {
+                self.stage = Stage::Failed;
+                Err(e)
+            }
+        }
+    }
+}
+
+fn copy_of<A: Allocator + Clone>(alloc: &A, line: &str) -> Result<String<A>, A>
+    ensures text { IfOk result (λ text. string_bytes text ≡ line.now) }
+    ensures memory { IfErr result IsMemory }
+{
+    Ok(String::from_str(alloc.clone()?, line)?)
+}
+
+// The logical lines as texts of their own.
+#[derive(Drop)]
+pub struct QuotedLines<R: Source, A: Allocator> {
+    splitter: Splitter<R, A>,
+}
+
+impl<R: Source, A: Allocator> Model for QuotedLines<R, A> {
+    ghost use Rattle.dotenvy_lines.specs.Lines.{LinesState, lines_code};
+
+    ghost Value = { LinesState };
+
+    ghost coded = { lines_code };
+
+    ghost view = { λ s. s.splitter.lines };
+}
+
+impl<R: Source, A: Allocator + Clone> QuotedLines<R, A> {
+    pub fn new(splitter: Splitter<R, A>) -> QuotedLines<R, A>
+        ensures { result ≡ splitter.lines }
+    {
+        QuotedLines { splitter }
+    }
+
+    // The text of the next logical line, or its fault: empty for a line that is skipped, and `None` at the end and after a final fault.
+    pub fn next_line(&mut self) -> Option<Result<String<A>, A>>
+        ensures shut { self.old.stage ≢ Stage.Open → (result ≡ None) × (self.new ≡ self.old) }
+        ensures falls { IsSome result → fuel_of self.new < fuel_of self.old }
+        ensures none { result ≡ None → self.new.stage ≢ Stage.Open }
+        ensures memory { IfSome result (λ r. IsMemoryErr r → self.new.stage ≡ Stage.Failed) }
+        ensures told { WhereOpen self.old (λ a. NextTextIs a self.old result self.new) }
+        ensures asks { AsksReads (self.new.stage ≡ Stage.Open) self.old.input self.new.input }
+    {
+        match self.splitter.advance()? {
+            Ok(()) => match copy_of(self.splitter.allocator(), self.splitter.line()) {
+                Ok(text) => Some(Ok(text)),
+                Err(refused) => {
+                    self.splitter.fail();
+                    Some(Err(refused))
+                }
+            },
+            Err(fault) => Some(Err(fault)),
+        }
+    }
+}

@@ -1,0 +1,240 @@
+// One physical line, in the pieces in which it is read, as a part of a logical line.
+ghost use Rattle.std.specs.Prelude.{◌≡◌, ◌≤◌, ◌<◌, ◌++◌, true, ℕ, List, [], IfOk, IfErr, IsOk, OnOk, length, string_bytes};
+ghost use Rattle.std.specs.Str.{chars, skip_leading_whitespace};
+ghost use Rattle.dotenvy_base.specs.Source.{Ahead};
+ghost use Rattle.dotenvy_format.specs.Characters.{begins_with, hash};
+ghost use Rattle.dotenvy_format.specs.PhysicalLines.{no_line_feed};
+ghost use Rattle.dotenvy_format.specs.LogicalLine.{without_carriage_return};
+ghost use Rattle.dotenvy_format.specs.inside.Walk.{kept_before};
+ghost use Rattle.dotenvy_base.specs.Errors.{IsMemory};
+ghost use Rattle.dotenvy_lines.specs.Input.{AsksReads, WhereTold, supply};
+ghost use Rattle.dotenvy_lines.specs.inside.TakenLine.{IsTextFront, PieceFalls, TakesLineOn, TakesPiece, WalksFrom, WalksOn, after_text, at_line_end, starting, still_blank};
+
+use crate::input::Input;
+use dotenvy_base::errors::Result;
+use dotenvy_base::source::Source;
+use dotenvy_format::walk::{LineMode, Walked, walk_text};
+use std::alloc::Allocator;
+
+// How far a physical line was walked.
+#[derive(Clone, Copy, Drop)]
+pub enum Progress {
+    // All of it is white space so far, and it is the first of its logical line, so that it may be a comment.
+    Blank(LineMode),
+    Going(LineMode),
+    // The logical line has ended, and what is left of the physical line isn't kept.
+    Ended,
+    Comment,
+}
+
+// What stands behind a text that was read.
+#[derive(Clone, Copy, Drop)]
+pub enum After {
+    LineEnd,
+    InputEnd,
+    // A byte that begins no character, so that the physical line is broken.
+    Broken,
+    // More has to be read, for the rest of the line or of a character.
+    Unread,
+}
+
+// What a piece of a physical line leads to.
+#[derive(Clone, Copy, Drop)]
+struct Step {
+    progress: Progress,
+    after: After,
+}
+
+// What a physical line makes of the logical line that it goes on.
+#[derive(Clone, Copy, Drop)]
+pub enum Taken {
+    Going(LineMode),
+    Ended,
+    Comment,
+    Broken,
+}
+
+// The longest front of the bytes that is text. What is left may be a character whose end is still to be read.
+fn text_front(bytes: &[u8]) -> &str
+    ensures { IsTextFront bytes.now result.now }
+{
+    match str::from_utf8(bytes) {
+        Ok(text) => text,
+        Err(fault) => str::from_utf8(&bytes[..fault.valid_up_to()]).unwrap_or(""),
+    }
+}
+
+// No character has more bytes than four: so many bytes that are no text stay none, whatever follows.
+fn after_text(left: usize, is_whole: bool, at_end: bool) -> After
+    ensures { result ≡ after_text left is_whole at_end }
+{
+    if left > 0 {
+        if is_whole || at_end || left >= 4 {
+            After::Broken
+        } else {
+            After::Unread
+        }
+    } else if is_whole {
+        After::LineEnd
+    } else if at_end {
+        After::InputEnd
+    } else {
+        After::Unread
+    }
+}
+
+fn drop_carriage_return<A: Allocator>(text: &mut String<A>)
+    ensures { chars (string_bytes text.new)
+        ≡ without_carriage_return (chars (string_bytes text.old)) }
+{
+    if text.as_str().ends_with('\r') {
+        let _ = text.pop();
+    }
+}
+
+// Adds to a logical line what it keeps of its last physical line, where `end` ends it.
+fn keep_front<A: Allocator>(text: &mut String<A>, front: &str, end: char) -> Result<(), A>
+    ensures kept { OnOk result (chars (string_bytes text.new)
+        ≡ kept_before end (chars (string_bytes text.old) ++ chars front.now)) }
+    ensures memory { IfErr result IsMemory }
+{
+    text.push_str(front)?;
+    if end == '\n' {
+        drop_carriage_return(text);
+    }
+    Ok(())
+}
+
+// Walks a piece of a line, and keeps what the logical line keeps of it.
+fn walk_on<A: Allocator>(mode: LineMode, piece: &str, text: &mut String<A>) -> Result<Progress, A>
+    ensures walks { IfOk result (WalksFrom mode (chars (string_bytes text.old)) (chars piece.now)
+        (chars (string_bytes text.new))) }
+    ensures memory { IfErr result IsMemory }
+{
+    match walk_text(piece, mode) {
+        Walked::Going(next) => {
+            text.push_str(piece)?;
+            Ok(Progress::Going(next))
+        }
+        Walked::EndedAt(at, end) => {
+            keep_front(text, &piece[..at], end)?;
+            Ok(Progress::Ended)
+        }
+    }
+}
+
+// As long as a line is blank, it may still be a comment.
+fn still_blank(progress: Progress) -> Progress
+    ensures { result ≡ still_blank progress }
+{
+    match progress {
+        Progress::Going(mode) => Progress::Blank(mode),
+        _ => progress,
+    }
+}
+
+// One more piece of a line that was blank so far.
+fn begin<A: Allocator>(mode: LineMode, piece: &str, text: &mut String<A>) -> Result<Progress, A>
+    ensures walks { IfOk result (WalksOn (Progress.Blank mode) (chars (string_bytes text.old))
+        (chars piece.now) (chars (string_bytes text.new))) }
+    ensures memory { IfErr result IsMemory }
+{
+    let trimmed = piece.trim_start();
+    if trimmed.is_empty() {
+        return Ok(still_blank(walk_on(mode, piece, text)?));
+    }
+    if trimmed.starts_with('#') {
+        return Ok(Progress::Comment);
+    }
+    walk_on(mode, piece, text)
+}
+
+// One more piece of a line. What is not kept was still seen to be text.
+fn go_on<A: Allocator>(progress: Progress, piece: &str, text: &mut String<A>) -> Result<Progress, A>
+    ensures walks { IfOk result (WalksOn progress (chars (string_bytes text.old))
+        (chars piece.now) (chars (string_bytes text.new))) }
+    ensures memory { IfErr result IsMemory }
+{
+    match progress {
+        Progress::Blank(mode) => begin(mode, piece, text),
+        Progress::Going(mode) => walk_on(mode, piece, text),
+        Progress::Ended => Ok(Progress::Ended),
+        Progress::Comment => Ok(Progress::Comment),
+    }
+}
+
+// Takes what was read of a physical line, as far as it is text.
+fn take_piece<R: Source, A: Allocator>(
+    input: &mut Input<R, A>,
+    text: &mut String<A>,
+    progress: Progress,
+) -> Result<Step, A>
+    ensures supply { supply input.new ≤ supply input.old }
+    ensures falls { IfOk result (λ step. PieceFalls input.old step.after input.new) }
+    ensures told { IfOk result (λ step.
+        (a : Ahead) → input.old.left ≡ Some a →
+        (piece : List ℕ)
+        × TakesPiece a input.old piece step.after input.new
+        × WalksOn progress (chars (string_bytes text.old)) (chars piece)
+        (chars (string_bytes text.new)) step.progress) }
+    ensures memory { IfErr result IsMemory }
+    ensures asks { AsksReads (Unit {0}) input.old input.new }
+{
+    let piece = input.line_piece();
+    let front = text_front(piece.bytes);
+    let len = front.len();
+    let after = after_text(piece.bytes.len() - len, piece.is_whole, input.is_at_end());
+    let progress = go_on(progress, front, text)?;
+    input.use_up(len);
+    Ok(Step { progress, after })
+}
+
+fn starting(mode: LineMode, is_first: bool) -> Progress
+    ensures { result ≡ starting mode is_first }
+{
+    if is_first {
+        Progress::Blank(mode)
+    } else {
+        Progress::Going(mode)
+    }
+}
+
+fn at_line_end(progress: Progress) -> Taken
+    ensures { result ≡ at_line_end progress }
+{
+    match progress {
+        Progress::Blank(mode) => Taken::Going(mode),
+        Progress::Going(mode) => Taken::Going(mode),
+        Progress::Ended => Taken::Ended,
+        Progress::Comment => Taken::Comment,
+    }
+}
+
+// Takes the physical line that stands next, in as many pieces as it is read in. The text is what the logical line
+// keeps so far; it is empty before the first line.
+pub fn take_line<R: Source, A: Allocator>(
+    input: &mut Input<R, A>,
+    text: &mut String<A>,
+    mode: LineMode,
+) -> Result<Taken, A>
+    requires { 0 < input.old.unread }
+    ensures falls { OnOk result (supply input.new < supply input.old) }
+    ensures told { WhereTold input.old.left
+        (λ a. TakesLineOn mode (chars (string_bytes text.old)) a input.old result
+        (chars (string_bytes text.new)) input.new) }
+    ensures asks { AsksReads (IsOk result) input.old input.new }
+{
+    let mut progress = starting(mode, text.is_empty());
+    'pieces: loop {
+        let step = take_piece(input, text, progress)?;
+        progress = step.progress;
+        match step.after {
+            After::LineEnd | After::InputEnd => return Ok(at_line_end(progress)),
+            After::Broken => {
+                input.skip_line()?;
+                return Ok(Taken::Broken);
+            }
+            After::Unread => input.read_more()?,
+        }
+    }
+}
