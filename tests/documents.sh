@@ -138,7 +138,7 @@ done
 check "docs/LIBRARY.md, each line beside one of the Rust crate is in an example" has_lines_from_rust
 check "docs/LIBRARY.md has each public call with its signature" python3 tests/signatures.py
 check "each link of the pages leads somewhere" python3 tests/links.py
-check_contracts README.md crates/dotenv_base/src/environment.rt
+check_contracts README.md crates/dotenvy_base/src/environment.rt
 
 echo "$passed passed, $failed failed"
 [ "$failed" -eq 0 ]
