@@ -21,19 +21,26 @@ use Rattle.std.proofs.Common.{
   ap,
 }
 use Rattle.std.specs.Prelude.{option_map}
-use Rattle.std.specs.Cmp.Lexicographic.{bytes_decides}
+use Rattle.std.specs.Cmp.Lexicographic.{bytes_decides, slice_cmp}
 use Rattle.std.specs.FinMap as fin
 use Rattle.std.specs.FinMap.Entries.{below_all, find, is_sorted}
 use Rattle.std.specs.Option.{option_or}
-use Rattle.std.specs.Ordering.{is_eq, is_lt}
+use Rattle.std.specs.Ordering.{is_eq, is_lt, nat_cmp}
 use Rattle.std.specs.Process.{command_var, SameOtherVars}
 use Rattle.std.specs.declared.cmp.Ordering.{Ordering}
 use Rattle.std.specs.declared.cmp.Ordering.TheVariants.{Less, Equal, Greater}
 use Rattle.std.specs.declared.process.command.Command.{Command}
 use Rattle.std.proofs.lemmas.Map.Text.{is_eq-slice_cmp}
-use Rattle.dotenvy_base.specs.Environment.{Texts}
-use Rattle.dotenvy_base.proofs.Basics.{left_holds, right_holds}
-use Rattle.dotenvy_base.proofs.TextMaps.{bytes_cmp}
+use Rattle.dotenvy.specs.Environment.{Texts}
+
+-- the byte order of names
+abbrev pub bytes_cmp : List ℕ → List ℕ → Ordering
+bytes_cmp = slice_cmp nat_cmp
+
+-- of two things that hold together, each holds
+each_holds : (a b : Bool) → T (a && b) → T a × T b
+each_holds true b h = (tt, h)
+each_holds false b h = absurd h
 
 -- what the command says of a name once those that are left are set is what the environment has
 pub record SetsWithLeft {A : Type 0} (names : Texts) (left : List (List ℕ × List ℕ))
@@ -85,7 +92,7 @@ pub one_set : {A : Type 0} (names : Texts) (name value : List ℕ) (left : List 
     SetsWithLeft names ((name, value) ∷ left) old → command_var new name ≡ Some (Some value) →
     SameOtherVars old new name → SetsWithLeft names left new
 one_set names name value left old new before set others = record {
-  sorted = right_holds (below_all bytes_cmp name left) (is_sorted bytes_cmp left) before.sorted;
+  sorted = (each_holds (below_all bytes_cmp name left) (is_sorted bytes_cmp left) before.sorted).1;
   says = λ other. at other (is_eq (bytes_cmp other name)) refl (before.says other);
 }
   where
@@ -97,7 +104,7 @@ one_set names name value left old new before set others = record {
     at other true is says =
         let same = ties other name is in
         let later = none_later name left
-        (left_holds (below_all bytes_cmp name left) (is_sorted bytes_cmp left) before.sorted) in
+        (each_holds (below_all bytes_cmp name left) (is_sorted bytes_cmp left) before.sorted).0 in
         ap (λ n. option_or (option_map Some (find bytes_cmp n left)) (command_var new n)) same
         ∙ ap (λ found. option_or (option_map Some found) (command_var new name)) later ∙ set ∙ says
     at other false is says =

@@ -28,8 +28,8 @@ use Rattle.std.proofs.lemmas.List.{nil_from_length}
 use Rattle.std.proofs.lemmas.Grind.{flat_map-append}
 use Rattle.std.proofs.lemmas.List.Folds.{list_any-append}
 use Rattle.std.specs.declared.string.String.{String}
-use Rattle.dotenvy_format.specs.declared.dialect.Dialect.{Dialect}
-use Rattle.dotenvy_format.specs.declared.dialect.Dialect.TheVariants.{V15, Next}
+use Rattle.dotenvy.specs.Dialect.{Dialect}
+use Rattle.dotenvy.specs.Dialect.TheVariants.{V15, Next}
 use Rattle.dotenvy_command.specs.declared.failure.Usage.{Usage}
 use Rattle.dotenvy_command.specs.declared.failure.Usage.TheVariants as refusal
 use Rattle.dotenvy_command.specs.Answers.{texts, SaysAnswer, AnswersWords}

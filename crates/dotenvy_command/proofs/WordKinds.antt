@@ -22,7 +22,7 @@ use Rattle.std.proofs.Common.{
 use Rattle.std.specs.Prelude.{◌==◌, codes, MatchOption, unwrap_or, if◌then◌else◌}
 use Rattle.std.specs.Str.Pattern.{FindsTextPrefix, StripsPrefix}
 use denote.Ref.{Bor}
-use Rattle.dotenvy_format.specs.Characters.{equals_sign}
+use Rattle.dotenvy.specs.Characters.{equals_sign}
 use Rattle.dotenvy_command.specs.declared.command_line.Group.TheVariants as found
 use Rattle.dotenvy_command.specs.Words.{IsGroup, joined_file, assigned_file, without_equals}
 use Rattle.dotenvy_command.specs.FirstGroup.{IsAlone}

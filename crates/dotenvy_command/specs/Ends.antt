@@ -1,6 +1,6 @@
 -- How a run ends.
 use Rattle.std.specs.Prelude.{ℕ, ◌≡◌, Result, Ok, Err}
-use Rattle.dotenvy_base.specs.declared.errors.Error.{Error}
+use Rattle.dotenvy.specs.Error.{Error}
 use Rattle.dotenvy_command.specs.declared.failure.Failure.{Failure}
 use Rattle.dotenvy_command.specs.declared.failure.Failure.TheVariants.{Usage, Load, Start}
 use Rattle.dotenvy_command.specs.Answers.{SaysUsage}

@@ -1,7 +1,7 @@
 -- What the program prints of its faults.
 use Rattle.std.specs.Prelude.{ℕ, ◌++◌, List, Option, Some, None, codes, string_bytes}
 use Rattle.std.specs.Option.{option_map}
-use Rattle.dotenvy_base.specs.Errors.{error_text}
+use Rattle.dotenvy.specs.Errors.{error_text}
 use Rattle.dotenvy_command.specs.declared.failure.Failure.{Failure}
 use Rattle.dotenvy_command.specs.declared.failure.Failure.TheVariants as failure
 use Rattle.dotenvy_command.specs.declared.failure.Usage.{Usage}

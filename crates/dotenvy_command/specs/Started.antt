@@ -3,7 +3,7 @@ use Rattle.std.specs.Prelude.{ℕ, ◌≡◌, List, Option, Some, None, option_m
 use Rattle.std.specs.FinMap as fin
 use Rattle.std.specs.Process.{command_var}
 use Rattle.std.specs.declared.process.command.Command.{Command}
-use Rattle.dotenvy_base.specs.Environment.{Texts}
+use Rattle.dotenvy.specs.Environment.{Texts}
 
 -- the command sets each of these names to its value, and no other
 abbrev pub SetsNames : {A : Type 0} → Texts → Command A → Type 0

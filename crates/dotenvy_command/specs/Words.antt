@@ -24,9 +24,9 @@ use Rattle.std.specs.Prelude.{
   if◌then◌else◌,
 }
 use Rattle.std.specs.List.{flat_map, list_any, starts_with}
-use Rattle.dotenvy_format.specs.declared.dialect.Dialect.{Dialect}
-use Rattle.dotenvy_format.specs.declared.dialect.Dialect.TheVariants.{V15, Next}
-use Rattle.dotenvy_format.specs.Characters.{equals_sign}
+use Rattle.dotenvy.specs.Dialect.{Dialect}
+use Rattle.dotenvy.specs.Dialect.TheVariants.{V15, Next}
+use Rattle.dotenvy.specs.Characters.{equals_sign}
 
 -- how the option for a file is spelled: `-f` or `--file`
 pub data Form : Type 0 where

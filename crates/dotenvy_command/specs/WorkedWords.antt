@@ -1,7 +1,7 @@
 -- Worked words of the command line: what words ask for, by examples.
 use Prim.Native.String.{String}
 use Rattle.std.specs.Prelude.{ℕ, true, false, List, [], ◌∷◌, map, Ok, Err, codes}
-use Rattle.dotenvy_format.specs.declared.dialect.Dialect.TheVariants.{V15, Next}
+use Rattle.dotenvy.specs.Dialect.TheVariants.{V15, Next}
 use Rattle.dotenvy_command.specs.Words.{MissingCommand, MissingFile, UnknownOption, HasUsage}
 
 -- these words

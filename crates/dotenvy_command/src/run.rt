@@ -1,8 +1,8 @@
 //! What the program does once it has its words, over any reader, writer and runtime.
 
 ghost use Rattle.std.specs.Prelude.{◌≡◌, ◌≢◌, ◌⊎◌, [], Err, IfErr, IsErrAnd, Ok, false, true};
-ghost use Rattle.dotenvy_items.specs.Iter.{fresh};
-ghost use Rattle.dotenvy_items.specs.Listed.{Lists};
+ghost use Rattle.dotenvy.specs.Iter.{fresh};
+ghost use Rattle.dotenvy.specs.Listed.{Lists};
 ghost use Rattle.dotenvy_command.specs.Answers.{texts};
 ghost use Rattle.dotenvy_command.specs.Ends.{EndsAs, EndsByUsage, IsEarly, IsRunFault, IsUsage};
 ghost use Rattle.dotenvy_command.specs.Words.{CommandLine as Line, Usage as Refusal, HasUsage};

@@ -2,7 +2,7 @@
 use Rattle.std.proofs.Common.{◌≡◌, ℕ, Bool, true, false, not, ◌&&◌, cond, List, [], ◌∷◌, Ok, Err, refl, sym, subst}
 use Rattle.std.specs.List.{filter, list_all}
 use Rattle.std.specs.FinMap as fin
-use Rattle.dotenvy_base.specs.Environment.{Texts}
+use Rattle.dotenvy.specs.Environment.{Texts}
 use Rattle.env_layers.specs.declared.missing.Missing.{Missing}
 use Rattle.env_layers.specs.declared.missing.Missing.TheVariants.{Names, Memory}
 use Rattle.env_layers.specs.Missing.{absent_names, IsMemoryMissing, TellsNames, AnswersRequire}

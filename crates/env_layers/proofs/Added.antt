@@ -1,15 +1,15 @@
 -- What a call of `add` adds: a load that was accepted, one that was refused, or nothing for want of memory.
 use Rattle.std.proofs.Common.{◌≡◌, [], ◌∷◌, Option, Some, None, Result, Err, refl, sym, subst, inl, inr}
-use Rattle.dotenvy_format.specs.declared.dialect.Dialect.TheVariants.{V15}
-use Rattle.dotenvy_base.specs.declared.errors.Error.{Error}
-use Rattle.dotenvy_format.specs.Entries.{Fails, Memory}
-use Rattle.dotenvy_base.specs.Environment.{Texts}
-use Rattle.dotenvy_base.specs.Errors.{IsMemory}
-use Rattle.dotenvy_format.specs.Items.{LookUp}
-use Rattle.dotenvy_items.specs.Iter.{fresh}
-use Rattle.dotenvy_items.specs.LoadsLeft.{Rule, Leaves, LoadsLeft}
-use Rattle.dotenvy_items.specs.Meaning.{values_of, recalled_of}
-use Rattle.dotenvy_base.specs.Source.{Ahead}
+use Rattle.dotenvy.specs.Dialect.TheVariants.{V15}
+use Rattle.dotenvy.specs.Error.{Error}
+use Rattle.dotenvy.specs.Entries.{Fails, Memory}
+use Rattle.dotenvy.specs.Environment.{Texts}
+use Rattle.dotenvy.specs.Errors.{IsMemory}
+use Rattle.dotenvy.specs.Items.{LookUp}
+use Rattle.dotenvy.specs.Iter.{fresh}
+use Rattle.dotenvy.specs.LoadsLeft.{Rule, Leaves, LoadsLeft}
+use Rattle.dotenvy.specs.Meaning.{values_of, recalled_of}
+use Rattle.dotenvy.specs.Source.{Ahead}
 use Rattle.std.specs.Option.{option_or}
 use Rattle.env_layers.specs.declared.layers.Mode.{Mode}
 use Rattle.env_layers.specs.declared.layers.Mode.TheVariants.{Keep, Override}

@@ -29,18 +29,18 @@ use Rattle.std.specs.FinMap as fin
 use Rattle.std.specs.List.{FoldsTo}
 use Rattle.std.specs.Ordering.{nat_cmp}
 use Rattle.std.specs.Str.{chars, encode_utf8_all}
-use Rattle.dotenvy_format.specs.declared.dialect.Dialect.TheVariants.{V15}
-use Rattle.dotenvy_base.specs.declared.errors.Error.{Error}
-use Rattle.dotenvy_format.specs.Entries.{Failure, Entry}
-use Rattle.dotenvy_base.specs.Environment.{Texts}
-use Rattle.dotenvy_items.specs.Laws.{LoadsAllLeft, LoadsTakeAll}
-use Rattle.dotenvy_items.specs.Iteration.{CanRead}
-use Rattle.dotenvy_format.specs.Items.{no_values}
-use Rattle.dotenvy_items.specs.Iter.{fresh}
-use Rattle.dotenvy_format.specs.Laws.{HasOneReading}
-use Rattle.dotenvy_items.specs.LoadsLeft.{IsAnswer, Leaves}
-use Rattle.dotenvy_format.specs.Marks.{without_mark}
-use Rattle.dotenvy_items.specs.Meaning.{values_of, recalled_of}
+use Rattle.dotenvy.specs.Dialect.TheVariants.{V15}
+use Rattle.dotenvy.specs.Error.{Error}
+use Rattle.dotenvy.specs.Entries.{Failure, Entry}
+use Rattle.dotenvy.specs.Environment.{Texts}
+use Rattle.dotenvy.specs.Laws.{LoadsAllLeft, LoadsTakeAll}
+use Rattle.dotenvy.specs.Iteration.{CanRead}
+use Rattle.dotenvy.specs.Items.{no_values}
+use Rattle.dotenvy.specs.Iter.{fresh}
+use Rattle.dotenvy.specs.Laws.{HasOneReading}
+use Rattle.dotenvy.specs.LoadsLeft.{IsAnswer, Leaves}
+use Rattle.dotenvy.specs.Marks.{without_mark}
+use Rattle.dotenvy.specs.Meaning.{values_of, recalled_of}
 use Rattle.env_layers.specs.declared.layers.Mode.{Mode}
 use Rattle.env_layers.specs.declared.layers.Mode.TheVariants.{Keep, Override}
 use Rattle.env_layers.specs.Layers.{after_load, rule_of}

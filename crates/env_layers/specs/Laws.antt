@@ -1,16 +1,16 @@
 -- Laws of layers: what calls of `add` come to.
 use Rattle.std.specs.Prelude.{ℕ, ◌≡◌, ◌<◌, ◌^◌, Bool, List, length, filter, Option, Some, None, Result, Ok, is_ok}
 use Rattle.std.specs.List.{FoldsTo}
-use Rattle.dotenvy_format.specs.declared.dialect.Dialect.TheVariants.{V15}
-use Rattle.dotenvy_base.specs.declared.errors.Error.{Error}
-use Rattle.dotenvy_format.specs.Entries.{Entry, HasEntries}
-use Rattle.dotenvy_base.specs.Environment.{Texts}
-use Rattle.dotenvy_base.specs.Errors.{IsMemoryErr}
-use Rattle.dotenvy_format.specs.Items.{LookUp, no_values}
-use Rattle.dotenvy_format.specs.Marks.{without_mark}
-use Rattle.dotenvy_items.specs.Meaning.{values_of}
-use Rattle.dotenvy_format.specs.Run.{Loaded}
-use Rattle.dotenvy_base.specs.Source.{Ahead}
+use Rattle.dotenvy.specs.Dialect.TheVariants.{V15}
+use Rattle.dotenvy.specs.Error.{Error}
+use Rattle.dotenvy.specs.Entries.{Entry, HasEntries}
+use Rattle.dotenvy.specs.Environment.{Texts}
+use Rattle.dotenvy.specs.Errors.{IsMemoryErr}
+use Rattle.dotenvy.specs.Items.{LookUp, no_values}
+use Rattle.dotenvy.specs.Marks.{without_mark}
+use Rattle.dotenvy.specs.Meaning.{values_of}
+use Rattle.dotenvy.specs.Run.{Loaded}
+use Rattle.dotenvy.specs.Source.{Ahead}
 use Rattle.env_layers.specs.declared.layers.Mode.{Mode}
 use Rattle.env_layers.specs.Layers.{AddsLayer, rule_of}
 

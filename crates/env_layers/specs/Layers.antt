@@ -1,12 +1,12 @@
 -- What a layer does to an environment.
 use Rattle.std.specs.Prelude.{◌≡◌, Option, None, Result, Ok, Err}
-use Rattle.dotenvy_format.specs.declared.dialect.Dialect.TheVariants.{V15}
-use Rattle.dotenvy_base.specs.declared.errors.Error.{Error}
-use Rattle.dotenvy_base.specs.Environment.{Texts}
-use Rattle.dotenvy_items.specs.Iter.{fresh}
-use Rattle.dotenvy_format.specs.Loads.{load_result, override_result}
-use Rattle.dotenvy_items.specs.LoadsLeft.{Rule, LoadsLeft}
-use Rattle.dotenvy_base.specs.Source.{Ahead}
+use Rattle.dotenvy.specs.Dialect.TheVariants.{V15}
+use Rattle.dotenvy.specs.Error.{Error}
+use Rattle.dotenvy.specs.Environment.{Texts}
+use Rattle.dotenvy.specs.Iter.{fresh}
+use Rattle.dotenvy.specs.Loads.{load_result, override_result}
+use Rattle.dotenvy.specs.LoadsLeft.{Rule, LoadsLeft}
+use Rattle.dotenvy.specs.Source.{Ahead}
 use Rattle.env_layers.specs.declared.layers.Mode.{Mode}
 use Rattle.env_layers.specs.declared.layers.Mode.TheVariants.{Keep, Override}
 

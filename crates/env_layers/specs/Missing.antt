@@ -4,7 +4,7 @@ use denote.Ref.{Bor}
 use Rattle.std.specs.FinMap as fin
 use Rattle.std.specs.List.{join_by}
 use Rattle.std.specs.declared.string.String.{String}
-use Rattle.dotenvy_base.specs.Environment.{Texts}
+use Rattle.dotenvy.specs.Environment.{Texts}
 use Rattle.env_layers.specs.declared.missing.Missing.{Missing}
 use Rattle.env_layers.specs.declared.missing.Missing.TheVariants.{Names, Memory}
 

@@ -3,9 +3,9 @@ ghost use Rattle.std.specs.Prelude.{◌≡◌, IfOk, OnErr};
 ghost use Rattle.std.specs.FinMap.{contains_key};
 ghost use Rattle.std.specs.List.{list_all};
 ghost use Rattle.std.specs.Path.{path_bytes, path_buf_bytes};
-ghost use Rattle.dotenvy_base.specs.Environment.{KeepsNames};
-ghost use Rattle.dotenvy_base.specs.Find.{IsPathOf};
-ghost use Rattle.dotenvy_items.specs.LoadsLeft.{ChangesKeys};
+ghost use Rattle.dotenvy.specs.Environment.{KeepsNames};
+ghost use Rattle.dotenvy.specs.Find.{IsPathOf};
+ghost use Rattle.dotenvy.specs.LoadsLeft.{ChangesKeys};
 ghost use Rattle.env_layers.specs.Layers.{AddsLayer};
 ghost use Rattle.env_layers.specs.Missing.{absent_names, lent_texts, AnswersRequire, HoldsTexts};
 
@@ -46,7 +46,7 @@ pub struct Layers<A: Allocator = Global> {
 }
 
 impl<A: Allocator> Model for Layers<A> {
-    ghost use Rattle.dotenvy_base.specs.Environment.{Env, env_code};
+    ghost use Rattle.dotenvy.specs.Environment.{Env, env_code};
 
     ghost Value = { Env };
 

@@ -1,7 +1,7 @@
 -- What a reader or a writer of the tests tells of the calls that were made on it.
 use Rattle.std.specs.Prelude.{List, map, Option, option_map}
 use Rattle.std.specs.declared.vec.Vec.{Vec}
-use Rattle.dotenvy_base.specs.Calls.{Call}
+use Rattle.dotenvy.specs.Calls.{Call}
 use Rattle.support.specs.declared.telling.Note.{Note}
 
 -- the call that was noted

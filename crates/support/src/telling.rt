@@ -1,6 +1,6 @@
 //! Readers and writers that tell which calls were made on them, and what each answered.
 ghost use Rattle.std.specs.Prelude.{◌≡◌};
-ghost use Rattle.dotenvy_base.specs.Calls.{TellsCall, call_of};
+ghost use Rattle.dotenvy.specs.Calls.{TellsCall, call_of};
 ghost use Rattle.support.specs.Telling.{call_noted, calls_noted};
 
 use anyhow::Context;

@@ -1,4 +1,4 @@
-use Rattle.dotenvy_items.specs.Iter.{item_fuel}
+use Rattle.dotenvy.specs.Iter.{item_fuel}
 use Rattle.check_file.proofs.print_faults.Given as goal
 
 abbrev pub decreases-items : goal.decreases-items

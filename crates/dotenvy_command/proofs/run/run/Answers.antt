@@ -1,7 +1,7 @@
 use Rattle.std.proofs.Common.{rules, not, refl, sym, ap, subst, ◌∙◌, inl, inr}
 use Rattle.std.proofs.lemmas.Result.{err_from_is_err_and}
-use Rattle.dotenvy_items.specs.Iter.{fresh}
-use Rattle.dotenvy_items.specs.Listed.{Lists}
+use Rattle.dotenvy.specs.Iter.{fresh}
+use Rattle.dotenvy.specs.Listed.{Lists}
 use Rattle.dotenvy_command.specs.Answers.{texts}
 use Rattle.dotenvy_command.specs.Ends.{EndsAs}
 use Rattle.dotenvy_command.proofs.RunEnds.{asks_for, lists_both, not_refused, only_memory, says_usage}

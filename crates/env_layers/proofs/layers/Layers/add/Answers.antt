@@ -1,9 +1,9 @@
 use Rattle.std.proofs.Common.{None, Ok, Err, ap, subst, ◌∙◌}
 use Rattle.std.proofs.lemmas.Result.{err_from_is_err_and}
-use Rattle.dotenvy_format.specs.declared.dialect.Dialect.TheVariants.{V15}
-use Rattle.dotenvy_items.specs.Iter.{fresh}
-use Rattle.dotenvy_format.specs.Loads.{load_result, override_result}
-use Rattle.dotenvy_items.specs.LoadsLeft.{LoadsLeft}
+use Rattle.dotenvy.specs.Dialect.TheVariants.{V15}
+use Rattle.dotenvy.specs.Iter.{fresh}
+use Rattle.dotenvy.specs.Loads.{load_result, override_result}
+use Rattle.dotenvy.specs.LoadsLeft.{LoadsLeft}
 use Rattle.env_layers.specs.Layers.{rule_of}
 use Rattle.env_layers.proofs.Added.{adds_by, adds_none}
 use Rattle.env_layers.proofs.layers.Layers.add.Goals.{
