@@ -39,10 +39,8 @@ pub record HasNoStatement (line text : List ℕ) (index : ℕ) : Type 0 where
   pub line_is : text ≡ line
   pub index_is : index ≡ byte_len (take place (trimmed line))
 
--- what is assigned is no value: this is what is assigned, and the index after the longest front that begins one
-pub record HasNoValue (dialect : Dialect) (line text : List ℕ) (index : ℕ) : Type 0 where
-  pub key : List ℕ
-  pub statement : IsStatement (trimmed line) key text
+-- what is assigned is no value; the index is that of its longest front that begins one
+pub record HasNoValue (dialect : Dialect) (text : List ℕ) (index : ℕ) : Type 0 where
   pub assigned : IsTrue (not (is_empty_or_comment text))
   pub none : (pieces : List Piece) → ¬ (IsValue dialect text pieces)
   pub place : ℕ
@@ -57,4 +55,5 @@ Says dialect line (Pair key pieces) =
     × (rest : List ℕ) × IsStatement (trimmed line) key rest × Assigns dialect rest pieces
 Says dialect line (Fault text index) =
     IsTrue (not (is_nothing (trimmed line)))
-    × (HasNoStatement line text index ⊎ HasNoValue dialect line text index)
+    × (HasNoStatement line text index
+    ⊎ ((key : List ℕ) × IsStatement (trimmed line) key text × HasNoValue dialect text index))

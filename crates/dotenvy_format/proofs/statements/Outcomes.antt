@@ -84,15 +84,17 @@ value_says dialect line key rest some is h (Some pieces) e =
     (some, rest, is, inr (ap not h, value-read dialect rest pieces e))
 value_says dialect line key rest some is h None e = (
   some,
-  inr (record {
-    key = key;
-    statement = is;
-    assigned = ap not h;
-    none = λ pieces v. (let f : None ≡ Some pieces = sym e ∙ read-value dialect rest pieces v in cc);
-    place = reader.value_reach dialect rest (reader.base unquoted);
-    is_place = value_place dialect rest;
-    index_is = refl;
-  }),
+  inr (
+    key,
+    is,
+    record {
+      assigned = ap not h;
+      none = λ pieces v. (let f : None ≡ Some pieces = sym e ∙ read-value dialect rest pieces v in cc);
+      place = reader.value_reach dialect rest (reader.base unquoted);
+      is_place = value_place dialect rest;
+      index_is = refl;
+    },
+  ),
 )
 
 -- a statement says its key and no pieces where nothing or a comment is assigned, else what its value gives
@@ -156,13 +158,10 @@ same_assigned dialect rest p q (inr a) (inl b) = absurd (clash (is_empty_or_comm
 same_assigned dialect rest p q (inr a) (inr b) = one_list_of_pieces dialect rest p q a.1 b.1
 
 -- where a line's statement assigns pieces, the line has no fault in its value
-no_fault_in_value : (dialect : Dialect) (u key rest key' text : List ℕ) (index : ℕ) (p : List Piece) (line : List ℕ) →
-    u ≡ drop_trailing_whitespace line → IsStatement u key rest → Assigns dialect rest p →
-    HasNoValue dialect line text index → ⊥
-no_fault_in_value dialect u key rest key' text index p line e is assigns fault =
-    let s =
-    one_statement u key rest fault.key text is
-    (subst (λ v. IsStatement v fault.key text) (sym e) fault.statement) in
+no_fault_in_value : (dialect : Dialect) (u key rest key' text : List ℕ) (index : ℕ) (p : List Piece) →
+    IsStatement u key rest → Assigns dialect rest p → IsStatement u key' text → HasNoValue dialect text index → ⊥
+no_fault_in_value dialect u key rest key' text index p is assigns other fault =
+    let s = one_statement u key rest key' text is other in
     ⊎_elim (λ a. clash (is_empty_or_comment text) (ap is_empty_or_comment (sym s.1) ∙ a.0) fault.assigned)
     (λ a. fault.none p (subst (λ v. IsValue dialect v p) s.1 a.1)) assigns
 
@@ -182,24 +181,24 @@ one_outcome dialect line (Pair key p) (Pair key' q) x y =
     ∙ ap (Pair key') (same_assigned dialect y.1 p q (subst (λ r. Assigns dialect r p) s.1 x.3) y.3)
 one_outcome dialect line (Pair key p) (Fault text index) x (some, inl f) = absurd (f.none key x.1 x.2)
 one_outcome dialect line (Pair key p) (Fault text index) x (some, inr f) =
-    absurd (no_fault_in_value dialect (drop_trailing_whitespace line) key x.1 f.key text index p line refl x.2 x.3 f)
+    absurd (no_fault_in_value dialect (drop_trailing_whitespace line) key x.1 f.0 text index p x.2 x.3 f.1 f.2)
 one_outcome dialect line (Fault text index) Nothing x y =
     absurd (clash (is_nothing (drop_trailing_whitespace line)) y x.0)
 one_outcome dialect line (Fault text index) (Pair key p) (some, inl f) y = absurd (f.none key y.1 y.2)
 one_outcome dialect line (Fault text index) (Pair key p) (some, inr f) y =
-    absurd (no_fault_in_value dialect (drop_trailing_whitespace line) key y.1 f.key text index p line refl y.2 y.3 f)
+    absurd (no_fault_in_value dialect (drop_trailing_whitespace line) key y.1 f.0 text index p y.2 y.3 f.1 f.2)
 one_outcome dialect line (Fault s i) (Fault t j) (a, inl f) (b, inl g) =
     let e =
     one_place BeginsStatement statement_fronts (drop_trailing_whitespace line) f.place g.place f.is_place
     g.is_place in
     ap (λ u. Fault u i) (f.line_is ∙ sym g.line_is)
     ∙ ap (Fault t) (f.index_is ∙ ap (λ n. byte_len (take n (drop_trailing_whitespace line))) e ∙ sym g.index_is)
-one_outcome dialect line (Fault s i) (Fault t j) (a, inl f) (b, inr g) = absurd (f.none g.key t g.statement)
-one_outcome dialect line (Fault s i) (Fault t j) (a, inr f) (b, inl g) = absurd (g.none f.key s f.statement)
+one_outcome dialect line (Fault s i) (Fault t j) (a, inl f) (b, inr g) = absurd (f.none g.0 t g.1)
+one_outcome dialect line (Fault s i) (Fault t j) (a, inr f) (b, inl g) = absurd (g.none f.0 s f.1)
 one_outcome dialect line (Fault s i) (Fault t j) (a, inr f) (b, inr g) =
-    let e = one_statement (drop_trailing_whitespace line) f.key s g.key t f.statement g.statement in
+    let e = one_statement (drop_trailing_whitespace line) f.0 s g.0 t f.1 g.1 in
     let h =
-    one_place (BeginsValue dialect) (value_fronts dialect) t f.place g.place
-    (subst (λ u. IsPlace (BeginsValue dialect) u f.place) e.1 f.is_place) g.is_place in
+    one_place (BeginsValue dialect) (value_fronts dialect) t f.2.place g.2.place
+    (subst (λ u. IsPlace (BeginsValue dialect) u f.2.place) e.1 f.2.is_place) g.2.is_place in
     ap (λ u. Fault u i) e.1
-    ∙ ap (Fault t) (f.index_is ∙ ap (λ u. value_index u f.place) e.1 ∙ ap (value_index t) h ∙ sym g.index_is)
+    ∙ ap (Fault t) (f.2.index_is ∙ ap (λ u. value_index u f.2.place) e.1 ∙ ap (value_index t) h ∙ sym g.2.index_is)
