@@ -19,7 +19,7 @@ use Rattle.std.specs.Option.{option_or}
 use Rattle.dotenvy_format.specs.Value.{Piece, Text, Name}
 use Rattle.dotenvy_format.specs.Entries.{Failure, Entry, Declares, Fails}
 
--- what some names stand for
+-- what names stand for: the text of each name that has one
 abbrev pub LookUp : Type 0
 LookUp = List ℕ → Option (List ℕ)
 
@@ -27,15 +27,15 @@ LookUp = List ℕ → Option (List ℕ)
 abbrev pub no_values : LookUp
 no_values name = None
 
--- what a name stands for in a value: an absent one for the empty text
+-- what a name stands for in a value: its text, or the empty text where it has none
 abbrev pub text_of : LookUp → List ℕ → List ℕ
 text_of look_up name = unwrap_or (look_up name) []
 
--- the pieces joined, each name as what it stands for; an absent name stands for the empty text
+-- the pieces joined, with each name replaced by what it stands for
 abbrev pub meaning : LookUp → List Piece → List ℕ
-meaning look [] = []
-meaning look (Text text ∷ pieces) = text ++ meaning look pieces
-meaning look (Name name ∷ pieces) = unwrap_or (look name) [] ++ meaning look pieces
+meaning look_up [] = []
+meaning look_up (Text text ∷ pieces) = text ++ meaning look_up pieces
+meaning look_up (Name name ∷ pieces) = text_of look_up name ++ meaning look_up pieces
 
 -- the value of the first pair with this key
 abbrev pub first_value : List (List ℕ × List ℕ) → LookUp
@@ -43,13 +43,13 @@ first_value [] name = None
 first_value ((key, value) ∷ pairs) name =
     if bytes_eq key name then Some value else first_value pairs name
 
--- what the first has for a name, else what the second has
+-- the text that the first look-up has for a name, or else the text that the second has
 abbrev pub or_else : LookUp → LookUp → LookUp
 or_else first second name = option_or (first name) (second name)
 
 -- the look-up with one name changed
 abbrev pub with_value : LookUp → List ℕ → List ℕ → LookUp
-with_value look key value name = if bytes_eq key name then Some value else look name
+with_value look_up key value name = if bytes_eq key name then Some value else look_up name
 
 -- the items of entries; a name means the environment's value, else that of the last earlier declaration
 abbrev pub items_from : LookUp → LookUp → List Entry → List (Result (List ℕ × List ℕ) Failure)

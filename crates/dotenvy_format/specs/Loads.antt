@@ -34,17 +34,17 @@ last_value [] name = None
 last_value ((key, value) ∷ pairs) name =
     option_or (last_value pairs name) (if bytes_eq key name then Some value else None)
 
--- the declarations up to the stop, after earlier ones: `look earlier` says what a name means, and `matters earlier key` whether a NUL would be a fault
+-- the declarations up to the stop, after earlier ones: `look_up earlier` says what a name means, and `matters earlier key` whether a NUL would be a fault
 abbrev pub declared_from : (List (List ℕ × List ℕ) → LookUp) →
     (List (List ℕ × List ℕ) → List ℕ → Bool) → List (List ℕ × List ℕ) → List Entry → Declared
-declared_from look matters earlier [] = record { pairs = earlier; stop = Ok tt }
-declared_from look matters earlier (Fails failure ∷ entries) =
+declared_from look_up matters earlier [] = record { pairs = earlier; stop = Ok tt }
+declared_from look_up matters earlier (Fails failure ∷ entries) =
     record { pairs = earlier; stop = Err failure }
-declared_from look matters earlier (Declares key pieces ∷ entries) =
-    let value = meaning (look earlier) pieces in
+declared_from look_up matters earlier (Declares key pieces ∷ entries) =
+    let value = meaning (look_up earlier) pieces in
     if matters earlier key && has_nul value
     then record { pairs = earlier; stop = Err (Nul key) }
-    else declared_from look matters (earlier ++ (key, value) ∷ []) entries
+    else declared_from look_up matters (earlier ++ (key, value) ∷ []) entries
 
 -- under `load` a name means the environment's value, else that of the first earlier declaration, else what is remembered
 abbrev pub load_look_up : LookUp → LookUp → List (List ℕ × List ℕ) → LookUp

@@ -30,7 +30,6 @@ use Rattle.std.proofs.Common.{
   length,
   length-append,
   append_assoc,
-  unwrap_or,
 }
 use Rattle.std.specs.Prelude.{◌==◌, if◌then◌else◌}
 use Rattle.std.specs.List.{list_all}
@@ -81,7 +80,7 @@ use Rattle.dotenvy_format.specs.Value.{
   is_left_by_name,
   escape_meaning,
 }
-use Rattle.dotenvy_format.specs.Items.{LookUp, meaning}
+use Rattle.dotenvy_format.specs.Items.{LookUp, meaning, text_of}
 use Rattle.dotenvy_format.specs.inside.ReadValue.{
   ValueMode,
   base,
@@ -326,22 +325,21 @@ braced_open dialect q name h =
     (collected_run dialect (bracing q) (λ c. not (c == right_brace)) (collects_braced dialect q) [] name [] h)
     (record { front = []; spelled = refl; reads = refl; counts = refl }))
 
--- The bytes of what a name stands for, and of a character after it.
--- the bytes of what a name stands for, with none behind them, are those of the name's meaning
+-- the bytes of what a name stands for, with none after them, are those of the name's meaning
 name_bytes : (look_up : LookUp) (name follows : List ℕ) → follows ≡ [] →
-    encode_utf8_all (unwrap_or (look_up name) []) ++ follows ≡ encode_utf8_all (meaning look_up (Name name ∷ []))
+    encode_utf8_all (text_of look_up name) ++ follows ≡ encode_utf8_all (meaning look_up (Name name ∷ []))
 name_bytes look_up name follows h =
-    ap (λ t. encode_utf8_all (unwrap_or (look_up name) []) ++ t) h
-    ∙ append-nil (encode_utf8_all (unwrap_or (look_up name) []))
-    ∙ ap encode_utf8_all (sym (append-nil (unwrap_or (look_up name) [])))
+    ap (λ t. encode_utf8_all (text_of look_up name) ++ t) h
+    ∙ append-nil (encode_utf8_all (text_of look_up name))
+    ∙ ap encode_utf8_all (sym (append-nil (text_of look_up name)))
 
 -- what a name stands for, then the bytes of a character, is the meaning of the name and of that character
 name_and_bytes : (look_up : LookUp) (name follows : List ℕ) (c : ℕ) → follows ≡ encode_utf8 c →
-    encode_utf8_all (unwrap_or (look_up name) []) ++ follows
+    encode_utf8_all (text_of look_up name) ++ follows
     ≡ encode_utf8_all (meaning look_up (Name name ∷ Text (c ∷ []) ∷ []))
 name_and_bytes look_up name follows c h =
-    ap (λ t. encode_utf8_all (unwrap_or (look_up name) []) ++ t) (h ∙ sym (append-nil (encode_utf8 c)))
-    ∙ sym (encodes-append (unwrap_or (look_up name) []) (c ∷ []))
+    ap (λ t. encode_utf8_all (text_of look_up name) ++ t) (h ∙ sym (append-nil (encode_utf8 c)))
+    ∙ sym (encodes-append (text_of look_up name) (c ∷ []))
 
 -- in braces, a text cut at the first `}` gives the name before it, and goes on behind the brace
 pub gives_braced : (dialect : Dialect) (q : CodeQuoting) (text : List ℕ) (name follows rest : Bor (List ℕ)) →

@@ -117,9 +117,9 @@ pieces_of_parts (c ∷ text) =
     ∙ ap (λ ps. Text (c ∷ []) ∷ ps) (pieces_of_parts text)
 
 -- the characters of a text, each as a piece of its own, mean the text, whatever names stand for
-pub meaning-characters : (look : LookUp) (text : List ℕ) → meaning look (character_pieces text) ≡ text
-meaning-characters look [] = refl
-meaning-characters look (c ∷ text) = ap (λ cs. c ∷ cs) (meaning-characters look text)
+pub meaning-characters : (look_up : LookUp) (text : List ℕ) → meaning look_up (character_pieces text) ≡ text
+meaning-characters look_up [] = refl
+meaning-characters look_up (c ∷ text) = ap (λ cs. c ∷ cs) (meaning-characters look_up text)
 
 -- a text as a value is written: its written characters between double quotes
 abbrev pub quoted_text_of : List ℕ → List ℕ

@@ -17,7 +17,6 @@ use Rattle.std.specs.Prelude.{
   Some,
   None,
   MatchOption,
-  unwrap_or,
   if◌then◌else◌,
 }
 use denote.Ref.{Bor}
@@ -42,7 +41,7 @@ use Rattle.dotenvy_format.specs.declared.value.NextPiece.TheVariants.{Piece as G
 use Rattle.dotenvy_format.specs.Characters.{single_quote, double_quote, dollar, backslash, is_space_or_tab}
 use Rattle.dotenvy_format.specs.Value.{Quoting, unquoted, double_quoted, Piece, is_escape, escape_meaning}
 use Rattle.dotenvy_format.specs.inside.Slices.{quoting_of}
-use Rattle.dotenvy_format.specs.Items.{LookUp, meaning}
+use Rattle.dotenvy_format.specs.Items.{LookUp, meaning, text_of}
 use Rattle.dotenvy_format.specs.inside.ReadValue.{ValueMode, base, given, read_value, value_reach}
 
 -- a double quote changes where the code stands
@@ -78,7 +77,7 @@ Escapes c result =
 abbrev pub piece_bytes : LookUp → CodePiece → List ℕ
 piece_bytes look_up (Text text) = text.now
 piece_bytes look_up (Name name after) =
-    encode_utf8_all (unwrap_or (look_up (chars name.now)) []) ++ after.now
+    encode_utf8_all (text_of look_up (chars name.now)) ++ after.now
 
 -- reading the text from one mode gives the pieces, and goes on with the rest from another
 pub record IsReadTo (dialect : Dialect) (m : ValueMode) (text : List ℕ) (pieces : List Piece)
