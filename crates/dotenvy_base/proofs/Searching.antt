@@ -60,7 +60,7 @@ use Rattle.dotenvy_base.specs.Search.{
   search_answer,
   Searches,
 }
-use Rattle.dotenvy_base.specs.Find.{Calls, AsksInTurn, AnswersSearch, Finds, IsPathOf}
+use Rattle.dotenvy_base.specs.Find.{LookStep, AsksInTurn, AnswersSearch, Finds, IsPathOf}
 use Rattle.dotenvy_base.proofs.Basics.{if_true, not_false}
 use Rattle.dotenvy_base.proofs.SearchOnce.{ascent_exists, search_exists, parent_shorter}
 
@@ -132,16 +132,16 @@ searches_ended directory name look h = let a = ascent_exists directory in
     record { directories = directory ∷ a.0; ascends = a.1; are_asked = (refl, inl (h, refl)); answers = refl }
 
 -- no call was made yet
-no_calls : {F : Type 0} (step : Calls F) (look : F) → AsksInTurn step look [] look
+no_calls : {F : Type 0} (step : LookStep F) (look : F) → AsksInTurn step look [] look
 no_calls step look = record { calls = []; are_asked = refl; steps = refl }
 
 -- one call was made
-one_call : {F : Type 0} (step : Calls F) (before after : F) (path : Path) (look : Look) (asked : List ℕ) →
+one_call : {F : Type 0} (step : LookStep F) (before after : F) (path : Path) (look : Look) (asked : List ℕ) →
     step before path look after → path_bytes path ≡ asked → AsksInTurn step before ((asked, look) ∷ []) after
 one_call step before after path look asked call p =
     record { calls = (path, look) ∷ []; are_asked = ap (λ q. (q, look) ∷ []) (sym p); steps = (after, call, refl) }
 
-module _ {F : Type 0} (step : Calls F) (start : F) (directory name : List ℕ) where
+module _ {F : Type 0} (step : LookStep F) (start : F) (directory name : List ℕ) where
   -- so far the search was asked: what is asked from here on completes it
   pub record Asking (above : Option (List ℕ)) (look : F) : Type 0 where
     pub completes : (asked later : List (List ℕ × Look)) (answer : Answer) (end : F) →
@@ -263,7 +263,7 @@ not_cut path answer (inl memory) = absurd memory
 not_cut path answer (inr x) = x.1
 
 -- what `find` answers is the path of the name in some directory
-pub finds_a_path : {F A : Type 0} (step : Calls F) (before after : F) (directory name : List ℕ) (path : PathBuf A) →
+pub finds_a_path : {F A : Type 0} (step : LookStep F) (before after : F) (directory name : List ℕ) (path : PathBuf A) →
     Finds step before after directory name (Ok path) → IsPathOf name (path_buf_bytes path)
 finds_a_path {A} step before after directory name path finds =
     at finds.answer (not_cut path finds.answer finds.outcome) finds.searches

@@ -15,11 +15,11 @@ abbrev pub seen : Path × Look → List ℕ × Look
 seen call = (path_bytes call.0, call.1)
 
 -- the calls that a look may be: from a state, of a path, with an answer, to a state
-abbrev pub Calls : Type 0 → Type 1
-Calls F = F → Path → Look → F → Type 0
+abbrev pub LookStep : Type 0 → Type 1
+LookStep F = F → Path → Look → F → Type 0
 
 -- these candidates were asked for: each by one call of the look, which began where the call before had left it
-pub record AsksInTurn {F : Type 0} (step : Calls F) (before : F) (asked : List (List ℕ × Look))
+pub record AsksInTurn {F : Type 0} (step : LookStep F) (before : F) (asked : List (List ℕ × Look))
     (after : F)
     : Type 0 where
   pub calls : List (Path × Look)
@@ -34,7 +34,7 @@ AnswersSearch FoundNowhere result = IsErrAnd result IsNotFound
 
 -- the call asks for the candidates of a search in turn and for no other, and gives its answer; refused memory may
 -- cut it short
-pub record Finds {F A : Type 0} (step : Calls F) (before after : F) (directory name : List ℕ)
+pub record Finds {F A : Type 0} (step : LookStep F) (before after : F) (directory name : List ℕ)
     (result : Result (PathBuf A) (Error A)) : Type 0 where
   pub asked : List (List ℕ × Look)
   pub later : List (List ℕ × Look)
