@@ -184,15 +184,7 @@ pub value_fault : (dialect : Dialect) (look_up : LookUp) (line key rest : List â
 value_fault dialect look_up line key rest fault some parsed is =
     subst (Î» t. Says dialect line (SaysFault t fault.index)) (sym is.0) (
       ap not some,
-      inr (record {
-        key = key;
-        statement = parse-statement (drop_trailing_whitespace line) key rest parsed;
-        assigned = is.1.assigned;
-        none = is.1.none;
-        place = is.1.place;
-        is_place = is.1.is_place;
-        index_is = is.1.index_is;
-      }),
+      inr (key, parse-statement (drop_trailing_whitespace line) key rest parsed, is.1),
     )
 
 -- what is left at a fault in a statement is the back of its text

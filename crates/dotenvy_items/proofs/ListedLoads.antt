@@ -70,8 +70,8 @@ empty_recalled =
 -- a load into an empty environment, where nothing is remembered, is one over no values
 empty_rule : (read : List Entry) →
     load_result (values_of fin.empty) (recalled_of fin.empty) read ≡ load_result no_values no_values read
-empty_rule read = ap (λ look. load_result look (recalled_of fin.empty) read) empty_values
-    ∙ ap (λ look. load_result no_values look read) empty_recalled
+empty_rule read = ap (λ look_up. load_result look_up (recalled_of fin.empty) read) empty_values
+    ∙ ap (λ look_up. load_result no_values look_up read) empty_recalled
 
 -- a value that is a text, if there is one, is spelled by the bytes of its own characters
 text_again : (o : Option (List ℕ)) → ((text : List ℕ) → o ≡ Some text → IsUtf8 text) →
@@ -90,9 +90,9 @@ key_from_bytes name h = at (is_key (encode_utf8_all name)) refl
         absurd (true≢false (sym e ∙ sym (ap is_key same) ∙ h))
 
 -- a map of texts under keys alone holds what it has by characters
-pub holds_loaded : (names : Texts) (look : LookUp) → AreTexts names → ChangesKeys fin.empty names →
-    ((name : List ℕ) → values_of names name ≡ look name) → HoldsLoaded names look
-holds_loaded names look are keys values = λ name. at name (is_key name) refl
+pub holds_loaded : (names : Texts) (look_up : LookUp) → AreTexts names → ChangesKeys fin.empty names →
+    ((name : List ℕ) → values_of names name ≡ look_up name) → HoldsLoaded names look_up
+holds_loaded names look_up are keys values = λ name. at name (is_key name) refl
     ∙ ap (option_map encode_utf8_all) (values name)
   where
     absent : (name : List ℕ) → is_key name ≡ false → fin.get names name ≡ None
@@ -108,19 +108,19 @@ holds_loaded names look are keys values = λ name. at name (is_key name) refl
 
 -- after a load whose failure the error says, a listing answers it and leaves the sink as it was
 failed_after : {A W : Type 0} (held : W → Option (List ℕ)) (last_fault : W → Option ErrorKind) (calls : W →
-    Option (List Call)) (old : W) (look : LookUp) (answer : Result (Unit {0}) Failure) (e : Error A) →
-    IsAnswer answer (Err e) → ListsValues held last_fault calls old old look answer (Err e)
-failed_after held last_fault calls old look (Ok done) e is = absurd is
-failed_after held last_fault calls old look (Err failure) e is = (is, refl)
+    Option (List Call)) (old : W) (look_up : LookUp) (answer : Result (Unit {0}) Failure) (e : Error A) →
+    IsAnswer answer (Err e) → ListsValues held last_fault calls old old look_up answer (Err e)
+failed_after held last_fault calls old look_up (Ok done) e is = absurd is
+failed_after held last_fault calls old look_up (Err failure) e is = (is, refl)
 
 -- after a load that did not fail and left these values, a listing is the writing of their written form
 listed_after : {A W : Type 0} (held : W → Option (List ℕ)) (last_fault : W → Option ErrorKind) (calls : W →
-    Option (List Call)) (old new : W) (look : LookUp) (stop : Result (Unit {0}) Failure) (names : Texts)
-    (answer : Result (Unit {0}) (Error A)) → IsAnswer {A = A} stop (Ok tt) → HoldsLoaded names look →
+    Option (List Call)) (old new : W) (look_up : LookUp) (stop : Result (Unit {0}) Failure) (names : Texts)
+    (answer : Result (Unit {0}) (Error A)) → IsAnswer {A = A} stop (Ok tt) → HoldsLoaded names look_up →
     Writes held last_fault calls old new (written_bytes (pairs_of names)) answer →
-    ListsValues held last_fault calls old new look stop answer
-listed_after held last_fault calls old new look (Ok done) names answer is holds writes = (names, holds, writes)
-listed_after held last_fault calls old new look (Err failure) names answer is holds writes = absurd is
+    ListsValues held last_fault calls old new look_up stop answer
+listed_after held last_fault calls old new look_up (Ok done) names answer is holds writes = (names, holds, writes)
+listed_after held last_fault calls old new look_up (Err failure) names answer is holds writes = absurd is
 
 -- after a load that answered so and left what its rule leaves, a listing is that of what the rule leaves
 listed_loaded : {A W : Type 0} (held : W → Option (List ℕ)) (last_fault : W → Option ErrorKind) (calls : W →

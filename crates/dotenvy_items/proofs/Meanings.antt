@@ -42,13 +42,14 @@ use Rattle.dotenvy_items.specs.inside.ValuePasses.{saturated, Measures, HasRoom}
 use Rattle.dotenvy_format.proofs.values.Values.{given-given}
 
 -- two rows of pieces mean what the first means, and then what the second means
-pub meaning-append : (look : LookUp) (p q : List Piece) → meaning look (p ++ q) ≡ meaning look p ++ meaning look q
-meaning-append look [] q = refl
-meaning-append look (Text text ∷ p) q =
-    ap (λ t. text ++ t) (meaning-append look p q) ∙ sym (append_assoc text (meaning look p) (meaning look q))
-meaning-append look (Name name ∷ p) q =
-    ap (λ t. unwrap_or (look name) [] ++ t) (meaning-append look p q)
-    ∙ sym (append_assoc (unwrap_or (look name) []) (meaning look p) (meaning look q))
+pub meaning-append : (look_up : LookUp) (p q : List Piece) →
+    meaning look_up (p ++ q) ≡ meaning look_up p ++ meaning look_up q
+meaning-append look_up [] q = refl
+meaning-append look_up (Text text ∷ p) q =
+    ap (λ t. text ++ t) (meaning-append look_up p q) ∙ sym (append_assoc text (meaning look_up p) (meaning look_up q))
+meaning-append look_up (Name name ∷ p) q =
+    ap (λ t. unwrap_or (look_up name) [] ++ t) (meaning-append look_up p q)
+    ∙ sym (append_assoc (unwrap_or (look_up name) []) (meaning look_up p) (meaning look_up q))
 
 -- the text that is found by bytes is the one that is found by characters
 pub looked_up : (names : Texts) (remembered : Remembered) (name text : List ℕ) → IsUtf8 name → IsUtf8 text →

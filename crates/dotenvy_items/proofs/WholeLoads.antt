@@ -60,19 +60,19 @@ use Rattle.dotenvy_format.proofs.loads.LoadsTwice as twice
 use Rattle.dotenvy_items.proofs.Iterations.{can_read_fresh}
 
 -- declarations stop at this failure, or before it, and then what follows does not count
-stops : (look : List (List ℕ × List ℕ) → LookUp) (matters : List (List ℕ × List ℕ) → List ℕ → Bool)
+stops : (look_up : List (List ℕ × List ℕ) → LookUp) (matters : List (List ℕ × List ℕ) → List ℕ → Bool)
     (earlier : List (List ℕ × List ℕ)) (front others : List Entry) (failure : Failure) →
-    ((declared_from look matters earlier (front ++ Fails failure ∷ [])).stop ≡ Err failure)
-    ⊎ (declared_from look matters earlier (front ++ Fails failure ∷ [])
-    ≡ declared_from look matters earlier (front ++ others))
-stops look matters earlier [] others failure = inl refl
-stops look matters earlier (Fails found ∷ front) others failure = inr refl
-stops look matters earlier (Declares key pieces ∷ front) others failure =
-    let value = meaning (look earlier) pieces in
+    ((declared_from look_up matters earlier (front ++ Fails failure ∷ [])).stop ≡ Err failure)
+    ⊎ (declared_from look_up matters earlier (front ++ Fails failure ∷ [])
+    ≡ declared_from look_up matters earlier (front ++ others))
+stops look_up matters earlier [] others failure = inl refl
+stops look_up matters earlier (Fails found ∷ front) others failure = inr refl
+stops look_up matters earlier (Declares key pieces ∷ front) others failure =
+    let value = meaning (look_up earlier) pieces in
     at (matters earlier key && has_nul value)
-    (declared_from look matters (earlier ++ (key, value) ∷ []) (front ++ Fails failure ∷ []))
-    (declared_from look matters (earlier ++ (key, value) ∷ []) (front ++ others))
-    (stops look matters (earlier ++ (key, value) ∷ []) front others failure)
+    (declared_from look_up matters (earlier ++ (key, value) ∷ []) (front ++ Fails failure ∷ []))
+    (declared_from look_up matters (earlier ++ (key, value) ∷ []) (front ++ others))
+    (stops look_up matters (earlier ++ (key, value) ∷ []) front others failure)
   where
     at : (b : Bool) (d e : Declared) → (d.stop ≡ Err failure) ⊎ (d ≡ e) →
         (Declared.stop (cond b (record { pairs = earlier; stop = Err (Nul key) }) d) ≡ Err failure)

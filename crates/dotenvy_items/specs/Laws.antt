@@ -110,18 +110,18 @@ LoadsAgain A =
 
 -- a map holds the values of this look-up, by their bytes, and no others
 abbrev pub HoldsLoaded : Texts → LookUp → Type 0
-HoldsLoaded names look = (name : List ℕ) →
-    fin.get names name ≡ option_map encode_utf8_all (look name)
+HoldsLoaded names look_up = (name : List ℕ) →
+    fin.get names name ≡ option_map encode_utf8_all (look_up name)
 
 -- after a load that leaves these values: its failure is answered, and the sink is as it was; else
 -- the written form of the pairs is sent
 abbrev pub ListsValues : {A W : Type 0} → (W → Option (List ℕ)) → (W → Option ErrorKind) →
     (W → Option (List Call)) → W → W → LookUp → Result (Unit {0}) Failure →
     Result (Unit {0}) (Error A) → Type 0
-ListsValues held last_fault calls old new look (Err failure) answer =
+ListsValues held last_fault calls old new look_up (Err failure) answer =
     IsAnswer (Err failure) answer × (new ≡ old)
-ListsValues held last_fault calls old new look (Ok done) answer =
-    (names : Texts) × HoldsLoaded names look
+ListsValues held last_fault calls old new look_up (Ok done) answer =
+    (names : Texts) × HoldsLoaded names look_up
     × Writes held last_fault calls old new (written_bytes (pairs_of names)) answer
 
 -- what a load leaves and answers is listed

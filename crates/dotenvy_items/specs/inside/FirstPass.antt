@@ -27,8 +27,7 @@ use Rattle.dotenvy_items.specs.declared.parse.Copies.{Copies}
 use Rattle.dotenvy_format.specs.Characters.{byte_len, is_empty_or_comment}
 use Rattle.dotenvy_format.specs.Statement.{IsStatement}
 use Rattle.dotenvy_format.specs.Value.{Piece, IsValue}
-use Rattle.dotenvy_format.specs.Places.{BeginsValue, IsPlace}
-use Rattle.dotenvy_format.specs.Outcome.{Nothing, Fault as SaysFault, Says, trimmed, is_nothing, value_index}
+use Rattle.dotenvy_format.specs.Outcome.{Nothing, Fault as SaysFault, Says, trimmed, is_nothing, HasNoValue}
 use Rattle.dotenvy_format.specs.Items.{LookUp, meaning}
 use Rattle.dotenvy_items.specs.inside.ValuePasses.{saturated}
 
@@ -39,14 +38,6 @@ IsAssigned dialect look_up rest pieces (Some value) =
     IsTrue (not (is_empty_or_comment rest)) × (chars value.text.now ≡ rest)
     × IsValue dialect rest pieces × (value.len ≡ saturated (byte_len (meaning look_up pieces)))
 
--- what is assigned begins no value past this index
-pub record StopsAtIndex (dialect : Dialect) (rest : List ℕ) (index : ℕ) : Type 0 where
-  pub assigned : IsTrue (not (is_empty_or_comment rest))
-  pub none : (pieces : List Piece) → ¬ (IsValue dialect rest pieces)
-  pub place : ℕ
-  pub is_place : IsPlace (BeginsValue dialect) rest place
-  pub index_is : index ≡ value_index rest place
-
 -- the declaration of what is assigned to this key, or the fault in it
 abbrev pub ScansAssigned : (dialect : Dialect) → LookUp → List ℕ → List ℕ →
     Result Declaration Fault → Type 0
@@ -54,7 +45,7 @@ ScansAssigned dialect look_up key rest (Ok declaration) =
     (chars declaration.key.now ≡ key) × (pieces : List Piece)
     × IsAssigned dialect look_up rest pieces declaration.value
 ScansAssigned dialect look_up key rest (Err fault) =
-    (chars fault.text.now ≡ rest) × StopsAtIndex dialect rest fault.index
+    (chars fault.text.now ≡ rest) × HasNoValue dialect rest fault.index
 
 -- the line declares this
 pub record IsDeclared (dialect : Dialect) (look_up : LookUp) (line : List ℕ)
