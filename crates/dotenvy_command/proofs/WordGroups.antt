@@ -36,7 +36,7 @@ use Rattle.dotenvy_command.specs.Answers.{texts, SaysAnswer, AnswersWords}
 use Rattle.dotenvy_command.specs.Failures.{IsMemoryFailure}
 use Rattle.dotenvy_command.specs.Words as definition
 use Rattle.dotenvy_command.proofs.WordsOnce.{usage_exists}
-use Rattle.dotenvy_command.specs.FirstGroup.{AreCommand, GroupBeginsWith, IsUnknown}
+use Rattle.dotenvy_command.specs.inside.FirstGroup.{AreCommand, GroupBeginsWith, IsUnknown}
 use Rattle.dotenvy_command.specs.Words.{
   Form,
   Group,

@@ -25,7 +25,7 @@ use denote.Ref.{Bor}
 use Rattle.dotenvy.specs.Characters.{equals_sign}
 use Rattle.dotenvy_command.specs.declared.command_line.Group.TheVariants as found
 use Rattle.dotenvy_command.specs.Words.{IsGroup, joined_file, assigned_file, without_equals}
-use Rattle.dotenvy_command.specs.FirstGroup.{IsAlone}
+use Rattle.dotenvy_command.specs.inside.FirstGroup.{IsAlone}
 
 -- a text whose front was stripped is that front, and then what is left
 pub stripped : (front text rest : List ℕ) → StripsPrefix (FindsTextPrefix front) text rest → text ≡ front ++ rest

@@ -3,6 +3,6 @@ pub mod Laws
 pub mod WorkedWords
 pub mod Failures
 pub mod Answers
-pub mod FirstGroup
 pub mod Started
 pub mod Ends
+pub mod inside

@@ -2,7 +2,7 @@
 
 ghost use Rattle.std.specs.Prelude.{◌≡◌, [], IfOk, OnOk};
 ghost use Rattle.dotenvy_command.specs.Answers.{AnswersWords, line_of, texts};
-ghost use Rattle.dotenvy_command.specs.FirstGroup.{AttachesFile, GroupBeginsWith, IsGroupOf, IsWord};
+ghost use Rattle.dotenvy_command.specs.inside.FirstGroup.{AttachesFile, GroupBeginsWith, IsGroupOf, IsWord};
 ghost use Rattle.dotenvy_command.specs.Words.{Group as WordGroup, command_line, with_group, without_equals};
 
 use crate::failure::Usage;

@@ -2,7 +2,7 @@ use Rattle.std.proofs.Common.{arith, ◌≡◌, true, [], Ok, Err, refl, sym, ap
 use Rattle.std.proofs.lemmas.Result.{err_from_is_err_and}
 use Rattle.std.proofs.lemmas.Grind.{common_steps}
 use Rattle.dotenvy_command.specs.Answers.{texts, line_of}
-use Rattle.dotenvy_command.specs.FirstGroup.{GroupBeginsWith}
+use Rattle.dotenvy_command.specs.inside.FirstGroup.{GroupBeginsWith}
 use Rattle.dotenvy_command.specs.Words.{MissingCommand}
 use Rattle.dotenvy_command.proofs.WordGroups.{
   answers_memory,

@@ -1,4 +1,4 @@
--- What the code finds at the front of words: a group, a command, or neither.
+-- What the code finds at the start of the words: a group, a command, or neither.
 use Rattle.std.specs.Prelude.{
   ℕ,
   ◌≡◌,
@@ -46,20 +46,20 @@ use Rattle.dotenvy_command.specs.Words.{
   is_next,
 }
 
--- the group that was found means what this one does
+-- the group that the code found means the same as this one
 abbrev pub IsGroupOf : Group → Found → Type 0
 IsGroupOf group (found.File name) = (group_files group ≡ name.now ∷ []) × (is_list group ≡ false)
     × (is_next group ≡ false)
 IsGroupOf group found.List = group ≡ list
 IsGroupOf group found.Next = group ≡ next
 
--- the word is a group of its own, which means what was found
+-- the word is a whole group, which means what was found
 abbrev pub IsAlone : List ℕ → Found → Type 0
 IsAlone text group =
     (spelled : Group) × IsGroup spelled × (group_words spelled ≡ text ∷ [])
     × IsGroupOf spelled group
 
--- the word is an option that the program lacks
+-- the word is an option that the program does not have
 abbrev pub IsUnknown : List ℕ → Type 0
 IsUnknown text = IsTrue (is_option text && not (begins_group text))
 
@@ -70,18 +70,18 @@ IsWord text (word.Group group) = IsAlone text group
 IsWord text word.Unknown = IsUnknown text
 IsWord text word.Command = IsTrue (not (is_option text))
 
--- the word names a file behind its option, unless it is `-f` alone; or its front is no such option
+-- the word, unless it is `-f` alone, has a file after its option; or it begins with no such option
 abbrev pub AttachesFile : List ℕ → Option (Bor (List ℕ)) → Type 0
 AttachesFile text (Some name) = text ≢ codes "-f" → IsAlone text (found.File name)
 AttachesFile text None = (starts_with nat_eq text (codes "--file=") ≡ false)
     × (starts_with nat_eq text (codes "-f") ≡ false)
 
--- there are no words, or the first one is no option
+-- there are no words, or the first one is not an option
 abbrev pub AreCommand : List (List ℕ) → Type 0
 AreCommand [] = Unit {0}
 AreCommand (text ∷ words) = IsTrue (not (is_option text))
 
--- the words begin with this group, and these are the words after it; or no group comes first; or they are refused
+-- the words begin with this group and go on with these words; or no group comes first; or they are refused
 abbrev pub GroupBeginsWith : {A : Type 0} → List (List ℕ) →
     Result (Option (Found × Bor (List (String A)))) (Usage A) →
     Type 0
