@@ -1,4 +1,4 @@
--- The calls that were made on a reader or a writer, and what each of them answered.
+-- The calls that were made on a reader or a writer, with the result of each.
 use Rattle.std.specs.Prelude.{ℕ, ◌≡◌, ◌≢◌, List, [], ◌∷◌, ◌++◌, Option, Some, Result, Ok, Err, refl}
 use Rattle.std.specs.List.{AllByRecursion}
 use Rattle.std.specs.IoError.{error_kind}
@@ -8,44 +8,42 @@ use Rattle.std.specs.declared.io.ErrorKind.TheVariants.{Interrupted}
 use Rattle.std.specs.contracts.io.ErrorKind as kind
 use Rattle.std.specs.Coded.{Coded, code_by, coded×, coded_ℕ, coded_result}
 
--- a call: for how many bytes there was room, or how many it was handed; and how many it gave or
--- took, or the kind of its fault
+-- one call: the length of its buffer, and its result, which is a number of bytes or the kind of an error
 pub record Call : Type 0 where
   pub len : ℕ
   pub answer : Result ℕ ErrorKind
 
--- its code, by those of its parts
+-- the encoding of this record, made of those of its fields
 abbrev pub call_code : Coded Call
 call_code =
     code_by (ℕ × Result ℕ ErrorKind) (coded× coded_ℕ (coded_result coded_ℕ kind.the_row.coded))
     (λ c. (c.len, c.answer)) (λ p. record { len = p.0; answer = p.1 }) (λ _. refl)
 
--- what a call answered, and of its fault the kind
+-- the result of a call, reduced to the kind of its error if it failed
 abbrev pub answer_kind : Result ℕ Error → Result ℕ ErrorKind
 answer_kind (Ok n) = Ok n
 answer_kind (Err e) = Err (error_kind e)
 
--- the call of so many bytes that answered r
+-- the call with a buffer of so many bytes and the result r
 abbrev pub call_of : ℕ → Result ℕ Error → Call
 call_of len r = record { len = len; answer = answer_kind r }
 
--- where the calls so far are told, they are those that were told before and this one; who has
--- stopped telling them tells them no more
+-- if the calls are specified after this one, they were before it, and are now those and this one
 abbrev pub TellsCall : Option (List Call) → Option (List Call) → Call → Type 0
 TellsCall before after call =
     (all : List Call) → after ≡ Some all →
     (calls : List Call) × (before ≡ Some calls) × (all ≡ calls ++ call ∷ [])
 
--- another call may follow this one: it gave or took some bytes, or was interrupted
+-- another call may follow one with this result: it moved some bytes, or was interrupted
 abbrev pub MayGoOn : Result ℕ ErrorKind → Type 0
 MayGoOn (Ok n) = n ≢ 0
 MayGoOn (Err kind) = kind ≡ Interrupted
 
--- another call may follow each of these
+-- another call may follow each of these calls
 abbrev pub AllMayGoOn : List Call → Type 0
 AllMayGoOn calls = AllByRecursion (λ call. MayGoOn call.answer) calls
 
--- another call may follow each but the last
+-- another call may follow each of these calls except the last
 abbrev pub OnlyLastEnds : List Call → Type 0
 OnlyLastEnds [] = Unit {0}
 OnlyLastEnds (call ∷ []) = Unit {0}

@@ -1,4 +1,4 @@
--- What an environment is: a finite map of texts, by their bytes, and a mark.
+-- What an environment is: a finite map from names to values, as bytes, and a `loaded` flag.
 use Rattle.std.specs.Prelude.{
   ℕ,
   ◌≡◌,
@@ -33,69 +33,69 @@ use Rattle.std.specs.declared.string.String.{String}
 abbrev pub Texts : Type 0
 Texts = fin.FinMap (slice_cmp nat_cmp) (List ℕ)
 
--- the names with their values, and the mark
+-- an environment: its names with their values, and its `loaded` flag
 pub record Env : Type 0 where
   pub names : Texts
   pub loaded : Bool
 
--- its code, by those of its parts
+-- the encoding of this record, made of those of its fields
 abbrev pub env_code : Coded Env
 env_code =
     code_by (Texts × Bool) (coded× (fin.code (coded_list coded_ℕ) (coded_list coded_ℕ)) coded_bool)
     (λ e. (e.names, e.loaded)) (λ p. record { names = p.0; loaded = p.1 }) (λ _. refl)
 
--- what parts a name from its value
+-- the byte between a name and its value
 abbrev pub equals_sign : ℕ
 equals_sign = 61
 
--- a name is not empty and has no `=` and no NUL
+-- the bytes are a name: they are not empty, and have no `=` and no NUL
 abbrev pub name_ok : List ℕ → Bool
 name_ok [] = false
 name_ok (b ∷ bs) =
     not (list_any (λ c. c == equals_sign) (b ∷ bs)) && not (list_any (λ c. c == 0) (b ∷ bs))
 
--- a value has no NUL
+-- the bytes are a value: they have no NUL
 abbrev pub value_ok : List ℕ → Bool
 value_ok bs = not (list_any (λ c. c == 0) bs)
 
--- every name and value is a good one
+-- every name is a valid name, and every value a valid value
 abbrev pub IsEnvironment : Env → Type 0
 IsEnvironment e =
     (k v : List ℕ) → fin.get e.names k ≡ Some v → IsTrue (name_ok k) × IsTrue (value_ok v)
 
--- each value is a text
+-- each value is UTF-8
 abbrev pub AreTexts : Texts → Type 0
 AreTexts names = (name text : List ℕ) → fin.get names name ≡ Some text → IsUtf8 text
 
--- the pairs by their bytes
+-- pairs of strings, as pairs of bytes
 abbrev pub text_entries : {A : Type 0} → List (String A × String A) → List (List ℕ × List ℕ)
 text_entries = map (λ p. (string_bytes p.0, string_bytes p.1))
 
--- the environment of these pairs and this mark; the first pair of a name counts
+-- the environment with these pairs and this flag; of several pairs with one name the first counts
 abbrev pub env_of : {A : Type 0} → List (String A × String A) → Bool → Env
 env_of es loaded = record { names = fin.from_entries (text_entries es); loaded = loaded }
 
--- a name that was there keeps its value
+-- each name of the old map has the same value in the new one
 abbrev pub KeepsNames : Texts → Texts → Type 0
 KeepsNames old new = (k : List ℕ) → is_some (fin.get old k) ≡ true → fin.get new k ≡ fin.get old k
 
--- a pair of a good name and a good value
+-- a pair of a valid name and a valid value
 abbrev pub pair_ok : List ℕ × List ℕ → Bool
 pair_ok p = name_ok p.0 && value_ok p.1
 
--- the names and the values are good ones
+-- each of these pairs has a valid name and a valid value
 abbrev pub AreGood : List (List ℕ × List ℕ) → Type 0
 AreGood pairs = IsTrue (list_all pair_ok pairs)
 
--- the same pairs, in order
+-- two lists have the same pairs, in the same order
 abbrev pub are_same_pairs : List (List ℕ × List ℕ) → List (List ℕ × List ℕ) → Bool
 are_same_pairs = pointwise (λ p q. bytes_eq p.0 q.0 && bytes_eq p.1 q.1)
 
--- the same names with the same values, and the same mark
+-- two environments have the same names with the same values, and the same flag
 abbrev pub is_same : Env → Env → Bool
 is_same a b = are_same_pairs (fin.entries a.names) (fin.entries b.names) && beq a.loaded b.loaded
 
--- so each environment is the same as itself, and this goes both ways, and on
+-- being the same is an equivalence: reflexive, symmetric and transitive
 pub is_same-equiv : IsEquivalence is_same
 is_same-equiv =
     let same_keys = on_equiv (λ p. p.0) nat_list_eq_equiv in

@@ -1,4 +1,4 @@
--- What an error says.
+-- What the errors of the library say, and what they print.
 use Rattle.std.specs.Prelude.{
   ℕ,
   ◌≡◌,
@@ -27,7 +27,7 @@ use Rattle.std.specs.declared.io.ErrorKind.TheVariants.{NotFound, OutOfMemory}
 use Rattle.dotenvy_base.specs.declared.errors.Error.{Error}
 use Rattle.dotenvy_base.specs.declared.errors.Error.TheVariants.{LineParse, Io, EnvVar, Nul, Memory}
 
--- a fault of kind NotFound
+-- the error is an `Io` of kind `NotFound`
 abbrev pub IsNotFound : {A : Type 0} → Error A → Type 0
 IsNotFound (LineParse _ _) = ⊥
 IsNotFound (Io e) = error_kind e ≡ NotFound
@@ -35,7 +35,7 @@ IsNotFound (EnvVar _) = ⊥
 IsNotFound (Nul _) = ⊥
 IsNotFound (Memory _) = ⊥
 
--- a growth was refused
+-- the error says that an allocation failed
 abbrev pub IsMemory : {A : Type 0} → Error A → Type 0
 IsMemory (LineParse _ _) = ⊥
 IsMemory (Io _) = ⊥
@@ -43,12 +43,12 @@ IsMemory (EnvVar _) = ⊥
 IsMemory (Nul _) = ⊥
 IsMemory (Memory _) = Unit {0}
 
--- the text of a fault of the grammar in the bytes `text`, at `place`
+-- what is printed of a `LineParse` with this text and this place
 abbrev pub line_parse_text : List ℕ → ℕ → List ℕ
 line_parse_text text place =
     codes "Error parsing line: '" ++ (text ++ (codes "', error at line index: " ++ decimal place))
 
--- what `{}` prints, and nothing is claimed of a fault of a reader, a writer or a file
+-- what `{}` prints of an error; of an error of a reader, a writer or a file nothing is said
 abbrev pub error_text : {A : Type 0} → Error A → Option (List ℕ)
 error_text (LineParse text place) = Some (line_parse_text (string_bytes text) place)
 error_text (Io _) = None
@@ -56,7 +56,7 @@ error_text (EnvVar _) = None
 error_text (Nul key) = Some (codes "value of '" ++ (string_bytes key ++ codes "' contains a NUL"))
 error_text (Memory _) = Some (codes "out of memory")
 
--- the value of this key has a NUL
+-- the error says that the value of this key has a NUL
 abbrev pub IsNulOf : {A : Type 0} → List ℕ → Error A → Type 0
 IsNulOf key (LineParse _ _) = ⊥
 IsNulOf key (Io _) = ⊥
@@ -64,7 +64,7 @@ IsNulOf key (EnvVar _) = ⊥
 IsNulOf key (Nul text) = string_bytes text ≡ key
 IsNulOf key (Memory _) = ⊥
 
--- a fault of a reader or a writer, of which P holds
+-- the error is an `Io` for which P holds
 abbrev pub IsIoOf : {A : Type 0} → (IoError → Type 0) → Error A → Type 0
 IsIoOf P (LineParse _ _) = ⊥
 IsIoOf P (Io e) = P e
@@ -72,12 +72,12 @@ IsIoOf P (EnvVar _) = ⊥
 IsIoOf P (Nul _) = ⊥
 IsIoOf P (Memory _) = ⊥
 
--- the call was refused memory
+-- the call failed because an allocation failed
 abbrev pub IsMemoryErr : {T A : Type 0} → Result T (Error A) → Type 0
 IsMemoryErr (Ok x) = ⊥
 IsMemoryErr (Err e) = IsMemory e
 
--- a fault of the grammar, with this text, by its characters, and this index
+-- the error is a `LineParse` with this text, as characters, and this index
 abbrev pub IsLineParseOf : {A : Type 0} → List ℕ → ℕ → Error A → Type 0
 IsLineParseOf text index (LineParse found place) =
     (chars (string_bytes found) ≡ text) × (place ≡ index)
@@ -86,12 +86,12 @@ IsLineParseOf text index (EnvVar _) = ⊥
 IsLineParseOf text index (Nul _) = ⊥
 IsLineParseOf text index (Memory _) = ⊥
 
--- a fault of this kind says that the system had no memory
+-- an error of this kind says that the system is out of memory
 abbrev pub is_out_of_memory : ErrorKind → Bool
 is_out_of_memory OutOfMemory = true
 is_out_of_memory _ = false
 
--- the same error, but for a fault of the system that had no memory, which is `Memory`
+-- the same error, except that an `Io` which says out of memory becomes `Memory`
 abbrev pub or_memory : {A : Type 0} → Error A → Error A
 or_memory (LineParse text place) = LineParse text place
 or_memory (Io fault) = if is_out_of_memory (error_kind fault) then Memory alloc_error else Io fault
@@ -99,7 +99,7 @@ or_memory (EnvVar e) = EnvVar e
 or_memory (Nul key) = Nul key
 or_memory (Memory e) = Memory e
 
--- a fault of the system, such as that of a file, or refused memory
+-- the error is one of the system, such as that of a file, or a failed allocation
 abbrev pub IsSystemFault : {A : Type 0} → Error A → Type 0
 IsSystemFault (LineParse _ _) = ⊥
 IsSystemFault (Io _) = Unit {0}
@@ -107,7 +107,7 @@ IsSystemFault (EnvVar _) = ⊥
 IsSystemFault (Nul _) = ⊥
 IsSystemFault (Memory _) = Unit {0}
 
--- the same, where a fault of a system that had no memory is `Memory`
+-- the same, of an error that `or_memory` returned: an `Io` never says out of memory
 abbrev pub IsFileFault : {A : Type 0} → Error A → Type 0
 IsFileFault (LineParse _ _) = ⊥
 IsFileFault (Io fault) = is_out_of_memory (error_kind fault) ≡ false

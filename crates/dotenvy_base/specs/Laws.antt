@@ -3,7 +3,7 @@ use Rattle.std.specs.Prelude.{◌≡◌, ℕ, List}
 use Rattle.dotenvy_base.specs.declared.search.Look.{Look}
 use Rattle.dotenvy_base.specs.Search as search
 
--- whatever stands at the candidates, a search asks one list of them and has one answer
+-- whatever is at each path, a search asks for one list of paths and has one answer
 abbrev pub HasOneSearch : Type 0
 HasOneSearch =
     (directory name : List ℕ) (looks : ℕ → Look) →

@@ -1,4 +1,4 @@
--- What a source gives and a sink takes.
+-- What one read takes from a source, and what one write appends to a sink.
 use Rattle.std.specs.Prelude.{
   ℕ,
   ◌≡◌,
@@ -32,19 +32,19 @@ use Rattle.std.specs.contracts.io.ErrorKind as kind
 use Rattle.std.specs.Coded.{Coded, code_by, coded×, coded_ℕ, coded_list, coded_option}
 use Rattle.dotenvy_base.specs.declared.source.Plain.{Plain}
 
--- the bytes up to a source's end, or up to its first read that answers a fault, with the kind of that fault
+-- what is still to be read: the bytes up to the end, or up to the first read that fails, with the kind of its error
 pub record Ahead : Type 0 where
   pub bytes : List ℕ
   pub fault : Option ErrorKind
 
--- its code, by those of its parts
+-- the encoding of this record, made of those of its fields
 abbrev pub ahead_code : Coded Ahead
 ahead_code =
     code_by (List ℕ × Option ErrorKind)
     (coded× (coded_list coded_ℕ) (coded_option kind.the_row.coded)) (λ a. (a.bytes, a.fault))
     (λ p. record { bytes = p.0; fault = p.1 }) (λ _. refl)
 
--- a read that answered r took its bytes from the front of what was ahead: none only at the end, and a fault only where it stands next
+-- a read with the result r takes the next bytes; it returns 0 only at the end, and fails only when the fault is next
 abbrev pub ReadsFront : Ahead → Option Ahead → Result ℕ Error → List ℕ → Type 0
 ReadsFront a after r buf =
     IfOk r
@@ -54,27 +54,27 @@ ReadsFront a after r buf =
     × (0 < length buf → n ≡ 0 → (a.bytes ≡ []) × (a.fault ≡ None)))
     × IfErr r (λ e. (a.bytes ≡ []) × (a.fault ≡ Some (error_kind e)))
 
--- the same of a source that may tell nothing
+-- the same for any source; nothing is said of one whose bytes are not specified
 abbrev pub ReadsAhead : Option Ahead → Option Ahead → Result ℕ Error → List ℕ → Type 0
 ReadsAhead None after r buf = Unit {0}
 ReadsAhead (Some a) after r buf = ReadsFront a after r buf
 
--- a write that answered r appended the first bytes of buf, and none on a fault
+-- a write with the result r appends so many bytes from the start of buf, and none if it fails
 abbrev pub WriteAppends : Option (List ℕ) → Option (List ℕ) → Result ℕ Error → List ℕ → Type 0
 WriteAppends None after r buf = Unit {0}
 WriteAppends (Some xs) after r buf =
     IfOk r (λ n. after ≡ Some (xs ++ take n buf)) × OnErr r (after ≡ Some xs)
 
--- the kind of the last fault of a write, after a write that answered r: WriteZero where it took none of some bytes
+-- the kind of the last write error, after a write with the result r; taking 0 of some bytes counts as `WriteZero`
 abbrev pub fault_after : Option ErrorKind → List ℕ → Result ℕ Error → Option ErrorKind
 fault_after last [] r = last
 fault_after last (b ∷ bs) (Ok n) = if n == 0 then Some WriteZero else last
 fault_after last (b ∷ bs) (Err e) = Some (error_kind e)
 
--- the reader or writer below
+-- the reader or writer that a `Plain` wraps
 abbrev pub plain_inner : {T : Type 0} → Plain T → T
 plain_inner p = p.inner
 
--- the kind of the last fault of a write, if one has failed
+-- the kind of the last write error of a `Plain`, if a write has failed
 abbrev pub plain_fault : {T : Type 0} → Plain T → Option ErrorKind
 plain_fault p = p.last_fault

@@ -1,4 +1,5 @@
-// The names and values that a program is given.
+//! Environments: the names of a process with their values, kept apart from the process itself.
+
 ghost use Rattle.std.specs.Prelude.{◌≡◌, IsTrue, filter, true, false, option_copied, string_bytes, IfOk, OnOk, OnErr, IfErr, IfSome, MatchResult, ◌==◌};
 ghost use Rattle.std.specs.FinMap as fin;
 ghost use Rattle.std.specs.Iterator.{YieldsFirstBy, item_count};
@@ -15,10 +16,10 @@ use std::env::Env;
 use std::fmt;
 use std::marker::Model;
 
-/// Names and their values, and a mark that says whether the first load was done.
+/// Names with their values, and a `loaded` flag that says whether the first use has loaded `.env`.
 ///
-/// A name is not empty and has no `=` and no NUL; a value has no NUL. Names are compared byte by byte. It stands for
-/// the environment of a process: the loads change it, and the process's own is left alone.
+/// A name is not empty and has no `=` and no NUL; a value has no NUL. Names are compared byte by byte. Loads change
+/// this value, and never the environment of the process.
 ///
 /// ```
 /// let mut environment = Environment::new(alloc);
@@ -43,7 +44,9 @@ impl<A: Allocator> Model for Environment<A> {
     ghost invariant = { λ e. IsEnvironment (env_of e.entries.entries e.loaded) };
 }
 
-/// Whether the whole text is a name of an environment: not empty, without `=` and without NUL.
+/// Whether the whole text may be a name of an environment: it is not empty, and has no `=` and no NUL.
+///
+/// A key of a file is one of these names, but not each name can be a key (see `is_key`).
 ///
 /// ```
 /// assert!(rt; is_name("my name") && !is_name("A=B"));
@@ -67,8 +70,8 @@ fn is_pair(name: &str, value: &str) -> bool
 }
 
 impl<A: Allocator> Environment<A> {
-    /// An environment with no names, whose mark is not set. It takes no memory; the names that are set later are kept
-    /// in `alloc`.
+    /// An environment with no names, whose `loaded` flag is not set. It allocates nothing; names that are set later are
+    /// kept in `alloc`.
     ///
     /// ```
     /// assert_eq!(rt; Environment::new(alloc).len(), 0);
@@ -83,19 +86,19 @@ impl<A: Allocator> Environment<A> {
         }
     }
 
-    /// An environment of these names and values, whose mark is not set.
+    /// An environment with these names and values, whose `loaded` flag is not set.
     ///
-    /// A pair whose name is none (see [`is_name`]) or whose value has a NUL is passed by. Of several pairs with one
+    /// A pair is skipped if its name is not valid (see [`is_name`]) or its value has a NUL. Of several pairs with one
     /// name the first counts. The error is `Memory`.
     ///
     /// ```
     /// let environment = Environment::from_pairs(alloc, list)?;
-    /// // of A and 1, A and 2, and a pair without a name: A is 1, and nothing else is there
+    /// // from the pairs ("A", "1"), ("A", "2") and ("", "3"): A is 1, and there is no other name
     /// ```
     pub fn from_pairs(alloc: A, list: Vec<(String<A>, String<A>), A>) -> Result<Environment<A>, A>
     where
         A: Clone,
-        // Where a name stands several times, `from_entries` keeps its first value.
+        // If a name is there several times, `from_entries` keeps its first value.
         ensures names { IfOk result
             (λ e. e.names ≡ fin.from_entries (filter pair_ok (text_entries list.items))) }
         ensures mark { IfOk result (λ e. e.loaded ≡ false) }
@@ -110,10 +113,10 @@ impl<A: Allocator> Environment<A> {
         Ok(env)
     }
 
-    /// An environment of the names and values of the process, whose mark is not set.
+    /// An environment with the names and values of the process, whose `loaded` flag is not set.
     ///
-    /// An entry that is no text, without a name or with a name that is none is passed by; of several entries of one
-    /// name the first counts. The process's own environment is only read. The error is `Memory`.
+    /// An entry of the process is skipped if it is not UTF-8, has no `=` or has no valid name; of several entries with
+    /// one name the first counts. The environment of the process is only read. The error is `Memory`.
     ///
     /// ```
     /// let environment = Environment::from_process(&rt)?;
@@ -128,7 +131,7 @@ impl<A: Allocator> Environment<A> {
         Environment::from_pairs(rt.alloc(), text_entries(rt)?)
     }
 
-    /// An environment of its own with the same names and values and the same mark. The error is `Memory`.
+    /// A separate environment with the same names and values and the same `loaded` flag. The error is `Memory`.
     ///
     /// ```
     /// let before = environment.try_clone()?;
@@ -145,7 +148,7 @@ impl<A: Allocator> Environment<A> {
         })
     }
 
-    /// How many names it has.
+    /// The number of names.
     ///
     /// ```
     /// assert_eq!(rt; environment.len(), environment.iter().count());
@@ -156,7 +159,7 @@ impl<A: Allocator> Environment<A> {
         self.entries.len()
     }
 
-    /// Whether it has no name.
+    /// Whether there is no name.
     ///
     /// ```
     /// assert!(rt; Environment::new(alloc).is_empty());
@@ -167,7 +170,7 @@ impl<A: Allocator> Environment<A> {
         self.len() == 0
     }
 
-    /// The mark: whether the first load was done.
+    /// The `loaded` flag: whether the first use has loaded `.env` (docs/GRAMMAR.md, "Finding the file").
     ///
     /// ```
     /// assert!(rt; !Environment::new(alloc).loaded());
@@ -178,7 +181,7 @@ impl<A: Allocator> Environment<A> {
         self.loaded
     }
 
-    /// The value of a name, and `None` for a text that is no name of this environment.
+    /// The value of a name, or `None` if this environment has no such name.
     ///
     /// ```
     /// let host = environment.get("HOST").unwrap_or("localhost");
@@ -192,7 +195,7 @@ impl<A: Allocator> Environment<A> {
         }
     }
 
-    /// Whether the name has a value, be it the empty one.
+    /// Whether the name has a value, which may be empty.
     ///
     /// ```
     /// if !environment.contains("HOST") { .. }
@@ -219,10 +222,10 @@ impl<A: Allocator> Environment<A> {
         Pairs { pairs }
     }
 
-    /// Sets the value of one name, or replaces it. The other names and the mark stay as they are.
+    /// Sets the value of one name, or replaces it. The other names and the `loaded` flag are unchanged.
     ///
-    /// The caller hands in a key that is a name (see [`is_name`]; each key of the grammar is one). The error is `Nul`
-    /// with that key where the value has a NUL, and else `Memory`. After either the environment is as it was.
+    /// It requires a valid name (see [`is_name`]); each key of the file format is one. The error is `Nul` with that key
+    /// if the value has a NUL, and otherwise `Memory`. After an error the environment is unchanged.
     ///
     /// ```
     /// environment.set(String::from_str(alloc, "HOST")?, String::from_str(alloc, "db.local")?)?;
@@ -237,7 +240,7 @@ impl<A: Allocator> Environment<A> {
             }) }
         ensures same { OnErr result (self.new ≡ self.old) }
 
-        // Where the value has no NUL, memory is the only error; where it has one, the error is that.
+        // If the value has no NUL, `Memory` is the only error; if it has one, the error is `Nul`.
         ensures good { IsTrue (value_ok (string_bytes value)) → IfErr result IsMemory }
         ensures nul { value_ok (string_bytes value) ≡ false →
             MatchResult result (λ _. ⊥) (IsNulOf (string_bytes key)) }
@@ -250,14 +253,14 @@ impl<A: Allocator> Environment<A> {
     }
 }
 
-/// Sets the mark of an environment. This is for the first use alone.
+/// Sets the `loaded` flag of an environment. Only the first use does this, after its load.
 pub fn mark_loaded<A: Allocator>(env: &mut Environment<A>)
     ensures { env.new ≡ record env.old { loaded = true } }
 {
     env.loaded = true;
 }
 
-/// The names of an environment with their values as they are now, on their own. The error is `Memory`.
+/// A copy of the names of an environment with their values, in the byte order of the names. The error is `Memory`.
 pub fn snapshot<A: Allocator + Clone>(env: &Environment<A>) -> Result<Vars<A>, A>
     ensures pairs { IfOk result (λ pairs. pairs ≡ fin.entries env.now.names) }
     ensures memory { IfErr result IsMemory }
@@ -267,7 +270,7 @@ pub fn snapshot<A: Allocator + Clone>(env: &Environment<A>) -> Result<Vars<A>, A
     })
 }
 
-/// Two environments are equal where they have the same names with the same values, and the same mark.
+/// Two environments are equal if they have the same names with the same values, and the same `loaded` flag.
 impl<A: Allocator> PartialEq for Environment<A> {
     ghost use Rattle.std.specs.Cmp.{partial_equiv_from_equiv};
     ghost use Rattle.dotenvy_base.specs.Environment.{is_same, is_same-equiv};
@@ -290,7 +293,7 @@ impl<A: Allocator> Eq for Environment<A> {
     ghost laws = { is_same-equiv };
 }
 
-/// Shows the names and the mark. Values are often secrets, and are never shown.
+/// Shows the names and the `loaded` flag. Values are often secrets, and are never shown.
 impl<A: Allocator> fmt::Debug for Environment<A> {
     fn fmt<W: fmt::Write>(&self, f: &mut fmt::Formatter<W>) -> fmt::Result {
         f.debug_struct("Environment")
@@ -300,7 +303,7 @@ impl<A: Allocator> fmt::Debug for Environment<A> {
     }
 }
 
-// The names of an environment, to be shown.
+// The names of an environment, as `Debug` shows them.
 #[derive(Drop)]
 struct Names<'a, A: Allocator>(&'a Environment<A>);
 
@@ -326,8 +329,15 @@ impl<'a, A: Allocator> IntoIterator for &'a Environment<A> {
     }
 }
 
-/// The names of an environment with their values, in the byte order of the names, each once; [`Environment::iter`]
-/// makes it. Each name and each value is one that [`Environment::set`] takes.
+/// An iterator over the names of an environment with their values, in the byte order of the names, each once.
+///
+/// [`Environment::iter`] makes it. Each name and each value is one that [`Environment::set`] takes.
+///
+/// ```
+/// for (name, value) in &environment {
+///     println!(rt; "{name}={value}")?;
+/// }
+/// ```
 #[derive(Drop)]
 pub struct Pairs<'a, A: Allocator = Global> {
     pairs: Iter<'a, String<A>, String<A>>,
@@ -360,10 +370,10 @@ impl<'a, A: Allocator> Iterator for Pairs<'a, A> {
     }
 }
 
-/// Names with their values, in the byte order of the names, each once.
+/// An iterator over names with their values, in the byte order of the names, each once.
 ///
-/// It stands on its own: what is done to the environment later doesn't change it. [`vars`](crate::vars) makes it. Each
-/// name and each value is one that [`Environment::set`] takes.
+/// It holds copies: later changes of the environment don't change it. [`vars`](crate::vars) makes it. Each name and
+/// each value is one that [`Environment::set`] takes.
 ///
 /// ```
 /// for (name, value) in vars(&rt, &mut environment)? {

@@ -1,4 +1,5 @@
-// Why a call failed.
+//! The errors of the library: why a call failed, and what is printed of it.
+
 ghost use Rattle.std.specs.Prelude.{◌≡◌, ◌⊎◌, ◌↔◌, IsTrue};
 ghost use Rattle.std.specs.Str.{chars};
 ghost use Rattle.dotenvy_base.specs.Errors.{IsNotFound, IsMemory, IsLineParseOf, or_memory};
@@ -7,6 +8,10 @@ use std::alloc::{AllocError, AllocFailed, Allocator, Global};
 use std::{error, fmt, io};
 
 /// Why a name has no value.
+///
+/// ```
+/// // var(&rt, &mut environment, "HOST") without such a name: Err(Error::EnvVar(VarError::NotPresent))
+/// ```
 #[derive(Clone, Debug, PartialEq, Eq, Drop, thiserror::Error)]
 pub enum VarError {
     /// The environment has no such name.
@@ -16,35 +21,48 @@ pub enum VarError {
 
 /// Why a call failed.
 ///
-/// What each variant prints stands in docs/GRAMMAR.md, "Faults and their places".
+/// docs/GRAMMAR.md says what each variant prints, in "Faults and their places".
+///
+/// ```
+/// match dotenv(&rt, &mut environment) {
+///     Err(Error::LineParse(text, place)) => println!(rt; "at {place} in {text}")?,
+///     outcome => { outcome?; }
+/// }
+/// ```
 #[derive(Drop)]
 #[derive_where(Debug)]
 pub enum Error<A: Allocator = Global> {
-    /// The text is no line of an environment file: the text at fault, and the place in it where a reader has to give
-    /// up, counted from 0.
+    /// A line of the file is wrong: the text at fault, and the place in it where a reader has to give up, counted
+    /// from 0.
     ///
-    /// In the text of a whole line the place counts bytes. Where the value alone is wrong, the text is that value
-    /// without its key, and the place counts its characters; where the value lacks its end, it is the value's length
-    /// in bytes, less one (docs/GRAMMAR.md, "Faults and their places").
+    /// If the line is no `KEY=value`, the text is the whole line, and the place counts bytes. If only the value is
+    /// wrong, the text is the value without its key, and the place counts characters; if the value lacks its end, the
+    /// place is its length in bytes, less one (docs/GRAMMAR.md, "Faults and their places").
     LineParse(String<A>, usize),
-    /// A reader, a writer, a file or a directory failed, and this is its fault. Beside what these answer themselves,
-    /// the kind is `InvalidData` for a line that is no UTF-8, `NotFound` where no file was found, `WriteZero` for a
-    /// write that took nothing, and `Other` where the number of reads or writes reached its bound.
+    /// A reader, a writer, a file or a directory failed, and this is its error.
+    ///
+    /// The library makes some of these itself: of kind `InvalidData` for a line that is not UTF-8, `NotFound` if no
+    /// file was found, `WriteZero` for a write that took nothing, and `Other` if the number of reads or writes reached
+    /// its bound.
     Io(io::Error),
     /// A name that was asked for has no value.
     EnvVar(VarError),
-    /// The value of this key has a NUL, which no environment can hold, and was to be set.
+    /// The value of this key was to be set and has a NUL, which no environment can hold.
     Nul(String<A>),
-    /// Memory was refused.
+    /// An allocation failed.
     Memory(AllocError),
 }
 
-/// What a call of this crate answers.
+/// The result of a call of the library: a value, or an [`Error`].
+///
+/// ```
+/// fn host(environment: &Environment) -> Result<String> { .. }
+/// ```
 pub type Result<T, A = Global> = std::result::Result<T, Error<A>>;
 
 impl<A: Allocator> Error<A> {
-    /// Whether a file or a directory was not found. That is often no fault for a caller, since the file may be
-    /// optional.
+    /// Whether a file or a directory was not found: an `Io` of kind `NotFound`. Callers often ignore this error, since
+    /// the file may be optional.
     ///
     /// ```
     /// match outcome {
@@ -62,7 +80,9 @@ impl<A: Allocator> Error<A> {
     }
 }
 
-/// The fault of a text at a place, or `Memory` where the text could not be copied.
+/// The error for a wrong text: a `LineParse` with a copy of the text and this index, or `Memory` if it can't be copied.
+///
+/// Whether the index counts bytes or characters is up to the caller (docs/GRAMMAR.md, "Faults and their places").
 pub fn fault_error<A: Allocator>(alloc: A, text: &str, index: usize) -> Error<A>
     ensures { IsMemory result ⊎ IsLineParseOf (chars text.now) index result }
 {
@@ -72,7 +92,7 @@ pub fn fault_error<A: Allocator>(alloc: A, text: &str, index: usize) -> Error<A>
     }
 }
 
-/// The same error, but for a fault of the system that had no memory, which is `Memory`.
+/// The same error, except that an `Io` of kind `OutOfMemory` becomes `Memory`, so that callers have one case to match.
 pub fn or_memory<A: Allocator>(error: Error<A>) -> Error<A>
     ensures { result ≡ or_memory error }
 {

@@ -1,6 +1,6 @@
-//! What reading and loading stand on: errors, environments, sources and sinks, and the search for a file.
+//! What reading and loading need: errors, environments, sources and sinks, and the search for a file.
 //!
-//! The library is `dotenvy`, which stands on this crate and gives on what is public of it.
+//! Programs use the library `dotenvy`, which re-exports what they need of this crate.
 #![tactic(auto)]
 
 pub mod environment;

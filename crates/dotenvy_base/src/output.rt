@@ -1,4 +1,5 @@
-// All bytes of a text to a sink, in as many writes as it takes.
+//! Writes all bytes of a text to a sink, in as many writes as it takes.
+
 ghost use Rattle.std.specs.Prelude.{◌≡◌};
 ghost use Rattle.dotenvy_base.specs.Output.{Sends};
 
@@ -8,11 +9,13 @@ use std::alloc::Allocator;
 use std::io;
 use std::io::ErrorKind;
 
-/// The most writes that one call makes.
+/// The most writes that one call makes, 2^32. This bound makes each call end, whatever the sink does.
 pub const MOST_WRITES: u64 = 4_294_967_296;
 
-/// Writes all of the bytes, in at most `writes_left` writes. An interrupted write is asked again; one that takes
-/// nothing is a fault of kind WriteZero, and where no write is left the fault is of kind Other.
+/// Writes all of the bytes, in at most `writes_left` writes. An interrupted write is tried again, and counts as one.
+///
+/// The error is `Io`: that of the sink, one of kind `WriteZero` for a write that takes nothing, or one of kind `Other`
+/// if no write is left. After an error, a first part of the bytes may have been written.
 pub fn write_all<W: Sink, A: Allocator>(
     writer: &mut W,
     bytes: &[u8],

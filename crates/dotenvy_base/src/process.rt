@@ -1,12 +1,15 @@
-// The entries of the process's environment.
+//! The entries of the process's environment.
+
 use std::alloc::{Alloc, AllocError, Allocator};
 use std::env::{Env, FillError};
 use std::str;
 
-/// Names and values as a process has them.
+/// Pairs of a name and a value, as a process has them: unchecked, and a name may be there twice.
 pub type Entries<A> = Vec<(String<A>, String<A>), A>;
 
-/// The names and values of the entries that are texts, in the process's order. Other entries are passed by.
+/// The names and values of the process, in its order. Each entry is cut at its first `=`.
+///
+/// An entry that is not UTF-8 or has no `=` is skipped. The error says that an allocation failed.
 pub fn text_entries<A: Allocator + Clone, R: Env + Alloc<A = A>>(
     rt: &R,
 ) -> Result<Entries<A>, AllocError> {
@@ -26,7 +29,7 @@ pub fn text_entries<A: Allocator + Clone, R: Env + Alloc<A = A>>(
     Ok(entries)
 }
 
-// The bytes of an entry, and `None` behind the last one.
+// The bytes of the entry with this index, or `None` after the last one.
 fn entry_at<A: Allocator, R: Env + Alloc<A = A>>(
     rt: &R,
     index: usize,

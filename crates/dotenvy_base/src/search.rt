@@ -12,23 +12,28 @@ use std::io;
 use std::io::ErrorKind;
 use std::path::{Path, PathBuf};
 
-/// What stands at a path.
+/// What is at a path.
+///
+/// ```
+/// let path = find(alloc, directory, filename, &mut |path| Look::Other)?; // no file anywhere: an error
+/// ```
 #[derive(Drop)]
 pub enum Look {
     /// A file, which ends the search.
     File,
     /// Anything else, such as a directory.
     Other,
-    /// It can't be told. A fault of kind `NotFound` says that nothing is there; each other one ends the search.
+    /// It can't be told. An error of kind `NotFound` says that nothing is there; any other ends the search.
     Fault(io::Error),
 }
 
-/// The path of the first file of this name in the directory and in those above it, as `look` sees them.
+/// Returns the path of the first file with this name, in the directory or in those above it, as `look` sees them.
 ///
-/// `look` is asked once for each directory, from this one up, and no further than needed (docs/GRAMMAR.md, "Finding the
-/// file"). Paths are taken as texts: no part of them is looked up or left out, and an absolute name is asked for
-/// as it is, once for each directory. The error is `Io` of the fault that ended the search, `Io` of kind `NotFound`
-/// where no directory has the file, or `Memory`.
+/// `look` is called once for each directory, from this one up, and no more once a file is found (docs/GRAMMAR.md,
+/// "Finding the file"). Paths are texts: `.`, `..` and links mean nothing here, and an absolute name is asked for as it
+/// is, once for each directory.
+///
+/// The error is the `Io` that ended the search, an `Io` of kind `NotFound` if no directory has the file, or `Memory`.
 ///
 /// ```
 /// let path = find(alloc, Path::new("/srv/app"), Path::new(".env"), &mut |path| seen_at(path))?;
@@ -64,7 +69,7 @@ pub fn find<A: Allocator + Clone, F: FnMut(Path<'_>) -> Look>(
     )))
 }
 
-// The path of the name in the directory, by their texts alone.
+// The path of the name in the directory, joined as texts.
 fn path_in<A: Allocator>(
     alloc: A,
     directory: Path<'_>,
@@ -78,7 +83,7 @@ fn path_in<A: Allocator>(
     Ok(path)
 }
 
-// The directory above, by its text alone; std's `parent` also passes by `.` and doubled slashes.
+// The directory above, cut off as a text. The `parent` of std also leaves out `.` and doubled slashes.
 fn parent_of<'a>(directory: Path<'a>) -> Option<Path<'a>>
     ensures { option_map path_bytes result ≡ parent_of (path_bytes directory.entry) }
 {

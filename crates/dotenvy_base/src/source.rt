@@ -1,4 +1,5 @@
-// What the bytes come from, and where they go.
+//! Where bytes are read from, and where they are written to.
+
 ghost use Rattle.std.specs.Prelude.{◌≡◌, ◌≤◌, ℕ, List, [], Option, None, Some, IfOk, length};
 ghost use Rattle.std.specs.declared.io.ErrorKind.{ErrorKind};
 ghost use Rattle.std.specs.Io.KnownBytes.{ReadConsumes};
@@ -10,18 +11,23 @@ use std::io::{ErrorKind, Read, Write};
 
 /// What environment files are read from.
 ///
-/// Any reader of std is one as a [`Plain`], and a slice of bytes as [`Bytes`]. A source may tell contracts what lies
-/// ahead of it: its bytes up to its end, or up to the first read that answers a fault, with the kind of that fault.
-/// Then what is read from it is known as well. It may also tell all calls that were made on it so far, in order, and
-/// what each answered. A source that tells nothing can still be read, and nothing is known of its bytes.
+/// Wrap a reader of std in [`Plain`], and a slice of bytes in [`Bytes`]. An implementation may specify, for contracts
+/// alone, its bytes up to its end or up to the first read that fails (`ahead`), and the calls made on it so far with
+/// their results (`calls`). Then contracts say what is read from it. A source that specifies neither can still be read.
+///
+/// ```
+/// let mut source = Bytes::new(b"HOST=db.local\n");
+/// let read = source.read_some(&mut buffer)?;
+/// ```
 pub trait Source {
     ghost ahead: { Self → Option Ahead } = { λ _. None };
 
     ghost calls: { Self → Option (List Call) } = { λ _. None };
 
-    /// Reads some bytes to the front of `buf` and answers how many, as `std::io::Read::read` does.
+    /// Reads some bytes to the start of `buf` and returns how many, as `std::io::Read::read` does.
     ///
-    /// Where `buf` is not empty, 0 bytes are the end. A fault takes no bytes.
+    /// If `buf` is not empty, 0 says that the end is reached. A read that fails takes no bytes; one that fails with
+    /// kind `Interrupted` may be tried again.
     fn read_some(&mut self, buf: &mut [u8]) -> io::Result<usize>
         ensures bound { IfOk result (λ n. n ≤ length buf.new) }
         ensures bytes { ReadsAhead (ahead self.old) (ahead self.new) result buf.new }
@@ -31,9 +37,14 @@ pub trait Source {
 
 /// What pairs are written to.
 ///
-/// Any writer of std is one as a [`Plain`]. A sink may tell contracts which bytes it holds, and then each write is
-/// known to append to them. It may also tell all calls that were made on it so far, in order, and what each answered.
-/// Every sink tells the kind of the last fault that a write of some bytes answered, if one has.
+/// Wrap a writer of std in [`Plain`]. An implementation specifies, for contracts alone, the kind of the last error of a
+/// write (`last_fault`). It may also specify the bytes that it holds (`held`), and the calls made on it so far with
+/// their results (`calls`). Then contracts say what each write appends.
+///
+/// ```
+/// let mut sink = Plain::new(file);
+/// write_pair(alloc, &mut sink, "HOST", "db.local")?;
+/// ```
 pub trait Sink {
     ghost held: { Self → Option (List ℕ) } = { λ _. None };
 
@@ -41,10 +52,10 @@ pub trait Sink {
 
     ghost calls: { Self → Option (List Call) } = { λ _. None };
 
-    /// Writes some bytes from the front of `buf` and answers how many, as `std::io::Write::write` does.
+    /// Writes some bytes from the start of `buf` and returns how many, as `std::io::Write::write` does.
     ///
-    /// A fault writes none. A write of some bytes has failed where it answers a fault, an interruption among them,
-    /// or 0, which counts as a fault of kind WriteZero.
+    /// A write that fails writes none. If `buf` is not empty, a result of 0 counts as an error of kind `WriteZero`, and
+    /// an interruption counts as an error, too.
     fn write_some(&mut self, buf: &[u8]) -> io::Result<usize>
         ensures bound { IfOk result (λ n. n ≤ length buf.now) }
         ensures bytes { WriteAppends (held self.old) (held self.new) result buf.now }
@@ -53,7 +64,7 @@ pub trait Sink {
             (call_of (length buf.now) result) };
 }
 
-/// A source that is lent: what is read from it is read from the source itself, which its owner keeps.
+/// A borrowed source: what is read from it is read from the source itself, which its owner keeps.
 impl<'a, R: Source> Source for &'a mut R {
     ghost ahead = { λ s. R.ahead s.now };
 
@@ -64,7 +75,7 @@ impl<'a, R: Source> Source for &'a mut R {
     }
 }
 
-/// A source over a slice. It tells its bytes, and no read of it fails.
+/// A source over a slice of bytes. Contracts know its bytes, and no read of it fails.
 ///
 /// ```
 /// let source = Bytes::new(b"HOST=db.local\n");
@@ -83,7 +94,7 @@ impl<'a> std::marker::Model for Bytes<'a> {
 }
 
 impl<'a> Bytes<'a> {
-    /// A source of these bytes, from the first.
+    /// A source of these bytes, from the first one on.
     pub fn new(bytes: &'a [u8]) -> Bytes<'a>
         ensures { result ≡ bytes.now }
     {
@@ -103,7 +114,7 @@ impl<'a> Source for Bytes<'a> {
     }
 }
 
-/// A source over any reader of std, which tells nothing ahead, and a sink over any writer of std, which holds what
+/// A source over any reader of std, whose bytes are not specified, and a sink over any writer of std, which holds what
 /// that writer holds.
 ///
 /// ```
@@ -116,7 +127,7 @@ pub struct Plain<T> {
 }
 
 impl<T> Plain<T> {
-    /// Over this reader or writer. No write has failed yet.
+    /// Wraps this reader or writer. No write has failed yet.
     pub fn new(inner: T) -> Plain<T>
         ensures inner { plain_inner result ≡ inner }
         ensures fresh { plain_fault result ≡ None }
@@ -127,7 +138,7 @@ impl<T> Plain<T> {
         }
     }
 
-    /// Gives the reader or writer back, as the calls left it.
+    /// Returns the reader or writer, as the calls left it.
     pub fn into_inner(self) -> T
         ensures { result ≡ plain_inner self }
     {
@@ -143,7 +154,7 @@ impl<T: Read> Source for Plain<T> {
     fn read_some(&mut self, buf: &mut [u8]) -> io::Result<usize>
         ensures bound { IfOk result (λ n. n ≤ length buf.new) }
 
-        // The read is one of the reader's own, and no write.
+        // This is one read of the reader, and no write.
         ensures inner { ReadConsumes (T.remaining (plain_inner self.old))
             (T.remaining (plain_inner self.new)) result buf.new }
         ensures writes { plain_fault self.new ≡ plain_fault self.old }
@@ -164,7 +175,7 @@ impl<T: Write> Sink for Plain<T> {
     }
 }
 
-// The kind of the last fault of a write, after one more write.
+// The kind of the last write error, after one more write.
 fn fault_after(
     last_fault: Option<ErrorKind>,
     buf: &[u8],
