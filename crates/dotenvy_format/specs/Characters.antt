@@ -1,4 +1,4 @@
--- The characters that the format names, and its classes of characters. A text is a list of Unicode scalar values, which are called codes here.
+-- The characters that the format names, and its classes of characters. A character is its Unicode scalar value, a text a list of these.
 use Rattle.std.specs.Prelude.{
   ℕ,
   Bool,
@@ -75,23 +75,23 @@ is_blank c = is_whitespace c && not (c == line_feed || c == carriage_return)
 abbrev pub is_quote : ℕ → Bool
 is_quote c = c == single_quote || c == double_quote
 
--- what ends a value outside quotes
+-- a space or a tab, which ends a value outside quotes
 abbrev pub is_space_or_tab : ℕ → Bool
 is_space_or_tab c = c == space || c == tab
 
--- a key's first character
+-- a character that may begin a key
 abbrev pub begins_key : ℕ → Bool
 begins_key c = is_ascii_alphabetic c || c == underscore
 
--- a later character of a key
+-- a character that may follow in a key
 abbrev pub continues_key : ℕ → Bool
 continues_key c = (begins_key c || is_ascii_digit c) || c == full_stop
 
--- a general category of numbers: decimal digits (Nd), letters (Nl) and others (No), which have the numbers 8, 9 and 10 in the tables
+-- the number of a general category of numbers: 8 is Nd (decimal digits), 9 is Nl (letters), 10 is No (others)
 abbrev pub is_number_category : ℕ → Bool
 is_number_category n = nat_le 8 n && nat_le n 10
 
--- a bare name, which is a name after a dollar without braces, may hold `_`
+-- a bare name (one after a dollar, without braces) may have `_` in this dialect
 abbrev pub allows_underscore : Dialect → Bool
 allows_underscore V15 = false
 allows_underscore Next = true
@@ -107,11 +107,11 @@ abbrev pub begins_with : ℕ → List ℕ → Bool
 begins_with c [] = false
 begins_with c (d ∷ cs) = d == c
 
--- nothing, or a comment
+-- the text is empty, or is a comment: it begins with `#`
 abbrev pub is_empty_or_comment : List ℕ → Bool
 is_empty_or_comment [] = true
 is_empty_or_comment (c ∷ cs) = c == hash
 
--- how many bytes the text takes in UTF-8
+-- the length of the text in bytes, as UTF-8
 abbrev pub byte_len : List ℕ → ℕ
 byte_len text = length (encode_utf8_all text)

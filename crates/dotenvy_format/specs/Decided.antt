@@ -1,4 +1,4 @@
--- What is decided of bytes whose end was not reached: the logical lines up to the last line feed, but for one that stays open.
+-- What the first bytes of a file decide, whatever follows: the logical lines up to the last line feed, except one left open.
 use Rattle.std.specs.Prelude.{ℕ, ◌==◌, List, [], ◌∷◌, if◌then◌else◌}
 use Rattle.dotenvy_format.specs.declared.dialect.Dialect.{Dialect}
 use Rattle.dotenvy_format.specs.Characters.{line_feed}
@@ -6,12 +6,12 @@ use Rattle.dotenvy_format.specs.LogicalLine.{Logical, Skip, Text, Open, Broken}
 use Rattle.dotenvy_format.specs.PhysicalLines.{line_texts}
 use Rattle.dotenvy_format.specs.Entries.{Entry, AreLogicalLines, GiveAll}
 
--- the text with c put at its front, unless it is empty
+-- the text with c added at its start, or the empty text if it is empty
 abbrev pub before_some : ℕ → List ℕ → List ℕ
 before_some c [] = []
 before_some c (d ∷ cs) = c ∷ d ∷ cs
 
--- the front of the bytes up to and with their last line feed
+-- the bytes up to their last line feed, which is included
 abbrev pub up_to_last_line_feed : List ℕ → List ℕ
 up_to_last_line_feed [] = []
 up_to_last_line_feed (c ∷ cs) =
@@ -25,7 +25,7 @@ without_open_end (Skip ∷ lines) = Skip ∷ without_open_end lines
 without_open_end (Text text ∷ lines) = Text text ∷ without_open_end lines
 without_open_end (Broken ∷ lines) = Broken ∷ without_open_end lines
 
--- these entries of the bytes are decided, whatever follows the bytes
+-- the bytes decide these entries, whatever follows them
 pub record HasDecided (dialect : Dialect) (bytes : List ℕ) (entries : List Entry) : Type 0 where
   pub lines : List Logical
   pub are_lines : AreLogicalLines (line_texts (up_to_last_line_feed bytes)) lines

@@ -1,4 +1,4 @@
--- Meanings of pieces, and the items of entries under one environment.
+-- What pieces mean, and the items of entries: keys with their values, under one environment.
 use Rattle.std.specs.Prelude.{
   ℕ,
   List,
@@ -37,7 +37,7 @@ meaning look_up [] = []
 meaning look_up (Text text ∷ pieces) = text ++ meaning look_up pieces
 meaning look_up (Name name ∷ pieces) = text_of look_up name ++ meaning look_up pieces
 
--- the value of the first pair with this key
+-- the look-up in a list of pairs, where the first pair with a key counts
 abbrev pub first_value : List (List ℕ × List ℕ) → LookUp
 first_value [] name = None
 first_value ((key, value) ∷ pairs) name =
@@ -51,7 +51,7 @@ or_else first second name = option_or (first name) (second name)
 abbrev pub with_value : LookUp → List ℕ → List ℕ → LookUp
 with_value look_up key value name = if bytes_eq key name then Some value else look_up name
 
--- the items of entries; a name means the environment's value, else that of the last earlier declaration
+-- the items of entries; a name means its value in the environment, or else that of the last earlier declaration
 abbrev pub items_from : LookUp → LookUp → List Entry → List (Result (List ℕ × List ℕ) Failure)
 items_from env earlier [] = []
 items_from env earlier (Declares key pieces ∷ entries) =
@@ -59,6 +59,6 @@ items_from env earlier (Declares key pieces ∷ entries) =
     Ok (key, value) ∷ items_from env (with_value earlier key value) entries
 items_from env earlier (Fails failure ∷ entries) = Err failure ∷ items_from env earlier entries
 
--- the items of entries under one environment
+-- the items of entries under one environment, from the first entry on
 abbrev pub items : LookUp → List Entry → List (Result (List ℕ × List ℕ) Failure)
 items env entries = items_from env no_values entries

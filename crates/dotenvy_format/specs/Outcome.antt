@@ -7,31 +7,31 @@ use Rattle.dotenvy_format.specs.Statement.{IsStatement}
 use Rattle.dotenvy_format.specs.Value.{Piece, IsValue}
 use Rattle.dotenvy_format.specs.Places.{BeginsStatement, BeginsValue, IsPlace}
 
--- nothing; a key, and the pieces of its value; or a fault, with its text and its index
+-- what a line says: nothing; a key with the pieces of its value; or a fault, with its text and its index
 pub data Outcome : Type 0 where
   Nothing : Outcome
   Pair : List ℕ → List Piece → Outcome
   Fault : List ℕ → ℕ → Outcome
 
--- the line without the white space at its end
+-- the line without white space at its end
 abbrev pub trimmed : List ℕ → List ℕ
 trimmed line = drop_trailing_whitespace line
 
--- the line is empty or a comment, after white space
+-- the line is empty or a comment, white space aside
 abbrev pub is_nothing : List ℕ → Bool
 is_nothing line = is_empty_or_comment (skip_leading_whitespace line)
 
--- what is assigned is nothing, a comment or a value
+-- this may be assigned, and means these pieces: nothing or a comment means none, a value means its own
 abbrev pub Assigns : Dialect → List ℕ → List Piece → Type 0
 Assigns dialect rest pieces =
     (IsTrue (is_empty_or_comment rest) × (pieces ≡ []))
     ⊎ (IsTrue (not (is_empty_or_comment rest)) × IsValue dialect rest pieces)
 
--- a place in a value counts its characters; where the value only lacks its end, it is the number of its bytes less one
+-- the index of a fault in a value: its place in characters, but if only the end is missing, the length in bytes less one
 abbrev pub value_index : List ℕ → ℕ → ℕ
 value_index rest place = if place == length rest then byte_len rest - 1 else place
 
--- the line is no statement: this is the line, and the index in bytes after the longest front that begins one
+-- the line is not a statement: the fault has the whole line, and its place in bytes
 pub record HasNoStatement (line text : List ℕ) (index : ℕ) : Type 0 where
   pub none : (key rest : List ℕ) → ¬ (IsStatement (trimmed line) key rest)
   pub place : ℕ
@@ -39,7 +39,7 @@ pub record HasNoStatement (line text : List ℕ) (index : ℕ) : Type 0 where
   pub line_is : text ≡ line
   pub index_is : index ≡ byte_len (take place (trimmed line))
 
--- what is assigned is no value; the index is that of its longest front that begins one
+-- the text that is assigned is not a value, and the fault has this index
 pub record HasNoValue (dialect : Dialect) (text : List ℕ) (index : ℕ) : Type 0 where
   pub assigned : IsTrue (not (is_empty_or_comment text))
   pub none : (pieces : List Piece) → ¬ (IsValue dialect text pieces)
@@ -47,7 +47,7 @@ pub record HasNoValue (dialect : Dialect) (text : List ℕ) (index : ℕ) : Type
   pub is_place : IsPlace (BeginsValue dialect) text place
   pub index_is : index ≡ value_index text place
 
--- the line says this, once the white space at its end is off
+-- the line says this, after white space at its end is cut off
 abbrev pub Says : Dialect → List ℕ → Outcome → Type 0
 Says dialect line Nothing = IsTrue (is_nothing (trimmed line))
 Says dialect line (Pair key pieces) =

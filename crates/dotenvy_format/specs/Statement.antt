@@ -1,15 +1,15 @@
--- Statements: white space, `export` where it is a prefix, a key, `=` and what is assigned, with white space round the `=`.
+-- Statements: an optional `export`, a key, `=`, and what is assigned, with white space around each of these.
 use Rattle.std.specs.Prelude.{◌≡◌, ◌⊎◌, ℕ, Bool, false, not, ◌&&◌, List, [], ◌∷◌, ◌++◌, codes, IsTrue}
 use Rattle.std.specs.Char.{is_whitespace}
 use Rattle.std.specs.List.{list_all}
 use Rattle.dotenvy_format.specs.Characters.{equals_sign}
 use Rattle.dotenvy_format.specs.Keys.{is_key}
 
--- the text has white space alone
+-- the text is all white space
 abbrev pub is_white_space : List ℕ → Bool
 is_white_space text = list_all is_whitespace text
 
--- nothing, or `export` and at least one white space
+-- the text is empty, or is `export` and at least one white space character
 abbrev pub IsPrefix : List ℕ → Type 0
 IsPrefix prefix =
     (prefix ≡ [])
@@ -21,7 +21,7 @@ abbrev pub begins_with_white_space : List ℕ → Bool
 begins_with_white_space [] = false
 begins_with_white_space (c ∷ cs) = is_whitespace c
 
--- the line assigns the rest to the key
+-- the line is a statement, which assigns the rest to the key
 pub record IsStatement (line key rest : List ℕ) : Type 0 where
   pub indent : List ℕ
   pub prefix : List ℕ

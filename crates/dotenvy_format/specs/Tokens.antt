@@ -1,14 +1,14 @@
--- The tokens of a logical line. A token is a whole piece of text.
+-- The tokens of a logical line. The splitter takes each token as a whole.
 use Rattle.std.specs.Prelude.{ℕ, Bool, true, false, not, ◌||◌, ◌==◌, List, [], ◌∷◌, ◌++◌, IsTrue}
 use Rattle.std.specs.List.{flat_map, list_all}
 use Rattle.dotenvy_format.specs.Characters.{is_blank, is_quote, line_feed, backslash, hash}
 
--- what may stand between quotes: one character, or a backslash and the one after it
+-- one item between quotes: a single character, or a backslash with the character after it
 pub data QuotedCharacter : Type 0 where
   one : ℕ → QuotedCharacter
   pair : ℕ → QuotedCharacter
 
--- a character; a backslash and one more; a quote, what it encloses, and the quote again; a blank and one more; a blank alone
+-- a token: one character; a backslash and a character; a quoted part; a blank and a character; or a blank alone
 pub data Token : Type 0 where
   plain : ℕ → Token
   backslash_pair : ℕ → Token
@@ -16,7 +16,7 @@ pub data Token : Type 0 where
   blank_pair : ℕ → ℕ → Token
   blank : ℕ → Token
 
--- the text of what stands between quotes
+-- the text of one item between quotes
 abbrev pub quoted_text : QuotedCharacter → List ℕ
 quoted_text (one c) = c ∷ []
 quoted_text (pair c) = backslash ∷ c ∷ []
@@ -33,21 +33,21 @@ token_text (blank b) = b ∷ []
 abbrev pub tokens_text : List Token → List ℕ
 tokens_text tokens = flat_map token_text tokens
 
--- it may stand between these quotes: a character other than the quote and a backslash, or a backslash and any character
+-- this may be between these quotes: a character other than the quote and the backslash, or a backslash and any character
 abbrev pub is_quoted : ℕ → QuotedCharacter → Bool
 is_quoted quote (one c) = not (c == quote || c == backslash)
 is_quoted quote (pair c) = true
 
--- backslash, quotes and line feed, before which a blank stands alone
+-- a backslash, a quote or a line feed: a blank before one of these is a token by itself
 abbrev pub stands_for_itself : ℕ → Bool
 stands_for_itself c = (c == backslash || is_quote c) || c == line_feed
 
--- such a character stands next
+-- the text begins with a backslash, a quote or a line feed
 abbrev pub is_before_break : List ℕ → Bool
 is_before_break [] = false
 is_before_break (c ∷ cs) = stands_for_itself c
 
--- the token may stand where this text follows; no line feed is outside quotes
+-- this may be a token before this text; no token has a line feed outside quotes
 abbrev pub IsToken : Token → List ℕ → Type 0
 IsToken (plain c) after = IsTrue (not (is_blank c || stands_for_itself c))
 IsToken (backslash_pair c) after = IsTrue (not (c == line_feed))
@@ -57,7 +57,7 @@ IsToken (blank_pair b c) after =
     IsTrue (is_blank b) × IsTrue (not (c == hash || stands_for_itself c))
 IsToken (blank b) after = IsTrue (is_blank b) × IsTrue (is_before_break after)
 
--- the tokens may stand in a row where this text follows
+-- these may be tokens in a row, before this text
 abbrev pub AreTokens : List Token → List ℕ → Type 0
 AreTokens [] after = Unit {0}
 AreTokens (token ∷ tokens) after =

@@ -1,4 +1,4 @@
--- Values, and the pieces that they mean.
+-- Values: what may be assigned to a key, and the pieces that it means.
 use Rattle.std.specs.Prelude.{
   ◌≡◌,
   ℕ,
@@ -34,12 +34,12 @@ use Rattle.dotenvy_format.specs.Characters.{
   right_brace,
 }
 
--- what a part of a value gives: this text, or what a name stands for
+-- a piece of what a value means: a text, or a name, which is replaced by what it stands for
 pub data Piece : Type 0 where
   Text : List ℕ → Piece
   Name : List ℕ → Piece
 
--- a character; a backslash and a character; `${name}`; `$name` and the character that ends it; `$name` before a character that it leaves to what follows
+-- a part: a character; a backslash and a character; `${name}`; `$name` and the character that ends it; or `$name` alone
 pub data Part : Type 0 where
   plain : ℕ → Part
   escape : ℕ → Part
@@ -47,18 +47,18 @@ pub data Part : Type 0 where
   bare : List ℕ → ℕ → Part
   bare_before : List ℕ → Part
 
--- where a part stands: outside quotes, or between double quotes
+-- where a part is: outside quotes, or between double quotes
 pub data Quoting : Type 0 where
   unquoted : Quoting
   double_quoted : Quoting
 
--- a part outside quotes; a text in single quotes; or parts in double quotes
+-- a segment of a value: a part outside quotes; a text in single quotes; or parts in double quotes
 pub data Segment : Type 0 where
   unquoted_part : Part → Segment
   single : List ℕ → Segment
   double : List Part → Segment
 
--- what may stand at a value's end: nothing; a backslash; `$name`; or a tail, which is a space or tab, more of them, and a comment, if any
+-- the end of a value: nothing; a backslash; `$name`; or a space or tab, more of these, and perhaps a comment
 pub data Close : Type 0 where
   nothing : Close
   lone_backslash : Close
@@ -87,18 +87,18 @@ segment_text (double inner) = double_quote ∷ (parts_text inner ++ double_quote
 abbrev pub segments_text : List Segment → List ℕ
 segments_text segments = flat_map segment_text segments
 
--- the text of what stands at the end
+-- the text of the end of a value
 abbrev pub close_text : Close → List ℕ
 close_text nothing = []
 close_text lone_backslash = backslash ∷ []
 close_text (bare_name name) = dollar ∷ name
 close_text (tail blank blanks comment) = blank ∷ (blanks ++ comment)
 
--- the character that an escape means: a line feed for `n`, and else itself
+-- what a backslash and this character mean: a line feed for `n`, otherwise the character itself
 abbrev pub escape_meaning : ℕ → ℕ
 escape_meaning c = if c == letter_n then line_feed else c
 
--- what a part means
+-- the pieces that a part means
 abbrev pub part_pieces : Part → List Piece
 part_pieces (plain c) = Text (c ∷ []) ∷ []
 part_pieces (escape c) = Text (escape_meaning c ∷ []) ∷ []
@@ -106,13 +106,13 @@ part_pieces (braced name) = Name name ∷ []
 part_pieces (bare name c) = Name name ∷ Text (c ∷ []) ∷ []
 part_pieces (bare_before name) = Name name ∷ []
 
--- what a segment means
+-- the pieces that a segment means
 abbrev pub segment_pieces : Segment → List Piece
 segment_pieces (unquoted_part p) = part_pieces p
 segment_pieces (single inner) = Text inner ∷ []
 segment_pieces (double inner) = flat_map part_pieces inner
 
--- what stands at the end means a name, or nothing
+-- the pieces that the end of a value means: a name, or nothing
 abbrev pub close_pieces : Close → List Piece
 close_pieces nothing = []
 close_pieces lone_backslash = []
@@ -130,41 +130,41 @@ is_plain_outside c =
     ((((c == backslash || c == single_quote) || c == double_quote) || c == dollar)
     || is_space_or_tab c)
 
--- backslash, quotes, dollar, space and `n`
+-- a character that may follow a backslash: a backslash, a quote, a dollar, a space or `n`
 abbrev pub is_escape : ℕ → Bool
 is_escape c =
     ((((c == backslash || c == single_quote) || c == double_quote) || c == dollar) || c == space)
     || c == letter_n
 
--- a character that means itself there
+-- a character that means itself, outside quotes or inside double quotes
 abbrev pub is_plain : Quoting → ℕ → Bool
 is_plain double_quoted c = is_plain_inside c
 is_plain unquoted c = is_plain_outside c
 
--- a bare name may stand right before the closing double quote
+-- a bare name may be right before the closing double quote, in this dialect
 abbrev pub closes_after_name : Dialect → Quoting → Bool
 closes_after_name V15 quoting = false
 closes_after_name Next unquoted = false
 closes_after_name Next double_quoted = true
 
--- a bare name leaves this character to what follows: it begins another name, or closes the quotes
+-- this character ends a bare name and is not its text: it begins another name, or closes the quotes
 abbrev pub is_left_by_name : Dialect → Quoting → ℕ → Bool
 is_left_by_name dialect quoting c =
     c == dollar || (closes_after_name dialect quoting && c == double_quote)
 
--- such a character stands next
+-- the text begins with a character that ends a bare name and is not its text
 abbrev pub is_before_left : Dialect → Quoting → List ℕ → Bool
 is_before_left dialect quoting [] = false
 is_before_left dialect quoting (c ∷ cs) = is_left_by_name dialect quoting c
 
--- this character ends the bare name before it, and means itself; a brace after the dollar would begin a braced name
+-- this character ends the bare name and means itself; after an empty name, `{` would begin a braced name instead
 abbrev pub ends_name : Dialect → Quoting → List ℕ → ℕ → Bool
 ends_name dialect quoting [] c =
     not ((is_name_character dialect c || is_left_by_name dialect quoting c) || c == left_brace)
 ends_name dialect quoting (d ∷ name) c =
     not (is_name_character dialect c || is_left_by_name dialect quoting c)
 
--- the part may stand there, where this text follows
+-- this may be a part here, before this text
 abbrev pub IsPart : Dialect → Quoting → Part → List ℕ → Type 0
 IsPart dialect quoting (plain c) after = IsTrue (is_plain quoting c)
 IsPart dialect quoting (escape c) after = IsTrue (is_escape c)
@@ -175,25 +175,25 @@ IsPart dialect quoting (bare_before name) after =
     IsTrue (list_all (is_name_character dialect) name)
     × IsTrue (is_before_left dialect quoting after)
 
--- the parts may stand there in a row, where this text follows
+-- these may be parts in a row here, before this text
 abbrev pub AreParts : Dialect → Quoting → List Part → List ℕ → Type 0
 AreParts dialect quoting [] after = Unit {0}
 AreParts dialect quoting (p ∷ parts) after =
     IsPart dialect quoting p (parts_text parts ++ after) × AreParts dialect quoting parts after
 
--- the segment may stand, where this text follows
+-- this may be a segment before this text
 abbrev pub IsSegment : Dialect → Segment → List ℕ → Type 0
 IsSegment dialect (unquoted_part p) after = IsPart dialect unquoted p after
 IsSegment dialect (single inner) after = IsTrue (list_all (λ c. not (c == single_quote)) inner)
 IsSegment dialect (double inner) after = AreParts dialect double_quoted inner (double_quote ∷ after)
 
--- the segments may stand in a row, where this text follows
+-- these may be segments in a row, before this text
 abbrev pub AreSegments : Dialect → List Segment → List ℕ → Type 0
 AreSegments dialect [] after = Unit {0}
 AreSegments dialect (s ∷ segments) after =
     IsSegment dialect s (segments_text segments ++ after) × AreSegments dialect segments after
 
--- this may stand at the end of a value
+-- a value may end so
 abbrev pub IsClose : Dialect → Close → Type 0
 IsClose dialect nothing = Unit {0}
 IsClose dialect lone_backslash = Unit {0}
@@ -202,7 +202,7 @@ IsClose dialect (tail blank blanks comment) =
     IsTrue (is_space_or_tab blank && list_all is_space_or_tab blanks)
     × IsTrue (is_empty_or_comment comment)
 
--- the text is a value, and means these pieces
+-- the text is a value: a row of segments and an end, which mean these pieces
 pub record IsValue (dialect : Dialect) (value : List ℕ) (pieces : List Piece) : Type 0 where
   pub segments : List Segment
   pub close : Close

@@ -1,4 +1,4 @@
--- Worked loads: what iteration and the loads make of files, by examples.
+-- Worked loads: examples of what iteration and the loads make of files.
 use Prim.Native.String.{String}
 use Rattle.std.specs.Prelude.{◌≡◌, ℕ, List, [], ◌∷◌, Some, None, Result, Ok, Err, codes}
 use Rattle.dotenvy_format.specs.declared.dialect.Dialect.TheVariants.{V15}
@@ -12,7 +12,7 @@ use Rattle.dotenvy_format.specs.WorkedFiles.{file, text_piece, name_of, declares
 abbrev pub pair_of : String → String → Result (List ℕ × List ℕ) Failure
 pair_of key text = Ok (codes key, codes text)
 
--- an environment with this name alone
+-- an environment with only this name
 abbrev pub with_only : String → String → LookUp
 with_only name text = with_value no_values (codes name) (codes text)
 
@@ -24,24 +24,24 @@ HasValue loaded name text = loaded.env (codes name) ≡ Some (codes text)
 abbrev pub IsAbsent : Loaded → String → Type 0
 IsAbsent loaded name = loaded.env (codes name) ≡ None
 
--- two values of one name, and a use of it
+-- a file with two values of one name, and a use of it
 abbrev pub two_values : List Entry
 two_values =
     declares "A" (text_piece "1" ∷ []) ∷ declares "A" (text_piece "2" ∷ [])
     ∷ declares "B" (name_of "A" ∷ []) ∷ []
 
--- a value with a NUL between two others
+-- a file with a NUL in the second of three values
 abbrev pub with_nul : List Entry
 with_nul =
     declares "A" (text_piece "1" ∷ [])
     ∷ declares "B" (text_piece "x" ∷ text_piece "\0" ∷ text_piece "y" ∷ [])
     ∷ declares "C" (text_piece "3" ∷ []) ∷ []
 
--- which of two values counts
+-- which of two values of a name counts
 abbrev pub HaveRepeats : Type 0
 HaveRepeats =
     HasEntries V15 (file "A=1\nA=2\nB=$A\n") two_values
-    -- iteration gives both, and a name means the last before it
+    -- iteration gives both, and a name means the last value before it
     × (items no_values two_values ≡ pair_of "A" "1" ∷ pair_of "A" "2" ∷ pair_of "B" "2" ∷ [])
     -- `load` takes the first, and a name means it
     × HasValue (load_result no_values no_values two_values) "A" "1"
@@ -49,14 +49,14 @@ HaveRepeats =
     -- `load_override` takes the last, and a name means the last before it
     × HasValue (override_result no_values no_values two_values) "A" "2"
     × HasValue (override_result no_values no_values two_values) "B" "2"
-    -- over A=0, iteration and `load` mean that value
+    -- if the environment has A=0, a name means that value in iteration and in `load`
     ×
     (items (with_only "A" "0") two_values
     ≡ pair_of "A" "1" ∷ pair_of "A" "2" ∷ pair_of "B" "0" ∷ [])
     × HasValue (load_result (with_only "A" "0") no_values two_values) "A" "0"
     × HasValue (load_result (with_only "A" "0") no_values two_values) "B" "0"
     × HasValue (override_result (with_only "A" "0") no_values two_values) "B" "2"
-    -- what is remembered counts last
+    -- a remembered value counts if there is no other
     × HasValue (load_result no_values (with_only "A" "1") (declares "C" (name_of "A" ∷ []) ∷ []))
     "C" "1"
     × IsAbsent (load_result no_values (with_only "A" "1") (declares "C" (name_of "A" ∷ []) ∷ []))

@@ -1,4 +1,5 @@
-// Classes of characters.
+//! Classes of characters (docs/GRAMMAR.md, "Characters" and "Keys").
+
 ghost use Rattle.std.specs.Prelude.{◌≡◌};
 ghost use Rattle.unicode.specs.GeneralCategory.{general_category, general_category_number};
 ghost use Rattle.dotenvy_format.specs.Characters.{allows_underscore, begins_key, continues_key, is_blank, is_name_character, is_number_category};
@@ -6,28 +7,28 @@ ghost use Rattle.dotenvy_format.specs.Characters.{allows_underscore, begins_key,
 use crate::dialect::Dialect;
 use unicode::properties::{GeneralCategory, is_alphabetic};
 
-/// The first character of a key.
+/// Whether a key may begin with this character: an ASCII letter or `_`.
 pub fn begins_key(character: char) -> bool
     ensures { result ≡ begins_key character }
 {
     character.is_ascii_alphabetic() || character == '_'
 }
 
-/// A character of a key past its first.
+/// Whether a key may go on with this character: an ASCII letter or digit, `_` or `.`.
 pub fn continues_key(character: char) -> bool
     ensures { result ≡ continues_key character }
 {
     begins_key(character) || character.is_ascii_digit() || character == '.'
 }
 
-/// White space other than a line feed and a carriage return.
+/// Whether the character is a blank: Unicode white space other than a line feed and a carriage return.
 pub fn is_blank(character: char) -> bool
     ensures { result ≡ is_blank character }
 {
     character.is_whitespace() && character != '\n' && character != '\r'
 }
 
-// A character in a general category of numbers.
+// Whether the character is in a general category of numbers.
 fn is_number(character: char) -> bool
     ensures { result ≡ is_number_category (general_category_number (general_category character)) }
 {
@@ -39,7 +40,7 @@ fn is_number(character: char) -> bool
     )
 }
 
-/// Whether a name after a dollar without braces may hold `_`.
+/// Whether a bare name, which is one after a dollar without braces, may have `_` in this dialect.
 pub fn allows_underscore(dialect: Dialect) -> bool
     ensures { result ≡ allows_underscore dialect }
 {
@@ -49,7 +50,7 @@ pub fn allows_underscore(dialect: Dialect) -> bool
     }
 }
 
-/// A character of a name after a dollar without braces.
+/// Whether a bare name may have this character: alphabetic or a number in Unicode, or `_` in the second dialect.
 #[tactic(auto, unfolding(crate::specs::Characters::is_name_character))]
 pub fn is_name_character(dialect: Dialect, character: char) -> bool
     ensures { result ≡ is_name_character dialect character }

@@ -1,23 +1,24 @@
-//! Laws of the file format: what holds of every file, under both dialects, over its definitions.
+//! Laws of the file format: what holds for every file, in both dialects.
 //!
-//! A law is the contract of a function that does nothing; to call one has no effect. The worked files and loads at the end are
-//! examples of the definitions: docs/GRAMMAR.md has such examples for every rule.
+//! A law is the contract of a function that does nothing: a call of it has no effect. The worked files and loads at the
+//! end are examples of the definitions; docs/GRAMMAR.md has such examples for every rule.
 
 ghost use Rattle.dotenvy_format.specs.Laws.{DecidesFront, HasOneDecision, HasOneMeaning, HasOneNext, HasOneOutcome, HasOneReading, LinesAreCut, LoadKeeps, LoadsInTurn, LoadsTwice, NamesDecideItems, OverridesDeclared, PlacesAreLongest, ReadsBack};
 ghost use Rattle.dotenvy_format.specs.WorkedFiles.{HaveDecisions, HaveDialects, HaveLines, HaveMarks, HaveOpenQuotes, HaveStatements, HaveValues, HaveWritten};
 ghost use Rattle.dotenvy_format.specs.WorkedLoads.{HaveNuls, HaveRepeats};
 
-/// The physical lines of any bytes are cut as physical lines are: each text ends with its line feed, but the last may lack it.
+/// The physical lines of any bytes are cut after line feeds: each text ends with its line feed, but the last may lack
+/// it.
 pub fn lines_are_cut()
     ensures { LinesAreCut }
 {}
 
-/// Physical lines, if there are any, have one next logical line: one number of them makes it, and it is one thing.
+/// Physical lines, if there are any, have one next logical line, made of one number of them.
 pub fn one_next()
     ensures { HasOneNext }
 {}
 
-/// A value means one list of pieces.
+/// A value has one meaning: one list of pieces.
 pub fn one_meaning()
     ensures { HasOneMeaning }
 {}
@@ -27,47 +28,48 @@ pub fn one_outcome()
     ensures { HasOneOutcome }
 {}
 
-/// The place of a fault is that of the longest front: no longer front of the text begins a statement, and of a value no longer one begins a value, in either dialect.
+/// The place of a fault is as far as the text can be completed: no longer first part of it begins a statement, or a value.
 pub fn places_are_longest()
     ensures { PlacesAreLongest }
 {}
 
-/// Any bytes have one list of entries: there is a reading of them, and no other.
+/// Any bytes have one list of entries, and only one.
 pub fn one_reading()
     ensures { HasOneReading }
 {}
 
-/// Bytes whose end was not reached decide one list of entries.
+/// The first bytes of a file decide one list of entries, and only one.
 pub fn one_decision()
     ensures { HasOneDecision }
 {}
 
-/// The entries that bytes decide are the first ones of these bytes and of whatever follows.
+/// The entries that bytes decide are the first entries of these bytes and whatever follows them.
 pub fn decides_front()
     ensures { DecidesFront }
 {}
 
-/// Pairs that were written are read back as themselves, under every environment.
+/// Pairs that are written are read back as the same pairs, under every environment.
 pub fn reads_back()
     ensures { ReadsBack }
 {}
 
-/// To load one entry after another has the effect and the answer of the closed rule: `load` takes the first value of each absent name, and `load_override` the last value of each name, of those before the first fault.
+/// A load of one entry after another comes to this: `load` sets each absent name to its first value, `load_override` each
+/// name to its last, of the values before the first fault.
 pub fn loads_in_turn()
     ensures { LoadsInTurn }
 {}
 
-/// `load` keeps the value of each name that was there.
+/// `load` keeps the value of each name that has one.
 pub fn load_keeps()
     ensures { LoadKeeps }
 {}
 
-/// To `load` the same entries a second time changes nothing, and has the same answer.
+/// To `load` the same entries a second time changes nothing, and returns the same.
 pub fn loads_twice()
     ensures { LoadsTwice }
 {}
 
-/// `load_override` changes no name but those that are declared before its first fault.
+/// `load_override` changes only names that are declared before its first fault.
 pub fn overrides_declared()
     ensures { OverridesDeclared }
 {}
@@ -82,7 +84,7 @@ pub fn worked_lines()
     ensures { HaveLines }
 {}
 
-/// Worked files: keys, `export`, and lines without a statement.
+/// Worked files: keys, `export`, and lines that are not a statement.
 pub fn worked_statements()
     ensures { HaveStatements }
 {}
@@ -112,7 +114,7 @@ pub fn worked_pairs()
     ensures { HaveWritten }
 {}
 
-/// Worked files: what is decided where the end was not reached.
+/// Worked files: what the first bytes of a file decide.
 pub fn worked_decisions()
     ensures { HaveDecisions }
 {}
@@ -122,7 +124,7 @@ pub fn worked_repeats()
     ensures { HaveRepeats }
 {}
 
-/// Worked loads: where a NUL stops one.
+/// Worked loads: where a NUL stops a load.
 pub fn worked_nuls()
     ensures { HaveNuls }
 {}

@@ -1,7 +1,7 @@
-//! What an environment file is: definitions of the format and their laws, and what reads the text of one line.
+//! The format of environment files: its definitions and their laws, and the code that reads the text of one line.
 //!
-//! This crate knows of no environment and of no reader. The library is `dotenvy`, which stands on it and gives on what is
-//! public of it.
+//! This crate knows of no environment and of no reader. Programs use the library `dotenvy`, which re-exports what they
+//! need of it.
 #![tactic(auto)]
 
 pub mod classes;

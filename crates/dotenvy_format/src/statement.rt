@@ -1,4 +1,5 @@
-// A line up to what is assigned: white space, `export` where it is a prefix, a key and `=`.
+//! Reads a line up to what is assigned: an optional `export`, a key and `=` (docs/GRAMMAR.md, "Keys" and "`export`").
+
 ghost use Rattle.std.specs.Prelude.{◌≡◌};
 ghost use Rattle.std.specs.Str.{chars};
 ghost use Rattle.dotenvy_format.specs.Characters.{begins_key};
@@ -11,14 +12,16 @@ use crate::text::{Class, split_first, split_while};
 /// A key and what is assigned to it, as slices of the line.
 #[derive(Clone, Copy)]
 pub struct Statement<'a> {
+    /// The key, without `export` and white space.
     pub key: &'a str,
+    /// What follows `=`, without white space at its start.
     pub rest: &'a str,
 }
 
 // A statement, or what is left of the line at its fault.
 type Parsed<'a> = std::result::Result<Statement<'a>, &'a str>;
 
-// A key's first character stands next.
+// Whether the text begins with a character that may begin a key.
 fn begins_with_key(text: &str) -> bool
     ensures { result ≡ begins_passing begins_key (chars text.now) }
 {
@@ -28,7 +31,7 @@ fn begins_with_key(text: &str) -> bool
     }
 }
 
-// The key that the text begins with, and what follows it and white space.
+// The key that the text begins with, and what follows it, without white space at its start.
 fn split_key(text: &str) -> std::result::Result<(&str, &str), &str>
     ensures { (next : _) → keyed_of result next ≡ key_then (chars text.now) (skipping next) }
 {
@@ -40,7 +43,7 @@ fn split_key(text: &str) -> std::result::Result<(&str, &str), &str>
     }
 }
 
-// What is assigned to the key, where `=` stands next.
+// What is assigned to the key, if what is left begins with `=`.
 fn assigned<'a>(key: &'a str, left: &'a str) -> Option<Statement<'a>>
     ensures { (other : Parsed) →
         assigned_of result other
@@ -56,12 +59,14 @@ fn assigned<'a>(key: &'a str, left: &'a str) -> Option<Statement<'a>>
     })
 }
 
+// A statement with this key, which is not a prefix.
 fn after_key<'a>(key: &'a str, left: &'a str) -> Parsed<'a>
     ensures { parsed_of result ≡ after_plain_key (chars key.now) (chars left.now) }
 {
     assigned(key, left).ok_or(left)
 }
 
+// A statement whose key comes after `export` and white space.
 fn after_prefix(left: &str) -> Parsed<'_>
     ensures { parsed_of result ≡ second_key (chars left.now) }
 {
@@ -69,6 +74,7 @@ fn after_prefix(left: &str) -> Parsed<'_>
     after_key(key, after)
 }
 
+// A statement whose first word is this one: its key, or `export`.
 fn after_first_key<'a>(key: &'a str, left: &'a str) -> Parsed<'a>
     ensures { parsed_of result ≡ after_first_key (chars key.now) (chars left.now) }
 {
@@ -84,7 +90,7 @@ fn after_first_key<'a>(key: &'a str, left: &'a str) -> Parsed<'a>
     }
 }
 
-// A text that begins with no white space.
+// The statement of a text that has no white space at either end.
 fn trimmed_statement(text: &str) -> Parsed<'_>
     ensures { parsed_of result ≡ key_then (chars text.now) (skipping after_first_key) }
 {
@@ -92,7 +98,9 @@ fn trimmed_statement(text: &str) -> Parsed<'_>
     after_first_key(key, after)
 }
 
-/// The statement of a line without white space at its end, or what is left of the line where no statement goes on.
+/// Reads the statement of a line that has no white space at its end. White space at its start is skipped.
+///
+/// The error is the rest of the line, from the first character that is wrong. It is empty if the line stops too early.
 pub fn split_statement(line: &str) -> Parsed<'_>
     ensures { parsed_of result ≡ parse (chars line.now) }
 {

@@ -1,4 +1,5 @@
-// Texts cut at characters.
+//! Cuts texts after runs of characters of one class. Runs are searched by bytes, where that finds the same end.
+
 ghost use Rattle.std.specs.Prelude.{◌≡◌, ◌==◌, ◌++◌, [], not, length, unwrap_or, MatchOption};
 ghost use Rattle.std.specs.Str.{chars, IsUtf8};
 ghost use Rattle.dotenvy_format.specs.Characters.{continues_key, is_space_or_tab, is_empty_or_comment};
@@ -10,25 +11,29 @@ use crate::classes::{allows_underscore, continues_key, is_blank, is_name_charact
 use crate::dialect::Dialect;
 use memchr::{memchr2, memchr3};
 
-/// Where a part of a value stands.
+/// Where a part of a value is.
 #[derive(Clone, Copy)]
 pub enum Quoting {
+    /// Outside quotes.
     Unquoted,
+    /// Between double quotes.
     DoubleQuoted,
 }
 
-/// The classes of characters of which a text takes the longest front.
+/// A class of characters, for the longest run of them at the start of a text.
 #[derive(Clone, Copy)]
 pub enum Class {
-    /// A character of a key past its first.
+    /// A character that may follow in a key.
     Key,
-    /// A character of a name after a dollar without braces.
+    /// A character of a bare name, which is one after a dollar without braces.
     Name(Dialect),
     /// A character of a value that means itself.
     Plain(Quoting),
+    /// A space or a tab.
     SpaceOrTab,
+    /// A double quote.
     DoubleQuote,
-    /// A character that changes nothing outside quotes: no white space, quote or backslash.
+    /// A character that is a token by itself: no blank, line feed, quote or backslash.
     Token,
     /// A character between these quotes that neither ends them nor escapes another.
     Quoted(char),
@@ -37,6 +42,7 @@ pub enum Class {
 impl Class {
     ghost use Rattle.dotenvy_format.specs.inside.Slices.{has_character};
 
+    /// Whether the character is in this class.
     #[inline(always)]
     pub fn contains(self, c: char) -> bool
         ensures { result ≡ has_character self c }
@@ -54,7 +60,7 @@ impl Class {
     }
 }
 
-/// The first character, and what follows it.
+/// The first character of a text, and what follows it; `None` for the empty text.
 #[inline(always)]
 pub fn split_first(text: &str) -> Option<(char, &str)>
     ensures { MatchOption result (text.now ≡ []) (λ p. BeginsWith text.now p.0 p.1.now) }
@@ -64,12 +70,14 @@ pub fn split_first(text: &str) -> Option<(char, &str)>
     Some((first, chars.as_str()))
 }
 
+/// The length of a text in characters. Places of faults in values count so.
 pub fn char_count(text: &str) -> usize
     ensures { result ≡ length (chars text.now) }
 {
     text.chars().count()
 }
 
+/// Whether the text is empty or begins with `#`.
 pub fn is_empty_or_comment(text: &str) -> bool
     ensures { result ≡ is_empty_or_comment (chars text.now) }
 {
@@ -79,24 +87,24 @@ pub fn is_empty_or_comment(text: &str) -> bool
     }
 }
 
-// An ASCII character of a name.
+// Whether the byte is an ASCII character of a bare name.
 fn is_name_byte(dialect: Dialect, byte: u8) -> bool
     ensures { result ≡ is_name_byte dialect byte }
 {
     byte.is_ascii_alphanumeric() || (allows_underscore(dialect) && byte == b'_')
 }
 
-// The byte is a character of a value that means itself outside quotes, or a part of one.
+// The bit for a byte that is a character, or a part of one, which means itself in a value outside quotes.
 const PLAIN: u8 = 1;
 
-// The byte is a character of a token, or a part of one, and begins no blank: those that are not ASCII begin with 0xC2 and
-// with 0xE1 to 0xE3.
+// The bit for a byte that is a character of a token, or a part of one, and with which no blank begins: blanks beyond ASCII
+// begin with 0xC2 and with 0xE1 to 0xE3.
 const TOKEN: u8 = 2;
 
-// The byte is a character of a key past its first.
+// The bit for a byte that is a character which may follow in a key.
 const KEY: u8 = 4;
 
-// What each byte is, of these.
+// The bits of each byte.
 static KINDS: [u8; 256] = [
     3, 3, 3, 3, 3, 3, 3, 3, 3, 0, 1, 1, 1, 3, 3, 3, 3, 3, 3, 3, 3, 3, 3, 3, 3, 3, 3, 3, 3, 3, 3, 3,
     0, 3, 0, 3, 2, 3, 3, 0, 3, 3, 3, 3, 3, 3, 7, 3, 7, 7, 7, 7, 7, 7, 7, 7, 7, 7, 3, 3, 3, 3, 3, 3,
@@ -129,7 +137,7 @@ fn is_key_byte(byte: u8) -> bool
     KINDS[byte as usize] & KEY != 0
 }
 
-// What the table tells of a byte.
+// What the table says of a byte: one of its bits.
 #[derive(Clone, Copy)]
 enum ByteKind {
     Plain,
@@ -164,7 +172,7 @@ fn blanks_end(bytes: &[u8]) -> Option<usize>
     bytes.iter().position(|b| !matches!(*b, b' ' | b'\t'))
 }
 
-// Where a row of one byte ends.
+// Where a row of one byte ends, or `None` if it goes on to the end.
 #[inline(always)]
 fn row_end(bytes: &[u8], byte: u8) -> Option<usize>
     ensures { result ≡ position_from (λ b. not (b == byte)) 0 bytes.now }
@@ -172,7 +180,7 @@ fn row_end(bytes: &[u8], byte: u8) -> Option<usize>
     bytes.iter().position(|b| *b != byte)
 }
 
-/// How many bytes at the front of a text are this one.
+/// How many bytes at the start of a text are this one, in a row.
 #[inline(always)]
 pub fn row_len(text: &str, byte: u8) -> usize
     ensures { result ≡ prefix_len (λ b. b == byte) text.now }
@@ -188,7 +196,7 @@ fn kind_end(bytes: &[u8], kind: ByteKind) -> Option<usize>
     bytes.iter().position(|b| !kind.contains(*b))
 }
 
-// What is left behind the blocks of eight bytes at the front that are all of the kind. A block costs half of what eight
+// What is left after the blocks of eight bytes at the start that are all of the kind. A block costs half of what eight
 // bytes cost one by one.
 #[inline(always)]
 fn pass_blocks(bytes: &[u8], kind: ByteKind) -> &[u8]
@@ -204,7 +212,7 @@ fn pass_blocks(bytes: &[u8], kind: ByteKind) -> &[u8]
     rest
 }
 
-// How many bytes at the front are of the kind.
+// How many bytes at the start are of the kind.
 #[inline(always)]
 fn kind_run(bytes: &[u8], kind: ByteKind) -> usize
     ensures { result ≡ prefix_len (is_of_kind kind) bytes.now }
@@ -213,7 +221,7 @@ fn kind_run(bytes: &[u8], kind: ByteKind) -> usize
     bytes.len() - rest.len() + kind_end(rest, kind).unwrap_or(rest.len())
 }
 
-// Where the bytes end that are passed over without a look at their characters.
+// Where the bytes end that may be skipped without decoding their characters.
 #[inline(always)]
 fn run_end(bytes: &[u8], class: Class) -> Option<usize>
     ensures { unwrap_or result (length bytes.now) ≡ prefix_len (in_run class) bytes.now }
@@ -231,7 +239,7 @@ fn run_end(bytes: &[u8], class: Class) -> Option<usize>
     }
 }
 
-// How many bytes at the front are passed over without a look at their characters, which are all of the class.
+// How many bytes at the start may be skipped without decoding their characters, which are all of the class.
 #[inline(always)]
 fn run_len(text: &str, class: Class) -> usize
     ensures { PassesTo (has_character class) text.now result }
@@ -240,7 +248,7 @@ fn run_len(text: &str, class: Class) -> usize
     run_end(bytes, class).unwrap_or(bytes.len())
 }
 
-/// The longest front of characters of the class, and what follows it.
+/// Cuts a text after the longest run of characters of the class at its start. Either part may be empty.
 #[inline(always)]
 pub fn split_while(text: &str, class: Class) -> (&str, &str)
     ensures bytes { text.now ≡ result.0.now ++ result.1.now }

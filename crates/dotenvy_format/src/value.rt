@@ -1,4 +1,5 @@
-// What is assigned, read piece by piece.
+//! Reads what is assigned, piece by piece (docs/GRAMMAR.md, from "Values" to "Substitution").
+
 ghost use Rattle.std.specs.Prelude.{◌≡◌, ◌<◌, ◌==◌, ◌&&◌, not, [], IsTrue};
 ghost use Rattle.std.specs.List.{prefix_len};
 ghost use Rattle.std.specs.Str.{chars};
@@ -11,11 +12,12 @@ ghost use Rattle.dotenvy_format.specs.inside.NextPiece.{other_quoting, is_empty,
 use crate::dialect::Dialect;
 use crate::text::{Class, Quoting, is_empty_or_comment, row_len, split_first, split_while};
 
-/// What a part of a value means.
+/// What a part of a value means. Several parts may be read as one piece.
 #[derive(Clone, Copy)]
 pub enum Piece<'a> {
+    /// This text.
     Text(&'a str),
-    /// What a name stands for, and the text right after it.
+    /// What the name stands for, and then the text `after`, which is one character or empty.
     Name { name: &'a str, after: &'a str },
 }
 
@@ -23,18 +25,22 @@ pub enum Piece<'a> {
 #[derive(Clone, Copy)]
 pub struct Given<'a> {
     pub piece: Piece<'a>,
+    /// What is left of the value after the piece.
     pub rest: &'a str,
+    /// Whether the rest begins in double quotes.
     pub quoting: Quoting,
 }
 
 /// What comes next in a value.
 #[derive(Clone, Copy)]
 pub enum NextPiece<'a> {
+    /// A piece.
     Piece(Given<'a>),
+    /// The end of the value: nothing is left, or a space or tab and perhaps a comment.
     End,
-    /// The text ends, and the value lacks its end: a quote or a brace is open.
+    /// The text ends, but the value lacks its end: a quote or a brace is open.
     Unfinished,
-    /// No value goes on with what is left.
+    /// A fault: no value goes on with this rest of the text.
     Fault(&'a str),
 }
 
@@ -71,7 +77,7 @@ fn kind_of(quoting: Quoting, c: char) -> Kind
     }
 }
 
-// The character after a bare name is no text of its own: it begins a substitution, or closes the quotes.
+// Whether this character, right after a bare name, is no text: it begins a substitution, or closes the quotes.
 fn is_left_by_name(dialect: Dialect, quoting: Quoting, c: char) -> bool
     ensures { result ≡ is_left_by_name dialect (quoting_of quoting) c }
 {
@@ -97,7 +103,7 @@ fn escaped(c: char) -> Option<&'static str>
     }
 }
 
-// Nothing follows, which is a value's end outside double quotes alone.
+// Nothing is left. Outside double quotes this is the end of the value.
 #[inline(always)]
 fn at_end(text: &str, quoting: Quoting) -> NextPiece<'_>
     requires { text.now ≡ [] }
@@ -113,7 +119,7 @@ fn at_end(text: &str, quoting: Quoting) -> NextPiece<'_>
     }
 }
 
-// What follows a backslash that no other follows.
+// What follows a backslash, if that is not another one.
 #[inline(always)]
 fn escape_one(left: &str, quoting: Quoting) -> NextPiece<'_>
     ensures { (dialect : _) →
@@ -132,7 +138,7 @@ fn escape_one(left: &str, quoting: Quoting) -> NextPiece<'_>
     }
 }
 
-// What follows a backslash that so many others follow: each two of them mean one, and the last of an odd number is left.
+// What follows a backslash, if that is a row of more of them. Each two backslashes mean one, and an odd one is left.
 fn backslashes(left: &str, more: usize, quoting: Quoting) -> NextPiece<'_>
     requires some { 0 < more }
     requires row { more ≡ prefix_len (λ b. b == backslash) left.now }
@@ -257,7 +263,7 @@ fn tail(left: &str) -> NextPiece<'_>
     }
 }
 
-// The longest front of characters that mean themselves.
+// The text up to the first character that does not mean itself.
 fn plain(text: &str, quoting: Quoting) -> NextPiece<'_>
     requires { IsTrue (begins_passing (is_plain (quoting_of quoting)) (chars text.now)) }
     ensures next { (dialect : _) →
@@ -300,7 +306,9 @@ fn double_quote(left: &str, quoting: Quoting) -> NextPiece<'_>
     })
 }
 
-/// The next piece of a value at this place.
+/// Reads the next piece of a value from what is left of it.
+///
+/// Begin outside quotes with the whole value, and go on with the `rest` and `quoting` of each piece.
 #[inline(always)]
 pub fn next_piece(text: &str, quoting: Quoting, dialect: Dialect) -> NextPiece<'_>
     ensures next { NextPieceIs dialect (base (quoting_of quoting)) (chars text.now) result }

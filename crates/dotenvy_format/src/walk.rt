@@ -1,4 +1,5 @@
-// Where the characters of a line lead, from a quote to its end and from a token to the next.
+//! Walks over the characters of a physical line to the end of its logical line (docs/GRAMMAR.md, "Logical lines").
+
 ghost use Rattle.std.specs.Prelude.{◌≡◌, None};
 ghost use Rattle.dotenvy_format.specs.Tokens.{stands_for_itself};
 ghost use Rattle.dotenvy_format.specs.inside.Slices.{begins_passing};
@@ -6,22 +7,29 @@ ghost use Rattle.dotenvy_format.specs.inside.Walk.{leads_outside, leads, PassesR
 
 use crate::text::{Class, split_first, split_while};
 
-// What was read last: a token, a backslash, part of a quoted part, a backslash in it, or a blank.
+/// What the walk is in the middle of.
 #[derive(Clone, Copy, Drop)]
 pub enum LineMode {
+    /// Nothing: outside quotes, after a whole token.
     Outside,
+    /// Outside quotes, after a backslash.
     Escaping,
+    /// A part in these quotes.
     Inside(char),
+    /// A part in these quotes, after a backslash.
     InsideEscaping(char),
+    /// Outside quotes, after a blank, which may begin a comment.
     AfterBlank,
 }
 
+// Whether a blank before this character is a token by itself.
 fn stands_for_itself(c: char) -> bool
     ensures { result ≡ stands_for_itself c }
 {
     matches!(c, '\\' | '\'' | '"' | '\n')
 }
 
+// The mode that a character leads to after a whole token, or `None` if it ends the logical line.
 fn mode_after_token(c: char) -> Option<LineMode>
     ensures { result ≡ leads_outside c }
 {
@@ -34,7 +42,7 @@ fn mode_after_token(c: char) -> Option<LineMode>
     }
 }
 
-// Where a character leads, and `None` where it ends the logical line.
+// The mode that a character leads to, or `None` if it ends the logical line.
 fn next_mode(mode: LineMode, c: char) -> Option<LineMode>
     ensures { result ≡ leads mode c }
 {
@@ -69,15 +77,16 @@ fn next_mode(mode: LineMode, c: char) -> Option<LineMode>
     }
 }
 
-// How far a text leads.
+/// How far a walk came.
 #[derive(Clone, Copy, Drop)]
 pub enum Walked {
+    /// The text is at its end, and the logical line goes on in this mode.
     Going(LineMode),
-    // The character at this byte ends the logical line.
+    /// The logical line ends at this character, a line feed or the `#` of a comment, after so many bytes of the text.
     EndedAt(usize, char),
 }
 
-// What is left of a text behind the longest front of characters that leave the mode as it is.
+// What is left of a text after the longest run of characters that leave the mode unchanged.
 fn pass_class(text: &str, mode: LineMode) -> &str
     ensures { PassesRun mode text.now result.now }
 {
@@ -88,7 +97,7 @@ fn pass_class(text: &str, mode: LineMode) -> &str
     }
 }
 
-// Whether a quote, a backslash or a line feed stands next.
+// Whether the text begins with a quote, a backslash or a line feed.
 #[inline(always)]
 fn next_stands_for_itself(text: &str) -> bool
     ensures { result ≡ begins_passing stands_for_itself text.now }
@@ -99,8 +108,8 @@ fn next_stands_for_itself(text: &str) -> bool
     }
 }
 
-// What is left of a text behind characters at its front that leave the mode as it is. Where a quote or a backslash stands
-// next, as they often do one behind the other, no run is searched.
+// What is left of a text after characters at its start that leave the mode unchanged. Before a quote or a backslash, which
+// often comes right after another one, no run is searched for.
 #[inline(always)]
 fn pass_run(text: &str, mode: LineMode) -> &str
     ensures { PassesRun mode text.now result.now }
@@ -112,6 +121,7 @@ fn pass_run(text: &str, mode: LineMode) -> &str
     }
 }
 
+/// Walks over a text from this mode, to its end or to the end of the logical line.
 pub fn walk_text(text: &str, start: LineMode) -> Walked
     ensures { WalksText start text.now result }
 {

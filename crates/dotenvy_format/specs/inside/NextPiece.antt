@@ -1,4 +1,4 @@
--- What the functions that read a value piece by piece give, by its characters.
+-- What the functions that read a value piece by piece return, said by its characters.
 use Rattle.std.specs.Prelude.{
   ℕ,
   ◌≡◌,
@@ -44,7 +44,7 @@ use Rattle.dotenvy_format.specs.inside.Slices.{quoting_of}
 use Rattle.dotenvy_format.specs.Items.{LookUp, meaning, text_of}
 use Rattle.dotenvy_format.specs.inside.ReadValue.{ValueMode, base, given, read_value, value_reach}
 
--- a double quote changes where the code stands
+-- the other quoting, which a double quote changes to
 abbrev pub other_quoting : Quoting → Quoting
 other_quoting unquoted = double_quoted
 other_quoting double_quoted = unquoted
@@ -54,7 +54,7 @@ abbrev pub is_empty : List ℕ → Bool
 is_empty [] = true
 is_empty (c ∷ cs) = false
 
--- what a character begins
+-- what a character begins, outside quotes or in double quotes
 abbrev pub kind_of : CodeQuoting → ℕ → Kind
 kind_of Unquoted c =
     if c == backslash then Backslash else
@@ -67,19 +67,19 @@ kind_of DoubleQuoted c =
     if c == double_quote then DoubleQuote else
     if c == dollar then Dollar else Plain
 
--- the bytes that a backslash and this character mean
+-- the result is what a backslash and this character mean, or `None` if that is no escape
 abbrev pub Escapes : ℕ → Option (Bor (List ℕ)) → Type 0
 Escapes c result =
     MatchOption result (is_escape c ≡ false)
     (λ text. (is_escape c ≡ true) × (text.now ≡ encode_utf8_all (escape_meaning c ∷ [])))
 
--- the bytes that a piece of the code means
+-- the bytes that a piece, as the code returns it, means
 abbrev pub piece_bytes : LookUp → CodePiece → List ℕ
 piece_bytes look_up (Text text) = text.now
 piece_bytes look_up (Name name after) =
     encode_utf8_all (text_of look_up (chars name.now)) ++ after.now
 
--- reading the text from one mode gives the pieces, and goes on with the rest from another
+-- reading the text from mode m gives these pieces first, and then goes on with the rest from mode n
 pub record IsReadTo (dialect : Dialect) (m : ValueMode) (text : List ℕ) (pieces : List Piece)
     (n : ValueMode) (rest : List ℕ) : Type 0 where
   pub front : List ℕ
@@ -87,7 +87,7 @@ pub record IsReadTo (dialect : Dialect) (m : ValueMode) (text : List ℕ) (piece
   pub reads : read_value dialect text m ≡ given pieces (read_value dialect rest n)
   pub counts : value_reach dialect text m ≡ length front + value_reach dialect rest n
 
--- the piece and where the value goes on, whatever names stand for
+-- the code's piece means the pieces that are read, whatever names stand for, and the value goes on where it says
 pub record GivesPiece (dialect : Dialect) (m : ValueMode) (text : List ℕ) (next : Given)
     : Type 0 where
   pub pieces : List Piece
@@ -97,21 +97,21 @@ pub record GivesPiece (dialect : Dialect) (m : ValueMode) (text : List ℕ) (nex
   pub means : (look_up : LookUp) →
       piece_bytes look_up next.piece ≡ encode_utf8_all (meaning look_up pieces)
 
--- no value goes on with what is left
+-- the text is no value: it can be completed up to what is left, and no further
 pub record StopsAt (dialect : Dialect) (m : ValueMode) (text left : List ℕ) : Type 0 where
   pub front : List ℕ
   pub spelled : text ≡ front ++ left
   pub reads : read_value dialect text m ≡ None
   pub counts : value_reach dialect text m ≡ length front
 
--- the end of the value, a piece, the end of a text that lacks the end of its value, or what is left at a fault
+-- what comes next is this: the end of the value, a piece, the end of a text that lacks the end of its value, or a fault
 abbrev pub NextPieceIs : (dialect : Dialect) (m : ValueMode) (text : List ℕ) → NextPiece → Type 0
 NextPieceIs dialect m text End = read_value dialect text m ≡ Some []
 NextPieceIs dialect m text (GivesNext next) = GivesPiece dialect m text next
 NextPieceIs dialect m text Unfinished = StopsAt dialect m text []
 NextPieceIs dialect m text (Fault left) = StopsAt dialect m text (chars left.now)
 
--- a piece leaves fewer characters
+-- after a piece, fewer characters are left than in the text
 abbrev pub IsShorter : List ℕ → NextPiece → Type 0
 IsShorter text End = Unit {0}
 IsShorter text (GivesNext next) = length (chars next.rest.now) < length text

@@ -1,4 +1,4 @@
--- A value read from left to right, character by character. The tests are `elim`, since `if` would read on from both answers.
+-- A value read from left to right, character by character. The tests are `elim`, since `if` would compute both cases.
 use Rattle.std.specs.Prelude.{ℕ, suc, Bool, true, false, ◌==◌, List, [], ◌∷◌, ◌++◌, Option, Some, None}
 use Rattle.dotenvy_format.specs.declared.dialect.Dialect.{Dialect}
 use Rattle.dotenvy_format.specs.Characters.{
@@ -24,7 +24,7 @@ use Rattle.dotenvy_format.specs.Value.{
   is_left_by_name,
 }
 
--- what the reader is in the middle of
+-- the mode: what reading is in the middle of
 pub data ValueMode : Type 0 where
   base : Quoting → ValueMode
   escaping : Quoting → ValueMode
@@ -38,21 +38,21 @@ pub data ValueMode : Type 0 where
 abbrev pub ValueReading : Type 0
 ValueReading = Option (List Piece)
 
--- the mode that a character leads to, and the pieces that it completes; `None` where no value goes on with it
+-- the mode that a character leads to, and the pieces that it completes; or `None` if no value goes on so
 abbrev pub ValueStep : Type 0
 ValueStep = Option (ValueMode × List Piece)
 
--- pieces before those that are still read
+-- these pieces, and then those that are read
 abbrev pub given : List Piece → ValueReading → ValueReading
 given pieces None = None
 given pieces (Some more) = Some (pieces ++ more)
 
--- a brace right after the dollar
+-- the character is `{`, right after the dollar
 abbrev pub is_brace_first : List ℕ → ℕ → Bool
 is_brace_first [] c = c == left_brace
 is_brace_first (d ∷ name) c = false
 
--- what the end of the text gives
+-- the pieces that the end of the text completes, or `None` if the value lacks its end
 abbrev pub value_at_end : ValueMode → ValueReading
 value_at_end (base unquoted) = Some []
 value_at_end (escaping unquoted) = Some []
@@ -65,8 +65,7 @@ value_at_end (naming double_quoted name) = None
 value_at_end (bracing q name) = None
 value_at_end (in_single inner) = None
 
--- where a character leads outside quotes, by the first of the tests that it passes: backslash,
--- single quote, double quote, dollar, blank
+-- where a character leads outside quotes; its tests are: backslash, single quote, double quote, dollar, space or tab
 abbrev pub goes_outside : (b s d o t : Bool) → ℕ → ValueStep
 goes_outside true s d o t c = Some (escaping unquoted, [])
 goes_outside false true d o t c = Some (in_single [], [])
@@ -75,22 +74,21 @@ goes_outside false false false true t c = Some (naming unquoted [], [])
 goes_outside false false false false true c = Some (in_tail, [])
 goes_outside false false false false false c = Some (base unquoted, Text (c ∷ []) ∷ [])
 
--- where a character leads in double quotes, by the first of the tests that it passes: backslash,
--- double quote, dollar
+-- where a character leads in double quotes; its tests are: backslash, double quote, dollar
 abbrev pub goes_inside : (b d o : Bool) → ℕ → ValueStep
 goes_inside true d o c = Some (escaping double_quoted, [])
 goes_inside false true o c = Some (base unquoted, [])
 goes_inside false false true c = Some (naming double_quoted [], [])
 goes_inside false false false c = Some (base double_quoted, Text (c ∷ []) ∷ [])
 
--- where a character leads where a part may begin, and the pieces that it completes
+-- where a character leads if a part may begin here
 abbrev pub goes_base : Quoting → ℕ → ValueStep
 goes_base unquoted c =
     goes_outside (c == backslash) (c == single_quote) (c == double_quote) (c == dollar)
     (is_space_or_tab c) c
 goes_base double_quoted c = goes_inside (c == backslash) (c == double_quote) (c == dollar) c
 
--- pieces before those that a step completes
+-- these pieces, and then those that a step completes
 abbrev pub with_pieces : List Piece → ValueStep → ValueStep
 with_pieces pieces None = None
 with_pieces pieces (Some (m, more)) = Some (m, pieces ++ more)
@@ -130,18 +128,18 @@ value_goes dialect in_tail c =
     ]
 value_goes dialect in_comment c = Some (in_comment, [])
 
--- what is read behind a character, with the pieces that it completes before it
+-- what is read after a step: the pieces that the step completes, and then those from its mode on
 abbrev pub read_after : ValueStep → (ValueMode → ValueReading) → ValueReading
 read_after None next = None
 read_after (Some (m, pieces)) next = given pieces (next m)
 
--- what the text gives, read from this mode
+-- the pieces of the text, read from this mode
 abbrev pub read_value : (dialect : Dialect) → List ℕ → ValueMode → ValueReading
 read_value dialect [] mode = value_at_end mode
 read_value dialect (c ∷ cs) mode =
     read_after (value_goes dialect mode c) (λ m. read_value dialect cs m)
 
--- one character more, unless no value goes on with it
+-- one character more than from the next mode, or none if no value goes on with it
 abbrev pub value_reach_after : ValueStep → (ValueMode → ℕ) → ℕ
 value_reach_after None next = 0
 value_reach_after (Some (m, pieces)) next = suc (next m)

@@ -55,12 +55,12 @@ use Rattle.dotenvy_format.specs.Characters.{
 use Rattle.dotenvy_format.specs.Tokens.{stands_for_itself}
 use Rattle.dotenvy_format.specs.Value.{Quoting, unquoted, double_quoted, is_plain, is_plain_outside}
 
--- where the code stands, in the words of the format
+-- the quoting, as the format says it
 abbrev pub quoting_of : CodeQuoting → Quoting
 quoting_of Unquoted = unquoted
 quoting_of DoubleQuoted = double_quoted
 
--- the character is of the class
+-- the character is in this class
 abbrev pub has_character : Class → ℕ → Bool
 has_character Key c = continues_key c
 has_character (Name dialect) c = is_name_character dialect c
@@ -70,22 +70,22 @@ has_character DoubleQuote c = c == double_quote
 has_character Token c = not (is_blank c || stands_for_itself c)
 has_character (Quoted quote) c = not (c == quote || c == backslash)
 
--- an ASCII character of a bare name
+-- the byte is an ASCII character of a bare name
 abbrev pub is_name_byte : Dialect → ℕ → Bool
 is_name_byte dialect b = is_ascii_alphanumeric b || (allows_underscore dialect && b == underscore)
 
--- a byte that is a character of a token, or a part of one, and begins no blank
+-- the byte is a character of a token or a part of one, and no blank begins with it
 abbrev pub is_token_byte : ℕ → Bool
 is_token_byte b = not ((stands_for_itself b || ((nat_le tab b && nat_le b 12) || b == space)) ||
     (b == 0xC2 || (nat_le 0xE1 b && nat_le b 0xE3)))
 
--- the byte is of the kind
+-- the byte is of this kind
 abbrev pub is_of_kind : ByteKind → ℕ → Bool
 is_of_kind PlainByte b = is_plain_outside b
 is_of_kind TokenByte b = is_token_byte b
 is_of_kind KeyByte b = continues_key b
 
--- a byte that begins a character of the class, or goes on with one
+-- a run of this class may go on with this byte; some first bytes of long characters are left out
 abbrev pub in_run : Class → ℕ → Bool
 in_run Key b = continues_key b
 in_run (Name dialect) b = is_name_byte dialect b
@@ -101,24 +101,24 @@ pub record BeginsWith (text : List ℕ) (c : ℕ) (rest : List ℕ) : Type 0 whe
   pub follows : IsUtf8 rest
   pub characters : chars text ≡ c ∷ chars rest
 
--- the first character of a text passes the test
+-- the text has a first character, and it passes the test
 abbrev pub begins_passing : (ℕ → Bool) → List ℕ → Bool
 begins_passing passes [] = false
 begins_passing passes (c ∷ cs) = passes c
 
--- the front is the longest of characters that pass, and the rest follows it
+-- the text is the longest front of characters that pass the test, and the rest
 pub record IsSpan (passes : ℕ → Bool) (text front rest : List ℕ) : Type 0 where
   pub spelled : text ≡ front ++ rest
   pub pass : IsTrue (list_all passes front)
   pub longest : IsTrue (not (begins_passing passes rest))
 
--- the rest follows bytes that pass
+-- the bytes are some that pass the test, and the rest
 pub record PassesBytes (passes : ℕ → Bool) (bytes rest : List ℕ) : Type 0 where
   pub front : List ℕ
   pub spelled : bytes ≡ front ++ rest
   pub pass : IsTrue (list_all passes front)
 
--- the front of this many bytes is a text, and its characters pass
+-- the first `len` bytes are a text whose characters pass the test
 pub record PassesTo (passes : ℕ → Bool) (text : List ℕ) (len : ℕ) : Type 0 where
   pub boundary : IsCharBoundary text len
   pub pass : IsTrue (list_all passes (chars (take len text)))

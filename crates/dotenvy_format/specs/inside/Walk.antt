@@ -1,4 +1,4 @@
--- The splitter as a machine over characters. The contracts of private functions cite it, and proofs/Splitting leads from it to logical lines.
+-- How the splitter walks over characters. The contracts of private functions cite it; proofs/Splitting leads to logical lines.
 use Rattle.std.specs.Prelude.{ℕ, ◌≡◌, ◌≤◌, ◌==◌, List, [], ◌∷◌, ◌++◌, length, take, Option, Some, None, if◌then◌else◌}
 use Rattle.dotenvy_format.specs.declared.walk.LineMode.{LineMode}
 use Rattle.dotenvy_format.specs.declared.walk.LineMode.TheVariants.{
@@ -15,7 +15,7 @@ use Rattle.dotenvy_format.specs.Characters.{is_blank, is_quote, line_feed, backs
 use Rattle.dotenvy_format.specs.Tokens.{stands_for_itself}
 use Rattle.dotenvy_format.specs.LogicalLine.{without_carriage_return}
 
--- where a character leads after a whole token
+-- the mode that a character leads to after a whole token, or `None` if it ends the logical line
 abbrev pub leads_outside : ℕ → Option LineMode
 leads_outside c =
     if c == line_feed then None else
@@ -23,7 +23,7 @@ leads_outside c =
     if is_quote c then Some (Inside c) else
     if is_blank c then Some AfterBlank else Some Outside
 
--- where a character leads, and none where it ends the logical line
+-- the mode that a character leads to, or `None` if it ends the logical line
 abbrev pub leads : LineMode → ℕ → Option LineMode
 leads Outside c = leads_outside c
 leads Escaping c = if c == line_feed then None else Some Outside
@@ -34,26 +34,26 @@ leads (InsideEscaping quote) c = Some (Inside quote)
 leads AfterBlank c =
     if c == hash then None else (if stands_for_itself c then leads_outside c else Some Outside)
 
--- the text that a line keeps, of what stands before the character that ends it
+-- the text that is kept, of what is before the character that ends the line
 abbrev pub kept_before : ℕ → List ℕ → List ℕ
 kept_before c seen = if c == line_feed then without_carriage_return seen else seen
 
--- how far a physical line leads: to a mode, or to an end with the text that is kept
+-- the result of a walk: the mode at the end of the text, or that the line ended, with the text that is kept
 pub data Walk : Type 0 where
   going : LineMode → Walk
   ended : List ℕ → Walk
 
--- a step of the walk: on from where the character leads, or ended with this text
+-- one step of a walk: it goes on from the mode that the character leads to, or the line ended
 abbrev pub walked : Option LineMode → ℕ → List ℕ → (LineMode → Walk) → Walk
 walked None c seen next = ended (kept_before c seen)
 walked (Some m) c seen next = next m
 
--- one physical line, after the text `seen`
+-- the walk over a text that comes after the text `seen`
 abbrev pub walk : LineMode → List ℕ → List ℕ → Walk
 walk m seen [] = going m
 walk m seen (c ∷ cs) = walked (leads m c) c seen (λ n. walk n (seen ++ c ∷ []) cs)
 
--- a walk over the characters of a text's bytes
+-- the result of the code is that of the walk over the text's characters
 abbrev pub WalksText : LineMode → List ℕ → Walked → Type 0
 WalksText m text (Going n) = (seen : List ℕ) → walk m seen (chars text) ≡ going n
 WalksText m text (EndedAt at c) =
@@ -61,7 +61,7 @@ WalksText m text (EndedAt at c) =
     × ((seen : List ℕ) →
     walk m seen (chars text) ≡ ended (kept_before c (seen ++ chars (take at text))))
 
--- the characters at the front of a text leave the mode as it is, and the rest follows them
+-- the text is some characters that leave the mode unchanged, and the rest
 pub record PassesRun (m : LineMode) (text rest : List ℕ) : Type 0 where
   pub front : List ℕ
   pub splits : text ≡ front ++ rest
