@@ -1,4 +1,4 @@
--- How a run ends.
+-- How a run of the program ends.
 use Rattle.std.specs.Prelude.{ℕ, ◌≡◌, Result, Ok, Err}
 use Rattle.dotenvy.specs.Error.{Error}
 use Rattle.dotenvy_command.specs.declared.failure.Failure.{Failure}
@@ -7,13 +7,13 @@ use Rattle.dotenvy_command.specs.Answers.{SaysUsage}
 use Rattle.dotenvy_command.specs.Failures.{IsMemoryFailure}
 use Rattle.dotenvy_command.specs.Words as words
 
--- with this refusal of the words, unless memory was refused
+-- the run ends because the words are refused for this reason, unless an allocation failed
 abbrev pub EndsByUsage : {A : Type 0} → words.Usage → Failure A → Type 0
 EndsByUsage usage (Usage found) = SaysUsage usage found
 EndsByUsage usage (Load error) = ⊥
 EndsByUsage usage (Start fault) = ⊥
 
--- with status 0 or a fault of a load, where P holds of the answer of that load
+-- the run ends with status 0 or an error of a load, and P holds for the result of that load
 abbrev pub EndsAs : {A : Type 0} → (Result (Unit {0}) (Error A) → Type 0) → Result ℕ (Failure A) →
     Type 0
 EndsAs P (Ok status) = (status ≡ 0) × P (Ok tt)
@@ -21,20 +21,20 @@ EndsAs P (Err (Load error)) = P (Err error)
 EndsAs P (Err (Usage usage)) = ⊥
 EndsAs P (Err (Start fault)) = ⊥
 
--- a fault of the words
+-- the error is one of the words
 abbrev pub IsUsage : {A : Type 0} → Failure A → Type 0
 IsUsage (Usage usage) = Unit {0}
 IsUsage (Load error) = ⊥
 IsUsage (Start fault) = ⊥
 
--- memory was refused while the words were read
+-- the run ends because an allocation failed while the words were read
 abbrev pub IsEarly : {A : Type 0} → Result ℕ (Failure A) → Type 0
 IsEarly (Ok status) = ⊥
 IsEarly (Err (Usage usage)) = IsMemoryFailure usage
 IsEarly (Err (Load error)) = ⊥
 IsEarly (Err (Start fault)) = ⊥
 
--- a fault of a load, or of the command
+-- the error is one of a load, or of the command
 abbrev pub IsRunFault : {A : Type 0} → Failure A → Type 0
 IsRunFault (Usage usage) = ⊥
 IsRunFault (Load error) = Unit {0}

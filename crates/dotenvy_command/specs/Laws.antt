@@ -1,8 +1,8 @@
--- A law over the words of the command line.
+-- The law of the words of the command line.
 use Rattle.std.specs.Prelude.{◌≡◌, ℕ, List, Result}
 use Rattle.dotenvy_command.specs.Words.{CommandLine, Usage, HasUsage}
 
--- words have one command line, or one refusal
+-- any words have one answer: a command line, or a reason why they are refused
 abbrev pub HasOneUsage : Type 0
 HasOneUsage =
     (words : List (List ℕ)) → (answer : Result CommandLine Usage) × HasUsage words answer

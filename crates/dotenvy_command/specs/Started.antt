@@ -5,12 +5,12 @@ use Rattle.std.specs.Process.{command_var}
 use Rattle.std.specs.declared.process.command.Command.{Command}
 use Rattle.dotenvy.specs.Environment.{Texts}
 
--- the command sets each of these names to its value, and no other
+-- the command sets each of these names to its value, and no other name
 abbrev pub SetsNames : {A : Type 0} → Texts → Command A → Type 0
 SetsNames names command =
     (name : List ℕ) → command_var command name ≡ option_map Some (fin.get names name)
 
--- the status is that of the command, or 1 where it has none
+-- the status is that of the command, or 1 if it has none
 abbrev pub EndsWith : Option ℤ → ℕ → Type 0
 EndsWith (Some code) status = code ≡ pos status
 EndsWith None status = status ≡ 1

@@ -1,4 +1,4 @@
--- The words of the command line: a row of groups, then one ending.
+-- The words of the command line: groups of options, and then an ending.
 use Rattle.std.specs.Prelude.{
   ◌≡◌,
   ◌≢◌,
@@ -33,7 +33,7 @@ pub data Form : Type 0 where
   short : Form
   long : Form
 
--- a file in the next word, or in the same word after `-f` or `--file=`; or a flag
+-- a group: a file in the next word, or in the same word after `-f` or `--file=`; or a flag
 pub data Group : Type 0 where
   file : Form → List ℕ → Group
   joined_file : List ℕ → Group
@@ -41,14 +41,14 @@ pub data Group : Type 0 where
   list : Group
   next : Group
 
--- nothing; an option that lacks its file; another option, or a command, and the words after it
+-- an ending: nothing; an option without its file; or an unknown option or a command, and the words after it
 pub data WordsEnd : Type 0 where
   nothing : WordsEnd
   missing_file : Form → WordsEnd
   unknown : List ℕ → List (List ℕ) → WordsEnd
   command : List ℕ → List (List ℕ) → WordsEnd
 
--- the word that a file follows
+-- the word before a file
 abbrev pub file_word : Form → List ℕ
 file_word short = codes "-f"
 file_word long = codes "--file"
@@ -72,14 +72,14 @@ ending_words (command word words) = word ∷ words
 abbrev pub is_option : List ℕ → Bool
 is_option word = starts_with nat_eq word (codes "-")
 
--- the word is a group, or begins one
+-- the word is a group, or the first word of one
 abbrev pub begins_group : List ℕ → Bool
 begins_group word =
     ((starts_with nat_eq word (codes "-f") || bytes_eq word (codes "--file"))
     || starts_with nat_eq word (codes "--file="))
     || (bytes_eq word (codes "--list") || bytes_eq word (codes "--next"))
 
--- a group has any file, but one that is joined to `-f` is not empty
+-- a group may have any file, except that a file joined to `-f` is not empty
 abbrev pub IsGroup : Group → Type 0
 IsGroup (file form name) = Unit {0}
 IsGroup (joined_file tail) = tail ≢ []
@@ -92,7 +92,7 @@ abbrev pub AreGroups : List Group → Type 0
 AreGroups [] = Unit {0}
 AreGroups (group ∷ groups) = IsGroup group × AreGroups groups
 
--- this may end the words
+-- words may end so
 abbrev pub IsWordsEnd : WordsEnd → Type 0
 IsWordsEnd nothing = Unit {0}
 IsWordsEnd (missing_file form) = Unit {0}
@@ -105,12 +105,12 @@ pub record AreWords (words : List (List ℕ)) (groups : List Group) (ending : Wo
   pub is_ending : IsWordsEnd ending
   pub spelled : words ≡ flat_map group_words groups ++ ending_words ending
 
--- without one `=` at the front
+-- the text without one `=` at its start
 abbrev pub without_equals : List ℕ → List ℕ
 without_equals [] = []
 without_equals (c ∷ cs) = if c == equals_sign then cs else c ∷ cs
 
--- the file that a group names, if any
+-- the file that a group names, if it names one
 abbrev pub group_files : Group → List (List ℕ)
 group_files (file form name) = name ∷ []
 group_files (joined_file tail) = without_equals tail ∷ []
@@ -126,7 +126,7 @@ is_list (assigned_file name) = false
 is_list list = true
 is_list next = false
 
--- the group asks for the next dialect
+-- the group asks for the second dialect
 abbrev pub is_next : Group → Bool
 is_next (file form name) = false
 is_next (joined_file tail) = false
@@ -156,7 +156,7 @@ command_line groups words = record {
   command = words;
 }
 
--- the command line with one group more
+-- the command line with what one more group asks for
 abbrev pub with_group : CommandLine → Group → CommandLine
 with_group line group = record {
   list = line.list || is_list group;
@@ -165,7 +165,7 @@ with_group line group = record {
   command = line.command;
 }
 
--- the command line, or the refusal
+-- the answer to these groups and this ending: a command line, or why they are refused
 abbrev pub answer_to : List Group → WordsEnd → Result CommandLine Usage
 answer_to groups nothing =
     if list_any is_list groups then Ok (command_line groups []) else Err MissingCommand

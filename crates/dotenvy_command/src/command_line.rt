@@ -1,4 +1,4 @@
-//! What the words of the command line ask for.
+//! Reads the words of the command line (docs/COMMAND.md, "Words").
 
 ghost use Rattle.std.specs.Prelude.{◌≡◌, [], IfOk, OnOk};
 ghost use Rattle.dotenvy_command.specs.Answers.{AnswersWords, line_of, texts};
@@ -12,19 +12,20 @@ use std::alloc::{AllocError, Allocator, Global};
 /// What the words of the command line ask for (docs/COMMAND.md).
 #[derive(Drop)]
 pub struct CommandLine<A: Allocator = Global> {
-    /// Standard input is listed, and no command is started.
+    /// Whether to list standard input. Then no command is started.
     pub list: bool,
-    /// The files that are named, in the order given, each as often as it is named.
+    /// The files that the words name, in their order, each as often as it is named.
     pub files: Vec<String<A>, A>,
-    /// How files and standard input are read.
+    /// How to read files and standard input.
     pub dialect: Dialect,
-    /// The command and its arguments. It is empty only where `list` is set.
+    /// The command and its arguments. This is empty only if `list` is set.
     pub command: Vec<String<A>, A>,
 }
 
-/// What the words say, which are those after the program's name (docs/COMMAND.md).
+/// Reads the words after the program's name (docs/COMMAND.md, "Words").
 ///
-/// `UnknownOption` holds the first word that is no option of the program, though it begins with `-`.
+/// An error is one of the words, or `Memory`. `UnknownOption` has the first word that begins with `-` and is no option of
+/// the program.
 ///
 /// ```
 /// // of the words `-fa --file=b sh -c -x`: the files a and b, and the command sh with -c and -x
@@ -49,7 +50,7 @@ pub fn command_line<A: Allocator + Clone>(
     Ok(line)
 }
 
-/// A group of words before the command: an option, with its file where it has one.
+/// A group of words before the command: an option, with its file if it has one.
 #[derive(Clone, Copy, Drop)]
 enum Group<'a> {
     File(&'a str),
@@ -62,14 +63,14 @@ enum Group<'a> {
 enum Word<'a> {
     /// The word after it is a file.
     BeforeFile,
-    /// A group of its own.
+    /// A whole group.
     Group(Group<'a>),
     Unknown,
     Command,
 }
 
 impl<A: Allocator + Clone> CommandLine<A> {
-    // No words so far.
+    // The command line of no words.
     fn new(alloc: A) -> Result<CommandLine<A>, AllocError>
         ensures { IfOk result (λ line. line_of line ≡ command_line [] []) }
     {
@@ -81,7 +82,7 @@ impl<A: Allocator + Clone> CommandLine<A> {
         })
     }
 
-    // One group more.
+    // Adds what one more group asks for.
     fn add(&mut self, group: Group<'_>) -> Result<(), AllocError>
         ensures { OnOk result ((spelled : WordGroup) → IsGroupOf spelled group.entry
             → line_of self.new ≡ with_group (line_of self.old) spelled) }
@@ -98,7 +99,7 @@ impl<A: Allocator + Clone> CommandLine<A> {
     }
 }
 
-// The group that the words begin with, and the words after it; or `None` where no option comes first.
+// The group that the words begin with, and the words after it; or `None` if no option comes first.
 fn first_group<'a, A: Allocator + Clone>(
     alloc: &A,
     words: &'a [String<A>],
@@ -137,7 +138,7 @@ fn word_of(word: &str) -> Word<'_>
     }
 }
 
-// The file in the same word as its option: behind `--file=`, or behind `-f`, where one `=` may stand between.
+// The file in the same word as its option: after `--file=`, after `-f=`, or after `-f`.
 fn attached_file(word: &str) -> Option<&str>
     ensures { AttachesFile word.now result }
 {
@@ -148,7 +149,7 @@ fn attached_file(word: &str) -> Option<&str>
     Some(without_equals(name))
 }
 
-// The text without one `=` at its front.
+// The text without one `=` at its start.
 fn without_equals(text: &str) -> &str
     ensures { result.now ≡ without_equals text.now }
 {

@@ -1,9 +1,9 @@
-//! Why the program ends with a fault, and what it then prints.
+//! The errors of the program, and what it prints of them (docs/COMMAND.md, "Texts on standard error").
 
 use std::alloc::{AllocError, AllocFailed, Allocator, Global};
 use std::{fmt, io};
 
-/// Why the words of the command line are refused (docs/COMMAND.md).
+/// Why the words of the command line are refused (docs/COMMAND.md, "Words").
 #[derive(Drop)]
 #[derive_where(Debug)]
 pub enum Usage<A: Allocator = Global> {
@@ -11,9 +11,9 @@ pub enum Usage<A: Allocator = Global> {
     MissingCommand,
     /// `-f` or `--file` is the last word, and no file follows it.
     MissingFile,
-    /// This word begins with `-`, stands before the command, and is no option of the program.
+    /// This word is before the command and begins with `-`, but is no option of the program.
     UnknownOption(String<A>),
-    /// Memory was refused.
+    /// An allocation failed.
     Memory(AllocError),
 }
 
@@ -43,15 +43,15 @@ impl<A: Allocator> From<AllocError> for Usage<A> {
     }
 }
 
-/// Why a run ends with a fault (docs/COMMAND.md).
+/// Why a run ends with an error (docs/COMMAND.md, "Statuses").
 #[derive(Drop)]
 #[derive_where(Debug)]
 pub enum Failure<A: Allocator = Global> {
-    /// The words are refused, before anything was read.
+    /// The words are refused. Nothing was read.
     Usage(Usage<A>),
-    /// A file or standard input was not read, or a value not set, or the list not written.
+    /// A file or standard input could not be read, a value could not be set, or the list could not be written.
     Load(dotenvy::Error<A>),
-    /// The command was not started, or its end not seen.
+    /// The command could not be started, or waiting for its end failed.
     Start(io::Error),
 }
 

@@ -1,9 +1,9 @@
-//! Laws over the words of the command line: each function's contract is one.
+//! Laws of the words of the command line. A law is the contract of a function that does nothing.
 
 ghost use Rattle.dotenvy_command.specs.Laws.{HasOneUsage};
 ghost use Rattle.dotenvy_command.specs.WorkedWords.{HaveUsages};
 
-/// Whatever the words are, they ask for one thing, or are refused for one reason.
+/// Any words ask for one thing, or are refused for one reason.
 pub fn one_usage()
     ensures { HasOneUsage }
 {}

@@ -1,4 +1,4 @@
-//! What the program `dotenvy_run` does: it runs a command in the environment that files give it, or lists that environment.
+//! What the program `dotenvy_run` does: it runs a command in the environment that files give, or lists that environment.
 #![tactic(auto)]
 
 pub mod command_line;

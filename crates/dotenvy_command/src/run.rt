@@ -18,31 +18,31 @@ use std::fs::Files;
 use std::path::Path;
 use std::process::Processes;
 
-/// Does what the words ask for, and answers the status to end with (docs/COMMAND.md).
+/// Does what the words ask for, and returns the status to end with (docs/COMMAND.md).
 ///
-/// With `--list` it lists the reader, and reads no file. Else it loads each file that the words name, in order, or
-/// `.env`, over the names of the process, starts the command in that environment, and waits for its end.
+/// With `--list` it lists the reader, and reads no file. Otherwise it adds each file that the words name, in order, or
+/// `.env`, to the environment of the process, starts the command in that environment, and waits for its end.
 ///
-/// Over the three lines `B=2`, `A=1`, `A=3` and the word `--list` it writes `A="1"` and `B="2"`, a line each.
+/// With the word `--list` and a reader of the lines `B=2`, `A=1` and `A=3` it writes the lines `A="1"` and `B="2"`.
 pub fn run<A: Allocator + Clone, R: Files + Env + Processes + Alloc<A = A>, S: Source, W: Sink>(
     rt: &R,
     words: &[String<A>],
     reader: &mut S,
     writer: &mut W,
 ) -> Result<u8, Failure<A>>
-    // Words that are refused are answered so, before anything is read or written.
+    // If the words are refused, so is the run, before anything is read or written.
     ensures usage { (usage : Refusal) → HasUsage (texts words.now) (Err usage)
         → IsErrAnd result (EndsByUsage usage) }
     ensures early { IfErr result
         (λ failure. IsUsage failure → (reader.new ≡ reader.old) × (writer.new ≡ writer.old)) }
 
-    // A list is that of the reader, in the dialect of the words.
+    // A list is that of the reader, in the dialect that the words ask for.
     ensures lists { (line : Line) → HasUsage (texts words.now) (Ok line) → line.list ≡ true
         → IsEarly result
         ⊎ EndsAs (Lists (fresh (S.ahead reader.old) (S.calls reader.old) line.dialect)
         W.held W.last_fault W.calls writer.old writer.new) result }
 
-    // A command leaves the reader and the writer as they were.
+    // A run of a command leaves the reader and the writer unchanged.
     ensures command { (line : Line) → HasUsage (texts words.now) (Ok line) → line.list ≡ false
         → (IsEarly result ⊎ IfErr result IsRunFault)
         × (reader.new ≡ reader.old) × (writer.new ≡ writer.old) }
@@ -69,7 +69,7 @@ fn list<A: Allocator + Clone, S: Source, W: Sink>(
     Ok(0)
 }
 
-// Starts the command of the line in the environment of its files. The line has a command.
+// Starts the command of the line in the environment of its files. The line has to have a command.
 fn run_command<A: Allocator + Clone, R: Files + Env + Processes + Alloc<A = A>>(
     rt: &R,
     line: &CommandLine<A>,
@@ -86,7 +86,7 @@ fn run_command<A: Allocator + Clone, R: Files + Env + Processes + Alloc<A = A>>(
     }
 }
 
-// The names of the process, and over them those of each file, or of `.env`. A name that is there keeps its value.
+// The environment of the process, plus the names of each file, or of `.env`. A name that has a value keeps it.
 fn loaded<A: Allocator + Clone, R: Files + Env + Alloc<A = A>>(
     rt: &R,
     files: &[String<A>],

@@ -10,8 +10,10 @@ use std::alloc::{Alloc, AllocError, Allocator};
 use std::io;
 use std::process::{Command, ExitStatus, Processes};
 
-/// Starts the command with each name of the environment set over what it inherits, and waits. Answers its status, or 1
-/// where a signal ended it.
+/// Starts the command and waits for its end. Returns its status, or 1 if a signal ended it.
+///
+/// The command inherits the environment of the process, with each name of this environment set. The error says that it
+/// could not be started, or that waiting failed.
 pub fn start<A: Allocator + Clone, R: Processes + Alloc<A = A>>(
     rt: &R,
     program: &str,
@@ -23,7 +25,7 @@ pub fn start<A: Allocator + Clone, R: Processes + Alloc<A = A>>(
     Ok(status_number(status))
 }
 
-// The command, with each name of the environment set over what it inherits.
+// The command, to be started with each name of the environment set, beside what it inherits.
 fn command_in<A: Allocator + Clone>(
     alloc: A,
     program: &str,
@@ -44,7 +46,7 @@ fn command_in<A: Allocator + Clone>(
     Ok(command)
 }
 
-// The status that a command ended with, or 1 where it has none.
+// The status that a command ended with, or 1 if it has none.
 fn status_number(status: ExitStatus) -> u8
     ensures { EndsWith (exit_code status) result }
 {
