@@ -71,7 +71,7 @@ pub nil_of : (xs : List ℕ) → length xs ≡ 0 → xs ≡ []
 nil_of [] h = refl
 nil_of (x ∷ xs) h = absurd (omega (arith, h))
 
--- a list that has something has it still with more behind it
+-- a list that has something has it still with more after it
 pub more_some : (xs ys : List ℕ) → xs ≢ [] → xs ++ ys ≢ []
 more_some [] ys h = absurd (h refl)
 more_some (x ∷ xs) ys h = λ e. cc

@@ -37,7 +37,7 @@ below_none name (pair ∷ pairs) h =
     [ Less ↦ λ l. below_none name pairs (right_holds _ _ h) | Equal ↦ λ l. absurd l | Greater ↦ λ l. absurd l ]
     (left_holds _ _ h)
 
--- a value found behind a pair whose name is below all others is found with that pair in front, too
+-- a value found after a pair whose name is below all others is found with that pair in front, too
 found_later : (first : List ℕ × List ℕ) (pairs : List (List ℕ × List ℕ)) (name value : List ℕ) →
     T (below_all (slice_cmp nat_cmp) first.0 pairs) → find (slice_cmp nat_cmp) name pairs ≡ Some value →
     find (slice_cmp nat_cmp) name (first ∷ pairs) ≡ Some value
@@ -82,7 +82,7 @@ first_is_good name value pairs good = and_left (name_ok name) (value_ok value) (
   value,
 )) (list_all pair_ok pairs) good)
 
--- where pairs are good, so are those behind the first
+-- where pairs are good, so are those after the first
 pub others_are_good : (name value : List ℕ) (pairs : List (List ℕ × List ℕ)) → AreGood ((name, value) ∷ pairs) →
     AreGood pairs
 others_are_good name value pairs good = and_right (pair_ok (name, value)) (list_all pair_ok pairs) good

@@ -106,7 +106,7 @@ before_by_place text k h e later =
 abbrev above : List ℕ → List ℕ
 above text = cond (length (before_last is_slash text) == 0) (slash ∷ []) (before_last is_slash text)
 
--- the directory above, but for the empty text and the root
+-- the directory above; there is none above the empty text and the root
 parent_is_part : (text : List ℕ) → text ≢ [] → text ≢ slash ∷ [] → parent_of text ≡ Some (parent_part text)
 parent_is_part [] some other = absurd (some refl)
 parent_is_part (c ∷ []) some other = let no : (c == slash) ≡ false = ne_eqb c slash (λ e. other (ap (λ x. x ∷ []) e)) in

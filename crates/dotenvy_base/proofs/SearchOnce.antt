@@ -53,7 +53,7 @@ use Rattle.dotenvy_base.proofs.Basics.{some_same}
 shorter : (i n : ℕ) → min (2 + n - i - 1) (2 + n) < 2 + n
 shorter i n = omega arith
 
--- what stands above a directory of two characters or more has fewer characters
+-- what is above a directory of two characters or more has fewer characters
 part_shorter : (c d : ℕ) (cs : List ℕ) → length (parent_part (c ∷ d ∷ cs)) < length (c ∷ d ∷ cs)
 part_shorter c d cs = at (list_any is_slash (c ∷ d ∷ cs)) (length (before_last is_slash (c ∷ d ∷ cs)) == 0)
   where
@@ -116,11 +116,11 @@ one_ascent directory (f ∷ h ∷ a) (g ∷ i ∷ b) x y =
     ap (λ d. d ∷ h ∷ a) (x.0 ∙ sym y.0)
     ∙ ap (λ ds. g ∷ ds) (one_ascent h (h ∷ a) (i ∷ b) x.2 (subst (λ d. Ascends d (i ∷ b)) (sym e) y.2))
 
--- some of the candidates are asked in turn, with what stands at each
+-- some of the candidates are asked in turn, with what is at each
 abbrev HasAsked : List (List ℕ) → (ℕ → Look) → Type 0
 HasAsked paths looks = (asked : List (List ℕ × Look)) × AreAsked paths asked × Sees looks asked
 
--- whatever stands at the candidates, some list of them is asked
+-- whatever is at the candidates, some list of them is asked
 asked_exist : (paths : List (List ℕ)) (looks : ℕ → Look) → HasAsked paths looks
 asked_exist [] looks = ([], refl, tt)
 asked_exist (path ∷ paths) looks = at (ends_search (looks 0)) refl (asked_exist paths (λ n. looks (1 + n)))
@@ -129,7 +129,7 @@ asked_exist (path ∷ paths) looks = at (ends_search (looks 0)) refl (asked_exis
     at true e later = ((path, looks 0) ∷ [], (refl, inl (e, refl)), (refl, tt))
     at false e later = ((path, looks 0) ∷ later.0, (refl, inr (ap not e, later.1)), (refl, later.2))
 
--- where the same stands at the candidates, at most one list of them is asked
+-- where the same is at the candidates, at most one list of them is asked
 asked_once : (paths : List (List ℕ)) (looks : ℕ → Look) (a b : List (List ℕ × Look)) → AreAsked paths a →
     AreAsked paths b → Sees looks a → Sees looks b → a ≡ b
 asked_once [] looks a b x y s t = x ∙ sym y
@@ -152,7 +152,7 @@ asked_once (path ∷ paths) looks ((p, l) ∷ a) ((q, m) ∷ b) x y s t =
     at false v e (inr x) (inl y) later = let f : false ≡ true = e ∙ y.0 in cc
     at u v e (inr x) (inr y) later = later x.1 y.1
 
--- whatever stands at the candidates, the search has one answer
+-- whatever is at the candidates, the search has one answer
 pub search_exists : (directory name : List ℕ) (looks : ℕ → Look) →
     (asked : List (List ℕ × Look)) × Searches directory name asked (search_answer asked) × Sees looks asked
 search_exists directory name looks =
@@ -160,7 +160,7 @@ search_exists directory name looks =
     let k = asked_exist (map (λ d. path_in d name) (directory ∷ a.0)) looks in
     (k.0, record { directories = directory ∷ a.0; ascends = a.1; are_asked = k.1; answers = refl }, k.2)
 
--- where the same stands at the candidates, a search asks one list of them and has one answer
+-- where the same is at the candidates, a search asks one list of them and has one answer
 pub one_search : (directory name : List ℕ) (looks : ℕ → Look) (a b : List (List ℕ × Look)) (x y : Answer) →
     Searches directory name a x → Searches directory name b y → Sees looks a → Sees looks b → (b ≡ a) × (y ≡ x)
 one_search directory name looks a b x y s t h k =

@@ -168,7 +168,7 @@ module _ {F : Type 0} (step : LookStep F) (start : F) (directory name : List ℕ
         steps = (after, call, a.steps);
       }
 
-  -- refused memory cuts the search short
+  -- a failed allocation cuts the search short
   pub finds_cut : {A : Type 0} (look : F) (place : List ℕ) (result : Result (PathBuf A) (Error A)) →
       Asking (Some place) look → IsMemoryErr result → Finds step start look directory name result
   finds_cut look place result asking memory =
@@ -183,7 +183,7 @@ module _ {F : Type 0} (step : LookStep F) (start : F) (directory name : List ℕ
         outcome = inl memory;
       }
 
-  -- what stands at a candidate ends the search
+  -- what is at a candidate ends the search
   pub finds_ended : {A : Type 0} (before after : F) (place : List ℕ) (path : Path) (look : Look)
       (result : Result (PathBuf A) (Error A)) →
       Asking (Some place) before → path_bytes path ≡ path_in place name → step before path look after →
@@ -255,14 +255,14 @@ found_among name (d ∷ directories) ((first, Fault fault) ∷ asked) path a h =
     at true x e later = later (went_on false _ _ x refl) e
     at false x e later = cc
 
--- where the answer is no error, memory was not refused
+-- where the answer is no error, no allocation failed
 not_cut : {A Later : Type 0} (path : PathBuf A) (answer : Answer) →
     IsMemoryErr {T = PathBuf A} {A = A} (Ok path) ⊎ (Later × AnswersSearch {A = A} answer (Ok path)) →
     AnswersSearch {A = A} answer (Ok path)
 not_cut path answer (inl memory) = absurd memory
 not_cut path answer (inr x) = x.1
 
--- what `find` answers is the path of the name in some directory
+-- what `find` returns is the path of the name in some directory
 pub finds_a_path : {F A : Type 0} (step : LookStep F) (before after : F) (directory name : List ℕ) (path : PathBuf A) →
     Finds step before after directory name (Ok path) → IsPathOf name (path_buf_bytes path)
 finds_a_path {A} step before after directory name path finds =

@@ -294,7 +294,7 @@ good_pairs-more pairs k v =
     ap (filter pair_ok) (map-append _ pairs ((k, v) ∷ []))
     ∙ filter-append pair_ok (text_entries pairs) ((string_bytes k, string_bytes v) ∷ [])
 
--- a pair that is not good is passed by
+-- a pair that is not good is skipped
 pub pairs-passed_by : {A : Type 0} (names : Texts) (pairs : List (String A × String A)) (k v : String A) →
     names ≡ of_pairs pairs → pair_ok (string_bytes k, string_bytes v) ≡ false →
     names ≡ of_pairs (pairs ++ (k, v) ∷ [])
@@ -311,7 +311,7 @@ good_pairs-good : {A : Type 0} (pairs : List (String A × String A)) (k v : Stri
 good_pairs-good pairs k v good =
     good_pairs-more pairs k v ∙ ap (λ b. good_pairs pairs ++ cond b ((string_bytes k, string_bytes v) ∷ []) []) good
 
--- a good pair of a name that is there is passed by
+-- a good pair of a name that is there is skipped
 pub pairs-again : {A : Type 0} (names : Texts) (pairs : List (String A × String A)) (k v : String A) →
     names ≡ of_pairs pairs → pair_ok (string_bytes k, string_bytes v) ≡ true →
     contains_key names (string_bytes k) ≡ true → names ≡ of_pairs (pairs ++ (k, v) ∷ [])

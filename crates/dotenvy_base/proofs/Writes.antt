@@ -55,7 +55,7 @@ use Rattle.dotenvy_base.specs.Source.{WriteAppends, fault_after}
 use Rattle.dotenvy_base.specs.Output.{Appended, IsFaultOf, IsLastFault, Sends}
 use Rattle.dotenvy_base.proofs.CallLists.{all_of_both, ends_behind}
 
--- what is taken of the bytes behind the first n, as many as are left, is all of those
+-- what is taken of the bytes after the first n, as many as are left, is all of those
 pub slice_rest : (n : ℕ) (xs : List ℕ) → take (length xs - n) (drop n xs) ≡ drop n xs
 slice_rest n xs = take_all (length xs - n) (drop n xs) (omega (arith, length-drop n xs))
 
@@ -79,7 +79,7 @@ pub appended_none : (held : Option (List ℕ)) → Appended held held []
 appended_none None = tt
 appended_none (Some xs) = ap Some (sym (append-nil xs))
 
--- a write that took some bytes appends them behind what was appended
+-- a write that took some bytes appends them after what was appended
 appended_more : (held mid after : Option (List ℕ)) (front rest : List ℕ) (n : ℕ) → Appended held mid front →
     WriteAppends mid after (Ok n) rest →
     Appended held after (front ++ take n rest)
@@ -223,7 +223,7 @@ sends_all held last_fault calls most old new bytes rest count s empty few = reco
   ));
 }
 
--- where no write was left and some bytes were, the call answers a fault of the kind Other
+-- where no write was left and some bytes were, the call returns an error of kind Other
 pub sends_none_left : {A W : Type 0} (held : W → Option (List ℕ)) (last_fault : W → Option ErrorKind) (calls : W →
     Option (List Call)) (most : ℕ) (old new : W) (bytes rest : List ℕ) (count : ℕ) (e : Error) →
     Sending (held old) (held new) (last_fault old) (last_fault new) (calls old) (calls new) bytes rest count →
@@ -289,7 +289,7 @@ sends_fault held last_fault calls most old mid new bytes rest count call e s few
       ));
     }
 
--- where a write failed and was not interrupted, the call answers that fault
+-- where a write failed and was not interrupted, the call returns that error
 pub sends_failed : {A W : Type 0} (held : W → Option (List ℕ)) (last_fault : W → Option ErrorKind) (calls : W →
     Option (List Call)) (most : ℕ) (old mid new : W) (bytes rest : List ℕ) (count : ℕ) (e : Error) →
     Sending (held old) (held mid) (last_fault old) (last_fault mid) (calls old) (calls mid) bytes rest count →

@@ -28,7 +28,7 @@ asks_for words asked line answers is = let says = says_usage words (Ok asked) (O
     ok_is : ◌≡◌ {A = Result CommandLine Usage} (Ok asked) (Ok (line_of line)) → asked ≡ line_of line
     ok_is e = cc
 
--- words that ask for a line are refused for want of memory alone
+-- words that ask for a line are refused only because an allocation failed
 pub only_memory : {A : Type 0} (words : List (List ℕ)) (asked : CommandLine) (usage : Refusal A) →
     AnswersWords {A = A} words (Err usage) → HasUsage words (Ok asked) → IsMemoryFailure usage
 only_memory {A = A} words asked usage answers is = at usage (says_usage words (Ok asked) (Err usage) answers is)

@@ -184,7 +184,7 @@ ends words (word ∷ others) line so_far are listed =
     (ap {A = CommandLine} (λ l. Ok (record l { command = word ∷ others })) (sym so_far.3))
     (ends_by words (word ∷ others) line (command word others) so_far are refl)
 
--- whatever the words are, refused memory may be answered
+-- whatever the words are, a failed allocation may be returned
 pub answers_memory : {A : Type 0} (words : List (List ℕ)) (usage : Usage A) → IsMemoryFailure usage →
     AnswersWords words (Err usage)
 answers_memory {A = A} words (refusal.Memory error) is = let has = usage_exists words in (has.0, has.1, says has.0)

@@ -31,12 +31,12 @@ use Rattle.dotenvy_command.specs.inside.FirstGroup.{IsAlone}
 pub stripped : (front text rest : List ℕ) → StripsPrefix (FindsTextPrefix front) text rest → text ≡ front ++ rest
 stripped front text rest (n, (is_length, joins, boundary), is_rest, fits) = joins ∙ ap (λ t. front ++ t) (sym is_rest)
 
--- a file behind `--file=`
+-- a file after `--file=`
 pub assigned : (text : List ℕ) (name : Bor (List ℕ)) → text ≡ codes "--file=" ++ name.now →
     IsAlone text (found.File name)
 assigned text name is = (assigned_file name.now, tt, ap (λ t. t ∷ []) (sym is), (refl, refl, refl))
 
--- a file behind `-f`
+-- a file after `-f`
 pub joined : (text tail : List ℕ) (name : Bor (List ℕ)) → text ≡ codes "-f" ++ tail →
     without_equals tail ≡ name.now → text ≢ codes "-f" →
     IsAlone text (found.File name)
@@ -46,7 +46,7 @@ joined text tail name is file more =
     some : (tail : List ℕ) → text ≡ codes "-f" ++ tail → IsGroup (joined_file tail)
     some tail is none = more (is ∙ ap (λ t. codes "-f" ++ t) none)
 
--- what stands behind a first `=`, or else the whole text
+-- what is after a first `=`, or else the whole text
 pub behind_equals : (text : Bor (List ℕ)) (rest : Option (Bor (List ℕ))) →
     MatchOption rest ((later : List ℕ) → text.now ≢ equals_sign ∷ later) (λ x. text.now ≡ equals_sign ∷ x.now) →
     (unwrap_or rest text).now ≡ without_equals text.now

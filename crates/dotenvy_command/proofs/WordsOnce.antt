@@ -111,7 +111,7 @@ alone (single group) w = (group ∷ [], nothing)
 alone unknown_option w = ([], unknown w [])
 alone command_word w = ([], command w [])
 
--- what a word gives by its kind before others: `this` is read from the next word on, `after` from behind that
+-- what a word gives by its kind before others: `this` is read from the next word on, `after` from the one after it
 abbrev pub before : Kind → List ℕ → List ℕ → List (List ℕ) → Reading → Reading → Reading
 before (takes_file form) w x ws this after = grouped (file form x) after
 before (single group) w x ws this after = grouped group this
@@ -124,18 +124,18 @@ read [] = ([], nothing)
 read (w ∷ []) = alone (kind w) w
 read (w ∷ x ∷ ws) = before (kind w) w x ws (read (x ∷ ws)) (read ws)
 
--- a word that is a group of its own is read as that group, before what the others give
+-- a word that is a whole group is read as that group, before what the others give
 read_single : (w : List ℕ) (ws : List (List ℕ)) (group : Group) → kind w ≡ single group →
     read (w ∷ ws) ≡ grouped group (read ws)
 read_single w [] group h = ap (λ k. alone k w) h
 read_single w (x ∷ ws) group h = ap (λ k. before k w x ws (read (x ∷ ws)) (read ws)) h
 
--- an option that the program lacks is read as the ending, with the words behind it
+-- an option that the program lacks is read as the ending, with the words after it
 read_unknown : (w : List ℕ) (ws : List (List ℕ)) → kind w ≡ unknown_option → read (w ∷ ws) ≡ ([], unknown w ws)
 read_unknown w [] h = ap (λ k. alone k w) h
 read_unknown w (x ∷ ws) h = ap (λ k. before k w x ws (read (x ∷ ws)) (read ws)) h
 
--- a word that is a command is read as the ending, with the words behind it
+-- a word that is a command is read as the ending, with the words after it
 read_command : (w : List ℕ) (ws : List (List ℕ)) → kind w ≡ command_word → read (w ∷ ws) ≡ ([], command w ws)
 read_command w [] h = ap (λ k. alone k w) h
 read_command w (x ∷ ws) h = ap (λ k. before k w x ws (read (x ∷ ws)) (read ws)) h
@@ -203,7 +203,7 @@ read_ending (missing_file long) is = refl
 read_ending (unknown w ws) is = read_unknown w ws (kind_unknown w is)
 read_ending (command w ws) is = read_command w ws (kind_command w is)
 
--- an option for a file and the word behind it are read as one group, before what the others give
+-- an option for a file and the word after it are read as one group, before what the others give
 read_file : (form : Form) (name : List ℕ) (ws : List (List ℕ)) →
     read (file_word form ∷ name ∷ ws) ≡ grouped (file form name) (read ws)
 read_file short name ws = refl
@@ -243,7 +243,7 @@ IsKind w (single group) = IsGroup group × (group_words group ≡ w ∷ [])
 IsKind w unknown_option = IsTrue (is_option w && not (begins_group w))
 IsKind w command_word = IsTrue (not (is_option w))
 
--- a word that begins with a front is that front and what is left of the word behind it
+-- a word that begins with a front is that front and what is left of the word after it
 front_is : (w front : List ℕ) → starts_with nat_eq w front ≡ true → w ≡ front ++ drop (length front) w
 front_is w front h =
     sym (take-append-drop (length front) w)

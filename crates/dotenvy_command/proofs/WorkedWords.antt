@@ -9,7 +9,7 @@ words_row : (words : List (List ℕ)) (answer : Result CommandLine Usage) →
     answer ≡ answer_to (read words).0 (read words).1 → HasUsage words answer
 words_row words answer h = ((read words).0, (read words).1, words-read words, h)
 
--- each worked command line asks for what stands beside it, or is refused for what stands beside it
+-- each worked command line asks for what is beside it, or is refused for what is beside it
 pub usages : HaveUsages
 usages = (
   words_row _ _ refl,

@@ -94,7 +94,7 @@ values = (
   computed V15 _ _ refl,
 )
 
--- the worked lines with an open quote: faults of values that lack their end, and quotes behind names
+-- the worked lines with an open quote: faults of values that lack their end, and quotes after names
 pub open_quotes : HaveOpenQuotes
 unfolding is_name_character ucd_derived ucd_category encode is_utf8 chars
 open_quotes = (

@@ -6,7 +6,7 @@ use Rattle.std.proofs.lemmas.List.{drop-take, drop-drop, take-append-le, length-
 use Rattle.std.proofs.lemmas.List.Edits.{take-paste}
 use borrow.Rule.Slice.PartMut.{put_mid, post_of}
 
--- with n more bytes used, the unread ones are those behind the first n that were unread
+-- with n more bytes used, the unread ones are those after the first n that were unread
 pub unread-used : (bytes : List ℕ) (used filled n : ℕ) → used + n ≤ filled →
     take (filled - (used + n)) (drop (used + n) bytes) ≡ drop n (take (filled - used) (drop used bytes))
 unread-used bytes used filled n within =
@@ -28,7 +28,7 @@ unread-moved bytes used filled below within =
     ∙ take-paste bytes 0 (drop used bytes) (filled - used) (omega arith)
     (omega (arith, below, within, length-drop used bytes))
 
--- with n bytes put behind those that are filled, these and then the n are unread
+-- with n bytes put after those that are filled, these and then the n are unread
 pub unread-more : (bytes given : List ℕ) (filled room n : ℕ) → filled ≤ length bytes → n ≤ length given →
     take (filled + n - 0) (put_mid filled room bytes given) ≡ take filled bytes ++ take n given
 unread-more bytes given filled room n within some =

@@ -32,7 +32,7 @@ counted : (t : Bool) (place byte : ℕ) (later kept : List ℕ) → length later
 counted true place byte later kept e = ap suc e
 counted false place byte later kept e = e
 
--- behind a front of any bytes, there are as many places that pass a test as bytes that do
+-- after a front of any bytes, there are as many places that pass a test as bytes that do
 places_kept : (test : ℕ → Bool) (front back : List ℕ)
     → length (places_from test (front ++ back) (length front) (length back)) ≡ length (filter test back)
 unfolding places_from

@@ -376,7 +376,7 @@ pub fails_next : (passes : ℕ → Bool) (after rest : List ℕ) (c : ℕ) → B
 fails_next passes after rest c begins h =
     subst (λ cs. not (begins_passing passes cs) ≡ true) (sym begins.characters) (ap not h)
 
--- behind a run and one character more, less is left than before the run
+-- after a run and one character more, less is left than before the run
 pub fewer : (rest after next : List ℕ) (len c : ℕ) → after ≡ drop len rest → BeginsWith after c next
     → length next < length rest
 fewer rest after next len c e begins =
@@ -440,7 +440,7 @@ passes_block passes bytes rest block after before parts none = record {
   pass = all_append passes before.front block before.pass (none_fails passes 0 block none);
 }
 
--- behind bytes that pass, the run goes on to where a search in the others finds one that fails
+-- after bytes that pass, the run goes on to where a search in the others finds one that fails
 pub run_behind : (passes : ℕ → Bool) (bytes rest : List ℕ) (found : Option ℕ) → PassesBytes passes bytes rest
     → found ≡ position_from (λ b. not (passes b)) 0 rest
     → length bytes - length rest + unwrap_or found (length rest) ≡ prefix_len passes bytes

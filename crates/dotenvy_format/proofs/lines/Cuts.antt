@@ -50,7 +50,7 @@ lines_some c cs =
       | false ↦ onto_some c (physical_lines cs)
     ]
 
--- a character put before lines, as one of its own or onto the first, leaves the lines behind them as they are
+-- a character put before lines, as a separate one or onto the first, leaves the lines after them as they are
 cut_step : (c : ℕ) (b : Bool) (xss yss zss : List (List ℕ)) → IsSome xss → zss ≡ xss ++ yss →
     cond b ((c ∷ []) ∷ zss) (onto_first c zss) ≡ cond b ((c ∷ []) ∷ xss) (onto_first c xss) ++ yss
 cut_step c true xss yss zss some h = ap (λ ls. (c ∷ []) ∷ ls) h
@@ -102,13 +102,13 @@ not_true : (a b : Bool) → (not a && b) ≡ true → a ≡ false
 not_true true b h = sym h
 not_true false b h = refl
 
--- a byte that ends no line is put at the front of the first of the lines behind it
+-- a byte that ends no line is put at the front of the first of the lines after it
 unbroken : (b : ℕ) (t : Bool) (xss yss : List (List ℕ)) → t ≡ false → xss ≡ yss →
     cond t ((b ∷ []) ∷ xss) (onto_first b xss) ≡ onto_first b yss
 unbroken b true xss yss h e = cc
 unbroken b false xss yss h e = ap (onto_first b) e
 
--- bytes without a line feed stand at the front of the first of the lines of what follows them
+-- bytes without a line feed are at the start of the first of the lines of what follows them
 lines-onto_all : (bs rest : List ℕ) → no_line_feed bs ≡ true →
     physical_lines (bs ++ rest) ≡ onto_all bs (physical_lines rest)
 unfolding onto_all

@@ -142,19 +142,19 @@ drop_front zero lines more h = refl
 drop_front (suc k) [] more h = absurd (omega (arith, h))
 drop_front (suc k) (l ∷ lines) more h = drop_front k lines more (omega (arith, h))
 
--- lines that begin with a comment as a whole line do so with more lines behind them
+-- lines that begin with a comment as a whole line do so with more lines after them
 skipped_later : (lines more : List (Option (List ℕ))) → IsSkipped lines → IsSkipped (lines ++ more)
 skipped_later [] more h = absurd h
 skipped_later (None ∷ lines) more h = h
 skipped_later (Some t ∷ lines) more h = h
 
--- where some lines with more behind them begin with a comment as a whole line, so do they alone
+-- where some lines with more after them begin with a comment as a whole line, so do they alone
 skipped_before : (lines more : List (Option (List ℕ))) → lines ≢ [] → IsSkipped (lines ++ more) → IsSkipped lines
 skipped_before [] more some h = absurd (some refl)
 skipped_before (None ∷ lines) more some h = h
 skipped_before (Some t ∷ lines) more some h = h
 
--- the first broken line of some lines is the first broken one with more lines behind them
+-- the first broken line of some lines is the first broken one with more lines after them
 broken_later : (k : ℕ) (lines more : List (Option (List ℕ))) → IsFirstBroken k lines → IsFirstBroken k (lines ++ more)
 broken_later k [] more h = absurd h
 broken_later k (None ∷ lines) more h = h
@@ -207,7 +207,7 @@ ending_before escaped_line_end last last' not_last is = tt
 ending_before (comment b words) last last' not_last is = is
 ending_before input_end last last' not_last is = absurd (not_last is)
 
--- a logical line that takes not all of the lines is one, and keeps the same text, without those behind them
+-- a logical line that takes not all of the lines is one, and keeps the same text, without those after them
 text_before : (lines more : List (Option (List ℕ))) (j : ℕ) (kept : List ℕ) → j < length lines →
     IsText (lines ++ more) j kept → IsText lines j kept
 text_before lines more j kept h is =
@@ -229,7 +229,7 @@ text_before lines more j kept h is =
       };
     }
 
--- the next logical line is the same before more lines, but for an open end
+-- the next logical line is the same before more lines, except an open end
 pub next_later : (lines : List (Option (List ℕ))) (m : Option (List ℕ)) (more : List (Option (List ℕ))) (k : ℕ)
     (o : Logical) → AreCut (lines ++ m ∷ more) → lines ≢ [] → ¬ (IsOpenEnd o) → IsNext lines k o →
     (k ≤ length lines) × IsNext (lines ++ m ∷ more) k o
@@ -270,7 +270,7 @@ open_front (Text t ∷ os) = let f = open_front os in (f.0, ap (λ ps. Text t �
 open_front (Open t n ∷ os) = (Open t n ∷ os, refl)
 open_front (Broken ∷ os) = let f = open_front os in (f.0, ap (λ ps. Broken ∷ ps) f.1)
 
--- lines with one more behind them, and any behind that one, are not none
+-- lines with one more after them, and any after that one, are not none
 some_more : (lines : List (Option (List ℕ))) (m : Option (List ℕ)) (more : List (Option (List ℕ))) →
     lines ++ m ∷ more ≢ []
 some_more [] m more h = cc
@@ -290,7 +290,7 @@ same_first lines m more o p os ps cut closed (some, j, is, later) (other, k, als
       subst (λ ls. AreLogicalLines ls ps) (ap (λ i. drop i (lines ++ m ∷ more)) e.0 ∙ d) after,
     )
 
--- the logical lines before an open end are the front of those of the same lines with some more behind them
+-- the logical lines before an open end are the front of those of the same lines with some more after them
 lines_front : (lines : List (Option (List ℕ))) (m : Option (List ℕ)) (more : List (Option (List ℕ)))
     (os ps : List Logical) → AreCut (lines ++ m ∷ more) → AreLogicalLines lines os →
     AreLogicalLines (lines ++ m ∷ more) ps → IsFront (without_open_end os) ps
@@ -367,7 +367,7 @@ front_at c cs (d ∷ f) false e is =
       ends = λ more. onto_lines c (d ∷ f) more e (lines_some d f) (is.ends more);
     }
 
--- bytes are cut behind their last line feed, whatever follows them
+-- bytes are cut after their last line feed, whatever follows them
 pub front_is : (bytes : List ℕ) → IsCutFront bytes (up_to_last_line_feed bytes)
 front_is [] = record { after = []; joins = refl; ends = λ more. refl }
 front_is (c ∷ cs) = front_at c cs (up_to_last_line_feed cs) (c == line_feed) refl (front_is cs)
@@ -389,7 +389,7 @@ decided_once dialect bytes es fs a b =
     all_once dialect (without_open_end b.lines) es fs
     (subst (λ os. GiveAll dialect (without_open_end os) es) e a.give) b.give
 
--- the logical lines before an open end are the front of those of the same lines with any behind them
+-- the logical lines before an open end are the front of those of the same lines with any after them
 fronts : (lines more : List (Option (List ℕ))) (os ps : List Logical) → AreCut (lines ++ more) →
     AreLogicalLines lines os → AreLogicalLines (lines ++ more) ps → IsFront (without_open_end os) ps
 fronts lines [] os ps cut a b =

@@ -156,7 +156,7 @@ cut_onto c ([] ∷ ys ∷ xss) h cut = let e : false ≡ true = cut.0 in cc
 cut_onto c ((x ∷ xs) ∷ []) h cut = both (not (c == 10)) (is_last_line (x ∷ xs)) (ap not h) cut
 cut_onto c ((x ∷ xs) ∷ ys ∷ xss) h cut = (both (not (c == 10)) (is_whole_line (x ∷ xs)) (ap not h) cut.0, cut.1)
 
--- before lines as bytes are cut into them, a line feed may stand as a line of its own
+-- before lines as bytes are cut into them, a line feed may be a line of its own
 cut_line : (c : ℕ) (xss : List (List ℕ)) → (c == 10) ≡ true → AreCut (map Some xss) → AreCut (map Some ((c ∷ []) ∷ xss))
 cut_line c [] h cut = refl
 cut_line c (xs ∷ xss) h cut = (h, cut)
@@ -177,7 +177,7 @@ record IsLineTest (test : List ℕ → Bool) : Type 0 where
   before : (c d : ℕ) (cs : List ℕ) → test (c ∷ d ∷ cs) ≡ (not (c == 10) && test (d ∷ cs))
   at_end : (c : ℕ) (b : Bool) → (c == 10) ≡ b → test (encode c ++ []) ≡ test (c ∷ [])
 
--- what is tested behind bytes without a line feed passes just where it passes alone
+-- what is tested after bytes without a line feed passes just where it passes alone
 skip_line : (test : List ℕ → Bool) → ((c d : ℕ) (cs : List ℕ) → test (c ∷ d ∷ cs) ≡ (not (c == 10) && test (d ∷ cs))) →
     (bs : List ℕ) (d : ℕ) (ds : List ℕ) → no_line_feed bs ≡ true → test (bs ++ d ∷ ds) ≡ test (d ∷ ds)
 skip_line test before [] d ds h = refl
@@ -208,7 +208,7 @@ record IsSpelled (bs : List ℕ) : Type 0 where
   others : List ℕ
   is : bs ≡ first ∷ others
 
--- the bytes of a character, with more behind them, are not empty
+-- the bytes of a character, with more after them, are not empty
 encode_some : (c : ℕ) (more : List ℕ) (b : Bool) → (c == 10) ≡ b → IsSpelled (encode c ++ more)
 encode_some c more true h =
     record {
@@ -279,7 +279,7 @@ last_cut : (line : List ℕ) (b : Bool) → is_utf8 line ≡ b → is_last_line 
 last_cut line true u h = last_chars line u h
 last_cut line false u h = tt
 
--- a line with its line feed, as a text or as a broken line, may stand before lines as they are cut
+-- a line with its line feed, as a text or as a broken line, may be before lines as they are cut
 whole_cut : (line : List ℕ) (next : Option (List ℕ)) (lines : List (Option (List ℕ))) (b : Bool) →
     is_utf8 line ≡ b → is_whole_line line ≡ true → AreCut (next ∷ lines) →
     AreCut (cond b (Some (chars line)) None ∷ next ∷ lines)

@@ -1,4 +1,4 @@
--- The first logical lines of physical lines, with one more behind them.
+-- The first logical lines of physical lines, with one more after them.
 use Rattle.std.proofs.Common.{
   ℕ,
   ◌+◌,
@@ -32,7 +32,7 @@ first_lines_more lines count (first ∷ others) k next (j, later, is_first, are,
     let behind = subst (λ ls. IsNext ls k next) (ap (λ n. drop n lines) sum ∙ sym (drop-drop later j lines)) is in
     (j, later + k, is_first, first_lines_more (drop j lines) later others k next are behind, omega (arith, sum))
 
--- the entries of one more logical line come behind those of the lines before it
+-- the entries of one more logical line come after those of the lines before it
 pub give_more : (dialect : Dialect) (firsts : List Logical) (next : Logical) (entries own : List Entry) →
     GiveAll dialect firsts entries → Gives dialect next own → GiveAll dialect (firsts ++ next ∷ []) (entries ++ own)
 give_more dialect [] next entries own none gives =

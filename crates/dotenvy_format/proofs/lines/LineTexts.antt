@@ -190,7 +190,7 @@ kept_elsewhere c xs h = at (c == line_feed) refl
     at true e = absurd (h (same_from c line_feed e))
     at false e = refl
 
--- a walk goes on behind what was walked
+-- a walk goes on after what was walked
 pub walk-more : (m n : LineMode) (seen xs ys : List ℕ) → walk m seen xs ≡ going n →
     walk m seen (xs ++ ys) ≡ walk n (seen ++ xs) ys
 walk-more m n seen [] ys h = ap (λ w. walk (mode_of w) seen ys) h ∙ ap (λ s. walk n s ys) (sym (append-nil seen))
@@ -295,12 +295,12 @@ char_text rest after c u e =
 chars_one : (c : ℕ) → IsUtf8 (encode c) → chars (encode c) ≡ c ∷ []
 chars_one c u = chars_past_char (encode c) [] c u (sym (append-nil (encode c))) ∙ ap (λ l. c ∷ l) chars-nil
 
--- a text with a character's bytes behind it has that character behind its own
+-- a text with a character's bytes after it has that character after its own
 chars_more : (front : List ℕ) (c : ℕ) → IsUtf8 front → IsUtf8 (encode c) →
     chars (front ++ encode c) ≡ chars front ++ c ∷ []
 chars_more front c u v = chars-append front (encode c) u ∙ ap (λ l. chars front ++ l) (chars_one c v)
 
--- a run of characters that leave the mode as it is may be passed by a walk
+-- a walk may pass over a run of characters that leave the mode as it is
 pub walking_run : (start : LineMode) (line rest after : List ℕ) (m : LineMode) → Walking start line m rest →
     PassesRun m rest after → Walking start line m after
 walking_run start line rest after m w run = record {
@@ -315,7 +315,7 @@ walking_run start line rest after m w run = record {
       ∙ ap (λ l. seen ++ l) (sym (chars-append w.front run.front w.front_text)));
 }
 
--- a character that leads to another mode may be passed by a walk, which goes on in that mode
+-- a walk may pass over a character that leads to another mode, and goes on in that mode
 pub walking_step : (start : LineMode) (line rest after : List ℕ) (m n : LineMode) (c : ℕ) → Walking start line m rest →
     BeginsWith rest c after → Some n ≡ leads m c → Walking start line n after
 walking_step start line rest after m n c w begins h =
@@ -360,7 +360,7 @@ pub walking_done : (start : LineMode) (line rest : List ℕ) (m : LineMode) → 
 walking_done start line rest m w h = λ seen. w.walks seen ∙ ap (λ l. walk m (seen ++ chars w.front) (chars l)) h
     ∙ ap (walk m (seen ++ chars w.front)) chars-nil
 
--- behind a run and a character less is left
+-- after a run and a character less is left
 pub run-smaller : (m : LineMode) (text rest after : List ℕ) (c : ℕ) → PassesRun m text rest → BeginsWith rest c after →
     length after < length text
 run-smaller m text rest after c run begins =

@@ -364,12 +364,12 @@ cut_some [] [] cut h = cc
 cut_some [] (l ∷ lines) cut h = let e : false ≡ true = cut.0 in cc
 cut_some (c ∷ t) lines cut h = cc
 
--- behind a text, the lines that bytes were cut into are still such lines
+-- after a text, the lines that bytes were cut into are still such lines
 pub cut_later : (t : Text') (lines : List (Option Text')) → AreCut (Some t ∷ lines) → AreCut lines
 cut_later t [] cut = tt
 cut_later t (l ∷ lines) cut = cut.1
 
--- a text that isn't empty, with more behind it, isn't empty
+-- a text that isn't empty, with more after it, isn't empty
 front_some : (t more : Text') → t ≢ [] → t ++ more ≢ []
 front_some [] more some h = some refl
 front_some (c ∷ t) more some h = cc
@@ -524,7 +524,7 @@ used_lines lines text rest cut e (inr none) =
     sym (lines_again lines cut) ∙ ap physical_lines (e ∙ ap (λ r. text ++ r) none ∙ append-nil text) in
     ap (take (length (physical_lines text))) again ∙ take-length (physical_lines text)
 
--- words that end with a line feed, behind a text and two characters, make the whole end with it
+-- words that end with a line feed, after a text and two characters, make the whole end with it
 ends_after : (xs : Text') (b c : ℕ) (words : Text') → ends_line words ≡ true → ends_line (xs ++ b ∷ c ∷ words) ≡ true
 ends_after xs b c [] h = cc
 ends_after xs b c (w ∷ words) h = ends_line-append xs b (c ∷ w ∷ words) ∙ h

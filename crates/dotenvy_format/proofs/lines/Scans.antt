@@ -44,7 +44,7 @@ use Rattle.dotenvy_format.specs.Tokens.{
 use Rattle.dotenvy_format.specs.LogicalLine.{Ending, line_end, escaped_line_end, comment, input_end, ending_text}
 use Rattle.dotenvy_format.proofs.Basics.{and_left, and_right, both, not_is, not_or, same_from, when_true, when_false}
 
--- where a reading stands: outside, behind a backslash, in quotes, behind a backslash there, behind a blank
+-- where a reading stands: outside, after a backslash, in quotes, after a backslash there, after a blank
 pub data ScanMode : Type 0 where
   outside : ScanMode
   escaping : ScanMode
@@ -67,7 +67,7 @@ abbrev pub first_line : List ℕ → List ℕ
 first_line [] = []
 first_line (c ∷ cs) = cond (c == line_feed) (c ∷ []) (c ∷ first_line cs)
 
--- what stands behind the first line feed
+-- what is after the first line feed
 abbrev pub after_line : List ℕ → List ℕ
 after_line [] = []
 after_line (c ∷ cs) = cond (c == line_feed) cs (after_line cs)
@@ -183,7 +183,7 @@ from_plain c cs h =
     (consed (c ∷ []) (scan cs (inside c))) (scan cs (after_blank c)) (c == line_feed) (c == backslash)
     (is_quote c) (is_blank c) h
 
--- read from the outside, a blank gives nothing yet, and what follows is read from behind a blank
+-- read from the outside, a blank gives nothing yet, and what follows is read from after a blank
 from_blank : (c : ℕ) (cs : List ℕ) → is_blank c ≡ true → scan (c ∷ cs) outside ≡ scan cs (after_blank c)
 from_blank c cs h =
     blank_tests (consed (c ∷ []) (scan cs outside)) (stops [] line_end cs) (scan cs escaping)
@@ -242,7 +242,7 @@ from_inside q (pair c ∷ inner) cs quote h =
     ∙ ap (consed (backslash ∷ c ∷ [])) (from_inside q inner cs quote h)
     ∙ consed-consed (backslash ∷ c ∷ []) (flat_map quoted_text inner ++ q ∷ []) (scan cs outside)
 
--- a text that begins with a backslash, a quote or a line feed does so with more behind it
+-- a text that begins with a backslash, a quote or a line feed does so with more after it
 before_break-append : (xs ys : List ℕ) → is_before_break xs ≡ true → is_before_break (xs ++ ys) ≡ true
 before_break-append [] ys h = cc
 before_break-append (c ∷ xs) ys h = h
@@ -307,7 +307,7 @@ pub record Closes (q : ℕ) (text front : List ℕ) (ending : Ending) (rest : Li
   pub front_is : front ≡ flat_map quoted_text inner ++ q ∷ front'
   pub reads : Reads after front' ending rest
 
--- the text is rightly read so from this mode, behind a backslash or blank that waits; an open end always is
+-- the text is rightly read so from this mode, after a backslash or blank that waits; an open end always is
 abbrev pub Read : ScanMode → List ℕ → Scan → Type 0
 Read mode text open_end = Unit {0}
 Read outside text (stops front ending rest) = Reads text front ending rest
@@ -364,7 +364,7 @@ scan_plain c cs (stops front ending rest) h r =
       front_is = ap (λ t. c ∷ t) r.front_is;
     }
 
--- where a text is rightly read outside, so it is behind a backslash with a character, no line feed, before it
+-- where a text is rightly read outside, so it is after a backslash with a character, no line feed, before it
 read_escaped : (c : ℕ) (cs : List ℕ) (s : Scan) → not (c == line_feed) ≡ true → Read outside cs s →
     Read escaping (c ∷ cs) (consed (backslash ∷ c ∷ []) s)
 read_escaped c cs open_end h r = tt
@@ -377,7 +377,7 @@ read_escaped c cs (stops front ending rest) h r =
       front_is = ap (λ t. backslash ∷ c ∷ t) r.front_is;
     }
 
--- where a text is rightly read from the outside, so it is behind a blank with its follower before it
+-- where a text is rightly read from the outside, so it is after a blank with its follower before it
 read_blank_pair : (b c : ℕ) (cs : List ℕ) (s : Scan) → is_blank b ≡ true →
     not (c == hash || stands_for_itself c) ≡ true → Read outside cs s →
     Read (after_blank b) (c ∷ cs) (consed (b ∷ c ∷ []) s)
@@ -405,7 +405,7 @@ end_empty escaped_line_end rest closed h = cc
 end_empty (comment b words) rest closed h = cc
 end_empty input_end rest closed h = closed
 
--- where a text with a backslash, quote or line feed first is rightly read outside, so it is behind a blank
+-- where a text with a backslash, quote or line feed first is rightly read outside, so it is after a blank
 scan_blank : (b c : ℕ) (cs : List ℕ) (s : Scan) → is_blank b ≡ true → stands_for_itself c ≡ true →
     Read outside (c ∷ cs) s → Read (after_blank b) (c ∷ cs) (consed (b ∷ []) s)
 scan_blank b c cs open_end h k r = tt
@@ -425,7 +425,7 @@ scan_blank b c cs (stops front ending rest) h k r =
       front_is = ap (λ t. b ∷ t) r.front_is;
     }
 
--- texts with a character behind the first of them are joined alike from either side
+-- texts with a character after the first of them are joined alike from either side
 seam : (xs : List ℕ) (q : ℕ) (ys zs : List ℕ) → xs ++ q ∷ (ys ++ zs) ≡ ((xs ++ q ∷ []) ++ ys) ++ zs
 seam xs q ys zs = simp append_assoc
 
@@ -468,7 +468,7 @@ read_inside q c cs (stops front ending rest) h r =
       reads = r.reads;
     }
 
--- where a text is rightly read in quotes, so it is behind a backslash there with any character before it
+-- where a text is rightly read in quotes, so it is after a backslash there with any character before it
 read_inside_pair : (q c : ℕ) (cs : List ℕ) (s : Scan) → Read (inside q) cs s →
     Read (inside_escaping q) (c ∷ cs) (consed (backslash ∷ c ∷ []) s)
 read_inside_pair q c cs open_end r = tt
@@ -483,7 +483,7 @@ read_inside_pair q c cs (stops front ending rest) r =
       reads = r.reads;
     }
 
--- a text is its first line, and what stands behind that
+-- a text is its first line, and what is after that
 first-after : (cs : List ℕ) → first_line cs ++ after_line cs ≡ cs
 first-after [] = refl
 first-after (c ∷ cs) =
@@ -492,7 +492,7 @@ first-after (c ∷ cs) =
       | false ↦ ap (λ t. c ∷ t) (first-after cs)
     ]
 
--- behind a blank, `#` and all up to the line feed or the end are a comment
+-- after a blank, `#` and all up to the line feed or the end are a comment
 scan_comment : (b : ℕ) (cs : List ℕ) → is_blank b ≡ true →
     Read (after_blank b) (hash ∷ cs) (stops [] (comment b (first_line cs)) (after_line cs))
 scan_comment b cs h =
@@ -504,17 +504,17 @@ scan_comment b cs h =
       front_is = refl;
     }
 
--- where a text is rightly read behind a blank, so it is from the outside with the blank before it
+-- where a text is rightly read after a blank, so it is from the outside with the blank before it
 to_blank : (b : ℕ) (cs : List ℕ) (s : Scan) → Read (after_blank b) cs s → Read outside (b ∷ cs) s
 to_blank b cs open_end r = tt
 to_blank b cs (stops front ending rest) r = r
 
--- where a text is rightly read behind a backslash, so it is from the outside with the backslash before it
+-- where a text is rightly read after a backslash, so it is from the outside with the backslash before it
 scan_to_escaping : (cs : List ℕ) (s : Scan) → Read escaping cs s → Read outside (backslash ∷ cs) s
 scan_to_escaping cs open_end r = tt
 scan_to_escaping cs (stops front ending rest) r = r
 
--- where a text is rightly read behind a backslash in quotes, so it is in them with the backslash before it
+-- where a text is rightly read after a backslash in quotes, so it is in them with the backslash before it
 to_inside : (q : ℕ) (cs : List ℕ) (s : Scan) → Read (inside_escaping q) cs s → Read (inside q) (backslash ∷ cs) s
 to_inside q cs open_end r = tt
 to_inside q cs (stops front ending rest) r = r
@@ -537,7 +537,7 @@ scan_outside_step c cs (at_blank h) later =
 scan_outside_step c cs (at_plain h) later =
     subst (Read outside (c ∷ cs)) (sym (from_plain c cs h)) (scan_plain c cs (scan cs outside) h (later outside tt))
 
--- where a text is rightly read from the outside, so it is behind a backslash with a character before it
+-- where a text is rightly read from the outside, so it is after a backslash with a character before it
 scan_escaping_step : (c : ℕ) (cs : List ℕ) (b : Bool) → (c == line_feed) ≡ b → Read outside cs (scan cs outside) →
     Read escaping (c ∷ cs)
     (elim b [ true ↦ stops [] escaped_line_end cs | false ↦ consed (backslash ∷ c ∷ []) (scan cs outside) ])
@@ -551,7 +551,7 @@ scan_escaping_step c cs true h r =
     }
 scan_escaping_step c cs false h r = read_escaped c cs (scan cs outside) (ap not h) r
 
--- a text rightly read outside, in quotes and behind a backslash there is so in quotes with a character more
+-- a text rightly read outside, in quotes and after a backslash there is so in quotes with a character more
 scan_inside_step : (q c : ℕ) (cs : List ℕ) (b k : Bool) → (c == q) ≡ b → (c == backslash) ≡ k →
     Read outside cs (scan cs outside) → Read (inside q) cs (scan cs (inside q)) →
     Read (inside_escaping q) cs (scan cs (inside_escaping q)) →
@@ -568,7 +568,7 @@ scan_inside_step q c cs false true h i out in_quotes escaped =
 scan_inside_step q c cs false false h i out in_quotes escaped =
     read_inside q c cs (scan cs (inside q)) (rw (h, i) refl) in_quotes
 
--- where a text is rightly read from outside, with its first character and without, so it is behind a blank
+-- where a text is rightly read from outside, with its first character and without, so it is after a blank
 scan_blank_step : (b c : ℕ) (cs : List ℕ) → is_blank b ≡ true → (x y : Bool) → (c == hash) ≡ x →
     stands_for_itself c ≡ y → Read outside cs (scan cs outside) → Read outside (c ∷ cs) (scan (c ∷ cs) outside) →
     Read (after_blank b) (c ∷ cs) (elim x [

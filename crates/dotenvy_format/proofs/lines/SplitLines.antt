@@ -106,7 +106,7 @@ line_is_one [] t [] cut = one_of_last t cut
 line_is_one [] t (l ∷ lines) cut = one_of_whole t cut.0
 line_is_one (l ∷ front) t lines cut = line_is_one front t lines (cut_rest l (front ++ Some t ∷ lines) cut)
 
--- the texts before the first broken line are those taken, and then those of the lines behind them
+-- the texts before the first broken line are those taken, and then those of the lines after them
 texts_front : (taken : List (List ℕ)) (lines : Lines) → texts_of (map Some taken ++ lines) ≡ taken ++ texts_of lines
 texts_front [] lines = refl
 texts_front (t ∷ taken) lines = ap (λ ts. t ∷ ts) (texts_front taken lines)
@@ -124,7 +124,7 @@ taken_is_joined taken lines =
     ∙ ap joined_text (take-append_seam (map Some taken) lines)
     ∙ joined-texts taken
 
--- the broken line behind the texts taken is the first broken one, and its number is one more than theirs
+-- the broken line after the texts taken is the first broken one, and its number is one more than theirs
 broken_at : (taken : List (List ℕ)) (lines : Lines) →
     IsFirstBroken (suc (length taken)) (map Some taken ++ None ∷ lines)
 broken_at [] lines = refl
@@ -173,7 +173,7 @@ next-text taken lines kept shown whole = (
   },
 )
 
--- where the input ends behind the texts taken, outside quotes, they are the next logical line
+-- where the input ends after the texts taken, outside quotes, they are the next logical line
 pub next-end : (taken : List (List ℕ)) → ¬ (IsSkipped (map Some taken)) → IsGoing (concat taken) Outside →
     IsNext (map Some taken) (length taken) (Text (concat taken))
 next-end taken shown g =
@@ -187,7 +187,7 @@ next-end taken shown g =
     (sym (ap length (append-nil (map Some taken)) ∙ length_texts taken))) in
     subst (λ ls. IsNext ls (length taken) (Text (concat taken))) (append-nil (map Some taken)) n
 
--- where the input ends behind the texts taken, anywhere but outside, the next logical line is an open end
+-- where the input ends after the texts taken, anywhere but outside, the next logical line is an open end
 pub next-open : (taken : List (List ℕ)) (m : LineMode) → map Some taken ≢ [] → AreCut (map Some taken) →
     ¬ (IsSkipped (map Some taken)) → IsGoing (concat taken) m → m ≢ Outside →
     IsNext (map Some taken) (length taken) (Open (concat taken) (byte_len (concat taken)))
@@ -202,7 +202,7 @@ next-open taken m some cut shown g differs =
       refl,
     )
 
--- where the line behind texts that go on is broken, so is the next logical line
+-- where the line after texts that go on is broken, so is the next logical line
 pub next-broken : (taken : List (List ℕ)) (lines : Lines) (m : LineMode) → AreCut (map Some taken ++ None ∷ lines) →
     ¬ (IsSkipped (map Some taken ++ None ∷ lines)) → IsGoing (concat taken) m →
     IsNext (map Some taken ++ None ∷ lines) (suc (length taken)) Broken
@@ -244,7 +244,7 @@ at_input_end AfterBlank seen = Open seen (byte_len seen)
 abbrev pub one_more : ℕ × Logical → ℕ × Logical
 one_more (k, next) = (suc k, next)
 
--- the line ends in this physical line, or it goes on in those behind it from the mode that was walked to
+-- the line ends in this physical line, or it goes on in those after it from the mode that was walked to
 abbrev pub after_walk : Walk → (LineMode → ℕ × Logical) → ℕ × Logical
 after_walk (going m) next = one_more (next m)
 after_walk (ended text) next = (1, Text text)
@@ -273,7 +273,7 @@ IsNextOf lines n (k, next) = IsNext lines (n + k) next
 pub concat_more : (taken : List (List ℕ)) (t : List ℕ) → concat (taken ++ t ∷ []) ≡ concat taken ++ t
 concat_more taken t = concat-append taken (t ∷ []) ∙ ap (λ x. concat taken ++ x) (append-nil t)
 
--- a text that stands next, behind the texts taken, is one more text taken before the same lines
+-- a text that stands next, after the texts taken, is one more text taken before the same lines
 pub lines_more : (taken : List (List ℕ)) (t : List ℕ) (lines : Lines) →
     map Some taken ++ Some t ∷ lines ≡ map Some (taken ++ t ∷ []) ++ lines
 lines_more taken t lines =
@@ -368,12 +368,12 @@ next_of-is lines some cut = at (is_skipped lines) refl
     at false h =
         open_pair (next_from Outside [] lines) (next_from-is Outside [] lines some cut (shown lines h) going_start)
 
--- the lines that are left after the texts taken are those that stand behind them
+-- the lines that are left after the texts taken are those that are after them
 pub left_after : (taken : List (List ℕ)) (lines : Lines) → drop (length taken) (map Some taken ++ lines) ≡ lines
 left_after [] lines = refl
 left_after (t ∷ taken) lines = left_after taken lines
 
--- the lines left after the texts taken and a broken line are those that stand behind it
+-- the lines left after the texts taken and a broken line are those that are after it
 pub left_after_broken : (taken : List (List ℕ)) (lines : Lines) →
     drop (suc (length taken)) (map Some taken ++ None ∷ lines) ≡ lines
 left_after_broken [] lines = refl

@@ -189,7 +189,7 @@ walk_outside_step b c None h s = λ rest one. let n = none_is_line c h in record
 }
 walk_outside_step b c (Some m) h s = record { front = s.0; adds = s.1; reads = s.2 }
 
--- behind a backslash outside quotes, scan and walk take the same step
+-- after a backslash outside quotes, scan and walk take the same step
 walk_escaping_step : (b c : ℕ) (n : Bool) → (c == line_feed) ≡ n → Stepped Escaping b c (cond n None (Some Outside))
 walk_escaping_step b c true h = λ rest one. record {
   front = [];
@@ -233,7 +233,7 @@ one_line_after : (c : ℕ) (rest : List ℕ) → IsOneLine (c ∷ rest) → IsOn
 one_line_after c [] one = tt
 one_line_after c (d ∷ rest) one = one.1
 
--- behind a blank, at a character before which it stands alone, scan and walk take the same step
+-- after a blank, at a character before which it stands alone, scan and walk take the same step
 broken_step : (b c : ℕ) (g : Option LineMode) → (c == hash) ≡ false → stands_for_itself c ≡ true →
     leads_outside c ≡ g → LineStep c g (λ cs. scan (c ∷ cs) scans.outside) → Stepped AfterBlank b c g
 broken_step b c None h i e s = λ rest one. let n = none_is_line c e in record {
@@ -254,7 +254,7 @@ broken_step b c (Some m) h i e s =
           ∙ consed-consed (b ∷ []) s.0 (scan cs (to_mode m c));
     }
 
--- behind a blank, scan and walk take the same step: a comment, a character that stands for itself, a follower
+-- after a blank, scan and walk take the same step: a comment, a character that stands for itself, a follower
 walk_blank_step : (b c : ℕ) (x y : Bool) → (c == hash) ≡ x → stands_for_itself c ≡ y →
     Stepped AfterBlank b c (cond x None (cond y (leads_outside c) (Some Outside)))
 walk_blank_step b c true y h i =
@@ -377,13 +377,13 @@ abbrev pub IsWalked : Type 0 → List ℕ → List ℕ → Walk → Type 0
 IsWalked last seen line (going m) = IsGoing (seen ++ line) m
 IsWalked last seen line (ended text) = IsWhole (seen ++ line) text last
 
--- a walk behind a text and one character more is a walk behind the text, of a line with that character first
+-- a walk after a text and one character more is a walk after the text, of a line with that character first
 walked_join : (last : Type 0) (seen : List ℕ) (c : ℕ) (cs : List ℕ) (w : Walk) →
     IsWalked last (seen ++ c ∷ []) cs w → IsWalked last seen (c ∷ cs) w
 walked_join last seen c cs (going m) h = subst (λ t. IsGoing t m) (append_assoc seen (c ∷ []) cs) h
 walked_join last seen c cs (ended text) h = subst (λ t. IsWhole t text last) (append_assoc seen (c ∷ []) cs) h
 
--- behind a text in which no logical line ends, one more physical line does what the walk over it says
+-- after a text in which no logical line ends, one more physical line does what the walk over it says
 pub walk-is : (last : Type 0) (m : LineMode) (seen line : List ℕ) → IsGoing seen m → IsOneLine line →
     IsWalked last seen line (walk m seen line)
 walk-is last m seen [] g one = subst (λ t. IsGoing t m) (sym (append-nil seen)) g

@@ -136,7 +136,7 @@ skipped_past e key value n x y true is some none h =
     absurd
     (let p : true ≡ false = sym (ap (λ k. is_none (e k)) (same_text key n is) ∙ ap is_none none) ∙ some in cc)
 
--- after a declaration that is passed by and remembered, as its key has a value, the look-ups stand
+-- after a declaration that is skipped and remembered, as its key has a value, the look-ups still hold
 skipped_stands : (env m : LookUp) (earlier : List (List ℕ × List ℕ)) (e r : LookUp) (key value value' : List ℕ) →
     is_none (e key) ≡ false → RunStands env m earlier e r →
     RunStands env m (earlier ++ (key, value') ∷ []) e (with_value r key value)
@@ -163,7 +163,7 @@ set_past : (value : List ℕ) (x y z : Option (List ℕ)) (b : Bool) → cond b 
 set_past value x y z false none h = h none
 set_past value x y z true none h = absurd (cc)
 
--- after a declaration of an absent key, which is set and remembered, the look-ups stand
+-- after a declaration of an absent key, which is set and remembered, the look-ups still hold
 set_stands : (env m : LookUp) (earlier : List (List ℕ × List ℕ)) (e r : LookUp) (key value value' : List ℕ) →
     value ≡ value' → is_none (e key) ≡ true → RunStands env m earlier e r →
     RunStands env m (earlier ++ (key, value') ∷ []) (with_value e key value) (with_value r key value)
@@ -175,7 +175,7 @@ set_stands env m earlier e r key value value' same none h = record {
   past = λ n absent. set_past value (r n) (m n) (e n) (bytes_eq key n) absent (h.past n);
 }
 
--- after a declaration, which is set where its key is absent and else passed by, the look-ups stand
+-- after a declaration, which is set where its key is absent and else skipped, the look-ups still hold
 declared_stands : (env m : LookUp) (earlier : List (List ℕ × List ℕ)) (e r : LookUp) (key value value' : List ℕ)
     (b : Bool) → is_none (e key) ≡ b → value ≡ value' → RunStands env m earlier e r →
     RunStands env m (earlier ++ (key, value') ∷ []) (if b then with_value e key value else e) (with_value r key value)
@@ -184,11 +184,11 @@ declared_stands env m earlier e r key value value' true none same h =
 declared_stands env m earlier e r key value value' false some same h =
     skipped_stands env m earlier e r key value value' some h
 
--- the closed rule of `load`
+-- `load_result`
 abbrev with_first_values : LookUp → Declared → Loaded
 with_first_values env d = record { env = or_else env (first_value d.pairs); answer = d.stop }
 
--- while the look-ups stand, a run that keeps values leaves what the closed rule of `load` says
+-- while the look-ups still hold, a run that keeps values leaves what `load_result` says
 keep_closed : (env m : LookUp) (earlier : List (List ℕ × List ℕ)) (e r : LookUp) (entries : List Entry) →
     RunStands env m earlier e r →
     SameLoad (run Keep e r entries)
@@ -213,7 +213,7 @@ keep_closed env m earlier e r (Declares key pieces ∷ entries) h =
     (keep_closed env m (earlier ++ (key, v') ∷ []) (after_declaration Keep e key v) (with_value r key v) entries
     (declared_stands env m earlier e r key v v' (is_none (e key)) refl same h))
 
--- loading one entry after another, with values kept, is the closed rule of `load`
+-- loading one entry after another, with values kept, is `load_result`
 pub run-keep : (env m : LookUp) (entries : List Entry) → SameLoad (run Keep env m entries) (load_result env m entries)
 run-keep env m entries =
     keep_closed env m [] env m entries (record { now = λ n. or_nothing (env n); past = λ n none. refl })
@@ -238,7 +238,7 @@ replace_one : (value : List ℕ) (x a b : Option (List ℕ)) (c : Bool) → x �
 replace_one value x a b true h = refl
 replace_one value x a b false h = h
 
--- after a declaration, which a run that replaces sets and remembers, its look-ups stand
+-- after a declaration, which a run that replaces sets and remembers, its look-ups still hold
 replaced_stands : (env m : LookUp) (earlier : List (List ℕ × List ℕ)) (e r : LookUp) (key value value' : List ℕ) →
     value ≡ value' → Replaced env m earlier e r →
     Replaced env m (earlier ++ (key, value') ∷ []) (with_value e key value) (with_value r key value)
@@ -250,11 +250,11 @@ replaced_stands env m earlier e r key value value' same h = record {
   past = λ n absent. set_past value (r n) (m n) (e n) (bytes_eq key n) absent (h.past n);
 }
 
--- the closed rule of `load_override`
+-- `override_result`
 abbrev with_last_values : LookUp → Declared → Loaded
 with_last_values env d = record { env = or_else (last_value d.pairs) env; answer = d.stop }
 
--- while the look-ups stand, a run that replaces leaves what the closed rule of `load_override` says
+-- while the look-ups still hold, a run that replaces leaves what `override_result` says
 replace_closed : (env m : LookUp) (earlier : List (List ℕ × List ℕ)) (e r : LookUp) (entries : List Entry) →
     Replaced env m earlier e r →
     SameLoad (run Replace e r entries)
@@ -275,7 +275,7 @@ replace_closed env m earlier e r (Declares key pieces ∷ entries) h =
     (replace_closed env m (earlier ++ (key, v') ∷ []) (with_value e key v) (with_value r key v) entries
     (replaced_stands env m earlier e r key v v' same h))
 
--- replacing values one by one is the closed rule of `load_override`
+-- replacing values one by one is `override_result`
 pub run-replace : (env m : LookUp) (entries : List Entry) →
     SameLoad (run Replace env m entries) (override_result env m entries)
 run-replace env m entries = replace_closed env m [] env m entries (record { now = λ n. refl; past = λ n none. refl })

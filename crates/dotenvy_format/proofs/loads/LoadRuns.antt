@@ -73,7 +73,7 @@ after-same e f key v w n false false h k same = same
 after-same e f key v w n true false h k same = absurd (cc)
 after-same e f key v w n false true h k same = absurd (cc)
 
--- a name that is passed by is there
+-- a name that is skipped is there
 passed_is_there : (mode : Mode) (e : LookUp) (key : List ℕ) → sets mode e key ≡ false → is_none (e key) ≡ false
 passed_is_there Keep e key h = h
 passed_is_there Replace e key h = cc

@@ -135,7 +135,7 @@ stop_again end s key pieces entries stops =
     if_true _ _ (is_none (end key) && has_nul (meaning (or_else end s) pieces)) stops in
     (λ n. ap (λ l. Loaded.env l n) e, ap Loaded.answer e)
 
--- a load over what a first one left, remembering the same for absent names, sets nothing and answers the same
+-- a load over what a first one left, remembering the same for absent names, sets nothing and returns the same
 twice : (e r end s : LookUp) (entries : List Entry) → ((n : List ℕ) → (run Keep e r entries).env n ≡ end n) →
     ((n : List ℕ) → end n ≡ None → s n ≡ r n) → Again end s entries end (run Keep e r entries).answer
 twice e r end s [] same past = ((λ n. refl), refl)

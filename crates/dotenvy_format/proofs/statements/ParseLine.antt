@@ -139,21 +139,21 @@ rest-skip : (cs : List ℕ) → rest_of cs ≡ skip_leading_whitespace cs
 rest-skip [] = refl
 rest-skip (c ∷ cs) = ap (λ r. cond (is_whitespace c) r (c ∷ cs)) (rest-skip cs)
 
--- behind `=`, what is read is the key and what follows, without the white space at its front
+-- after `=`, what is read is the key and what follows, without the white space at its front
 at_assigned : (key cs : List ℕ) → Matches (assigned key) cs (after_equals key cs)
 at_assigned key cs = ap (λ r. Some (key, r)) (rest-skip cs)
 
--- behind a key that is no prefix, white space leads to the same mode
+-- after a key that is no prefix, white space leads to the same mode
 white_after_key : (key : List ℕ) (c : ℕ) → is_whitespace c ≡ true →
     statement_goes (after_key key) c ≡ Some (after_key key)
 white_after_key key c h = when_false _ _ (c == equals_sign) (white_no_equals c h) ∙ when_true _ _ (is_whitespace c) h
 
--- behind a key that is no prefix, what is neither white space nor `=` leads nowhere
+-- after a key that is no prefix, what is neither white space nor `=` leads nowhere
 after_other : (key : List ℕ) (c : ℕ) → is_whitespace c ≡ false → (c == equals_sign) ≡ false →
     statement_goes (after_key key) c ≡ None
 after_other key c h k = when_false _ _ (c == equals_sign) k ∙ when_false _ _ (is_whitespace c) h
 
--- behind a key that is no prefix, reading is passing white space by and expecting `=`
+-- after a key that is no prefix, reading is skipping white space and expecting `=`
 at_after_key : (key cs : List ℕ) → Matches (after_key key) cs (after_plain_key key (skip_leading_whitespace cs))
 at_after_key key [] = end (after_key key) tt
 at_after_key key (c ∷ cs) = at (is_whitespace c) (c == equals_sign) refl refl (at_after_key key cs)
@@ -220,7 +220,7 @@ at_second acc (c ∷ cs) =
 abbrev after_prefix : List ℕ → Parsed
 after_prefix left = equals_then left (after_equals export) (second_key left)
 
--- behind `export` and white space, reading is passing more by and expecting `=`, or else a second key
+-- after `export` and white space, reading is passing more by and expecting `=`, or else a second key
 at_after_export : (cs : List ℕ) → Matches after_export cs (after_prefix (skip_leading_whitespace cs))
 at_after_export [] = end after_export tt
 at_after_export (c ∷ cs) = at (is_whitespace c) refl (at_after_export cs)

@@ -84,7 +84,7 @@ pub equals_then-none : (text : List ℕ) (next : List ℕ → Parsed) (other : P
     other ≡ equals_then text next other
 equals_then-none text next other e = sym (ap (λ t. equals_then t next other) e)
 
--- where `=` stands next, parsing goes on behind it
+-- where `=` stands next, parsing goes on after it
 pub equals_then-equals : (text cs : List ℕ) (c : ℕ) (next : List ℕ → Parsed) (other : Parsed) → text ≡ c ∷ cs →
     c ≡ equals_sign → next cs ≡ equals_then text next other
 equals_then-equals text cs c next other e h =

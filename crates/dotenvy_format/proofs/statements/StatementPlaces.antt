@@ -48,7 +48,7 @@ abbrev pub statement_reach : List ℕ → StatementMode → ℕ
 statement_reach [] m = 0
 statement_reach (c ∷ cs) m = statement_reach_after (statement_goes m c) (λ n. statement_reach cs n)
 
--- with some text behind it the text, read from this mode, gives a key and what is assigned
+-- with some text after it the text, read from this mode, gives a key and what is assigned
 abbrev CompletesStatement : List ℕ → StatementMode → Type 0
 CompletesStatement text m = (more : List ℕ) × (key rest : List ℕ) × (read_statement (text ++ more) m ≡ Some (key, rest))
 

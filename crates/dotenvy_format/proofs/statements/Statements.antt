@@ -50,7 +50,7 @@ pub data StatementMode : Type 0 where
 abbrev pub StatementReading : Type 0
 StatementReading = Option (List ℕ × List ℕ)
 
--- where white space behind a word leads: behind `export`, if it may be a prefix and is that, or behind a key
+-- where white space after a word leads: after `export`, if it may be a prefix and is that, or after a key
 abbrev pub after_word : Bool → List ℕ → StatementMode
 after_word first key = elim (first && bytes_eq key export) [ true ↦ after_export | false ↦ after_key key ]
 
@@ -150,7 +150,7 @@ key_more first acc (c ∷ key) cs h =
     ∙ key_more first (acc ++ c ∷ []) key cs (and_right (continues_key c) (list_all continues_key key) h)
     ∙ ap (λ k. read_statement cs (in_key first k)) (append_assoc acc (c ∷ []) key)
 
--- behind a key, white space, if any, and `=` are read as that key and what is assigned
+-- after a key, white space, if any, and `=` are read as that key and what is assigned
 after_key_white : (key ws cs : List ℕ) → is_white_space ws ≡ true →
     read_statement (ws ++ equals_sign ∷ cs) (after_key key) ≡ Some (key, rest_of cs)
 after_key_white key [] cs h = refl
@@ -160,7 +160,7 @@ after_key_white key (w ∷ ws) cs h =
     (when_false _ _ (w == equals_sign) (white_no_equals w t) ∙ when_true _ _ (is_whitespace w) t)
     ∙ after_key_white key ws cs (and_right (is_whitespace w) (list_all is_whitespace ws) h)
 
--- behind `export`, white space, if any, and `=` make `export` itself the key
+-- after `export`, white space, if any, and `=` make `export` itself the key
 after_export_equals : (ws cs : List ℕ) → is_white_space ws ≡ true →
     read_statement (ws ++ equals_sign ∷ cs) after_export ≡ Some (export, rest_of cs)
 after_export_equals [] cs h = refl
@@ -170,7 +170,7 @@ after_export_equals (w ∷ ws) cs h =
     (when_false _ _ (w == equals_sign) (white_no_equals w t) ∙ when_true _ _ (is_whitespace w) t)
     ∙ after_export_equals ws cs (and_right (is_whitespace w) (list_all is_whitespace ws) h)
 
--- behind `export`, more white space changes nothing of what is read
+-- after `export`, more white space changes nothing of what is read
 after_export_white : (ws cs : List ℕ) → is_white_space ws ≡ true →
     read_statement (ws ++ cs) after_export ≡ read_statement cs after_export
 after_export_white [] cs h = refl
@@ -180,7 +180,7 @@ after_export_white (w ∷ ws) cs h =
     (when_false _ _ (w == equals_sign) (white_no_equals w t) ∙ when_true _ _ (is_whitespace w) t)
     ∙ after_export_white ws cs (and_right (is_whitespace w) (list_all is_whitespace ws) h)
 
--- behind a word and its white space, more white space, if any, and `=` make the word the key
+-- after a word and its white space, more white space, if any, and `=` make the word the key
 word_white : (first : Bool) (key : List ℕ) (ws cs : List ℕ) → is_white_space ws ≡ true →
     read_statement (ws ++ equals_sign ∷ cs) (after_word first key) ≡ Some (key, rest_of cs)
 word_white first key ws cs h = by (first && bytes_eq key export) refl
@@ -198,7 +198,7 @@ word_white first key ws cs h = by (first && bytes_eq key export) refl
         (sym (same_text key export (sym (same_key first (bytes_eq key export) e))))
     by false e = after_key_white key ws cs h
 
--- behind a word, white space, if any, and `=` make the word the key, whether it may be a prefix or not
+-- after a word, white space, if any, and `=` make the word the key, whether it may be a prefix or not
 key_ends : (first : Bool) (key ws cs : List ℕ) → is_white_space ws ≡ true →
     read_statement (ws ++ equals_sign ∷ cs) (in_key first key) ≡ Some (key, rest_of cs)
 key_ends first key [] cs h = refl
@@ -239,7 +239,7 @@ first_key (c ∷ key) before after rest h k =
     (and_right (begins_key c) (list_all continues_key key) h)
     ∙ key_ends true (c ∷ key) before (after ++ rest) k
 
--- behind `export`, a key, white space, if any, and `=` are read as that key and what is assigned
+-- after `export`, a key, white space, if any, and `=` are read as that key and what is assigned
 reads_second_key : (key before after rest : List ℕ) → is_key key ≡ true → is_white_space before ≡ true →
     read_statement (key ++ (before ++ equals_sign ∷ (after ++ rest))) after_export ≡ Some (key, rest_of (after ++ rest))
 reads_second_key [] before after rest h k = cc
@@ -253,7 +253,7 @@ reads_second_key (c ∷ key) before after rest h k =
     (and_right (begins_key c) (list_all continues_key key) h)
     ∙ key_ends false (c ∷ key) before (after ++ rest) k
 
--- white space ends a first word `export`, and what follows is read as behind `export`
+-- white space ends a first word `export`, and what follows is read as after `export`
 gap_white : (w : ℕ) (ws cs : List ℕ) → is_white_space (w ∷ ws) ≡ true →
     read_statement ((w ∷ ws) ++ cs) (in_key true export) ≡ read_statement cs after_export
 gap_white w ws cs h =
@@ -302,14 +302,14 @@ one_statement line key rest key' rest' a b =
     (ap (λ p. p.0) e, ap (λ p. p.1) e)
 
 -- What was read is a statement.
--- a text that stands behind `=`: white space, if any, and then this rest, which begins with none
+-- a text that is after `=`: white space, if any, and then this rest, which begins with none
 pub record IsRest (text rest : List ℕ) : Type 0 where
   pub after : List ℕ
   pub white : is_white_space after ≡ true
   pub trimmed : not (begins_with_white_space rest) ≡ true
   pub spelled : text ≡ after ++ rest
 
--- a text that stands behind a key: `=` with white space round it, if any, and what is assigned
+-- a text that is after a key: `=` with white space round it, if any, and what is assigned
 pub record IsEquals (text rest : List ℕ) : Type 0 where
   pub before : List ℕ
   pub after : List ℕ
@@ -318,14 +318,14 @@ pub record IsEquals (text rest : List ℕ) : Type 0 where
   pub trimmed : not (begins_with_white_space rest) ≡ true
   pub spelled : text ≡ before ++ equals_sign ∷ (after ++ rest)
 
--- a text that is a key and, behind it, `=` with what is assigned
+-- a text that is a key and, after it, `=` with what is assigned
 pub record IsKeyAssigned (text key rest : List ℕ) : Type 0 where
   pub key_is : is_key key ≡ true
   pub tail : List ℕ
   pub equals : IsEquals tail rest
   pub spelled : text ≡ key ++ tail
 
--- a text that stands behind `export` as a prefix: white space, if any, and a key with what is assigned
+-- a text that is after `export` as a prefix: white space, if any, and a key with what is assigned
 pub record Exports (text key rest : List ℕ) : Type 0 where
   pub gap : List ℕ
   pub tail : List ℕ
@@ -369,7 +369,7 @@ statement_from text key rest a = let e = a.equals in record {
   spelled = a.spelled ∙ ap (λ t. key ++ t) e.spelled;
 }
 
--- a word that is a key, with `=` and what is assigned behind it, assigns to that key
+-- a word that is a key, with `=` and what is assigned after it, assigns to that key
 word_from : (first : Bool) (acc text rest : List ℕ) → is_key acc ≡ true → IsEquals text rest →
     IsModeWord first (acc ++ text) acc rest
 word_from true acc text rest h e =
@@ -388,7 +388,7 @@ equals_from text rest r =
       spelled = ap (λ t. equals_sign ∷ t) r.spelled;
     }
 
--- one white space more may stand before an `=` and what is assigned
+-- one white space more may be before an `=` and what is assigned
 equals_white : (w : ℕ) (text rest : List ℕ) → is_whitespace w ≡ true → IsEquals text rest → IsEquals (w ∷ text) rest
 equals_white w text rest h e =
     record {
@@ -438,7 +438,7 @@ indented w cs (Some (key, rest)) h is = record {
   spelled = ap (λ t. w ∷ t) is.spelled;
 }
 
--- a right reading behind the first character of a first word is right from the start, before the character
+-- a right reading after the first character of a first word is right from the start, before the character
 key_from_start : (c : ℕ) (cs : List ℕ) (r : StatementReading) → IsStatementRead (in_key true (c ∷ [])) cs r →
     IsStatementRead start (c ∷ cs) r
 key_from_start c cs None is = tt
@@ -451,7 +451,7 @@ key_longer first acc c cs None is = tt
 key_longer first acc c cs (Some (key, rest)) is =
     subst (λ t. IsModeWord first t key rest) (append_assoc acc (c ∷ []) cs) is
 
--- a right reading behind `=` is right before it, at the end of a word that is a key
+-- a right reading after `=` is right before it, at the end of a word that is a key
 key_equals : (first : Bool) (acc : List ℕ) (cs : List ℕ) (r : StatementReading) → is_key acc ≡ true →
     IsStatementRead (assigned acc) cs r → IsStatementRead (in_key first acc) (equals_sign ∷ cs) r
 key_equals first acc cs None h is = tt
@@ -459,25 +459,25 @@ key_equals first acc cs (Some (key, rest)) h is =
     subst (λ k. IsModeWord first (acc ++ equals_sign ∷ cs) k rest) (sym is.0)
     (word_from first acc (equals_sign ∷ cs) rest h (equals_from cs rest is.1))
 
--- a right reading behind `=` is right before it, behind a key and white space
+-- a right reading after `=` is right before it, after a key and white space
 behind_equals : (acc : List ℕ) (cs : List ℕ) (r : StatementReading) → IsStatementRead (assigned acc) cs r →
     IsStatementRead (after_key acc) (equals_sign ∷ cs) r
 behind_equals acc cs None is = tt
 behind_equals acc cs (Some (key, rest)) is = (is.0, equals_from cs rest is.1)
 
--- a right reading behind a key stays right with one white space more before the text
+-- a right reading after a key stays right with one white space more before the text
 after_white : (acc : List ℕ) (w : ℕ) (cs : List ℕ) (r : StatementReading) → is_whitespace w ≡ true →
     IsStatementRead (after_key acc) cs r → IsStatementRead (after_key acc) (w ∷ cs) r
 after_white acc w cs None h is = tt
 after_white acc w cs (Some (key, rest)) h is = (is.0, equals_white w cs rest h is.1)
 
--- a right reading behind `=` for the key `export` is right before it, behind `export` and white space
+-- a right reading after `=` for the key `export` is right before it, after `export` and white space
 export_equals : (cs : List ℕ) (r : StatementReading) → IsStatementRead (assigned export) cs r →
     IsStatementRead after_export (equals_sign ∷ cs) r
 export_equals cs None is = tt
 export_equals cs (Some (key, rest)) is = inr (is.0, equals_from cs rest is.1)
 
--- a right reading behind `export` stays right with one white space more before the text
+-- a right reading after `export` stays right with one white space more before the text
 export_white : (w : ℕ) (cs : List ℕ) (r : StatementReading) → is_whitespace w ≡ true →
     IsStatementRead after_export cs r →
     IsStatementRead after_export (w ∷ cs) r
@@ -492,14 +492,14 @@ export_white w cs (Some (key, rest)) h (inl e) =
     })
 export_white w cs (Some (key, rest)) h (inr e) = inr (e.0, equals_white w cs rest h e.1)
 
--- a right reading behind the first character of a second word is right behind `export`, before the character
+-- a right reading after the first character of a second word is right after `export`, before the character
 export_key : (c : ℕ) (cs : List ℕ) (r : StatementReading) → IsStatementRead (in_key false (c ∷ [])) cs r →
     IsStatementRead after_export (c ∷ cs) r
 export_key c cs None is = tt
 export_key c cs (Some (key, rest)) is =
     inl (record { gap = []; tail = c ∷ cs; white = refl; assigned = is; spelled = refl })
 
--- where the first word is `export`, a right reading behind white space is right at the word's end
+-- where the first word is `export`, a right reading after white space is right at the word's end
 export_word : (w : ℕ) (cs : List ℕ) (r : StatementReading) → is_whitespace w ≡ true →
     IsStatementRead after_export cs r →
     IsStatementRead (in_key true export) (w ∷ cs) r
@@ -519,7 +519,7 @@ export_word w cs (Some (key, rest)) white (inr e) =
     subst (λ k. IsStatement (export ++ w ∷ cs) k rest) (sym e.0)
     (word_from true export (w ∷ cs) rest refl (equals_white w cs rest white e.1))
 
--- where a word may be a prefix and is `export`, a right reading behind white space is right at its end
+-- where a word may be a prefix and is `export`, a right reading after white space is right at its end
 word_gap : (first : Bool) (acc : List ℕ) (w : ℕ) (cs : List ℕ) (r : StatementReading) → is_key acc ≡ true →
     is_whitespace w ≡ true → (first ≡ true) → (acc ≡ export) → IsStatementRead after_export cs r →
     IsStatementRead (in_key first acc) (w ∷ cs) r
@@ -527,7 +527,7 @@ word_gap false acc w cs r h white f e is = cc
 word_gap true acc w cs r h white f e is =
     subst (λ a. IsStatementRead (in_key true a) (w ∷ cs) r) (sym e) (export_word w cs r white is)
 
--- where a word is a key, a right reading behind it and white space is right at its end
+-- where a word is a key, a right reading after it and white space is right at its end
 word_after : (first : Bool) (acc : List ℕ) (w : ℕ) (cs : List ℕ) (r : StatementReading) → is_key acc ≡ true →
     is_whitespace w ≡ true → IsStatementRead (after_key acc) cs r → IsStatementRead (in_key first acc) (w ∷ cs) r
 word_after first acc w cs None h white is = tt
@@ -539,7 +539,7 @@ word_after first acc w cs (Some (key, rest)) h white is =
 abbrev StatementLater : List ℕ → Type 0
 StatementLater cs = (m : StatementMode) → IsStatementMode m → IsStatementRead m cs (read_statement cs m)
 
--- a key with one more character of a key behind it is a key
+-- a key with one more character of a key after it is a key
 is_key_more : (acc : List ℕ) (c : ℕ) → is_key acc ≡ true → continues_key c ≡ true → is_key (acc ++ c ∷ []) ≡ true
 is_key_more [] c h k = cc
 is_key_more (d ∷ acc) c h k =
@@ -559,7 +559,7 @@ and_both : (a b : Bool) → (a && b) ≡ true → (a ≡ true) × (b ≡ true)
 and_both true b h = (refl, h)
 and_both false b h = cc
 
--- at the start, what is read of one character more is right, where what is read behind it is
+-- at the start, what is read of one character more is right, where what is read after it is
 start_step : (c : ℕ) (cs : List ℕ) (w b : Bool) → is_whitespace c ≡ w → begins_key c ≡ b → StatementLater cs →
     IsStatementRead start (c ∷ cs) (read_on
     (elim w [ true ↦ Some start | false ↦ elim b [ true ↦ Some (in_key true (c ∷ [])) | false ↦ None ] ])
@@ -570,7 +570,7 @@ start_step c cs false true hw hb later =
     (later (in_key true (c ∷ [])) (both (begins_key c) true hb refl))
 start_step c cs false false hw hb later = tt
 
--- at white space behind a word, what is read is right, where what is read behind it is
+-- at white space after a word, what is read is right, where what is read after it is
 word_step : (first : Bool) (acc : List ℕ) (c : ℕ) (cs : List ℕ) (b : Bool) → (first && bytes_eq acc export) ≡ b →
     is_whitespace c ≡ true → is_key acc ≡ true → StatementLater cs →
     IsStatementRead (in_key first acc) (c ∷ cs)
@@ -582,7 +582,7 @@ word_step first acc c cs true e hw ok later =
 word_step first acc c cs false e hw ok later =
     word_after first acc c cs (read_statement cs (after_key acc)) ok hw (later (after_key acc) ok)
 
--- within a word, what is read of one character more is right, where what is read behind it is
+-- within a word, what is read of one character more is right, where what is read after it is
 key_step : (first : Bool) (acc : List ℕ) (c : ℕ) (cs : List ℕ) (k e w : Bool) → continues_key c ≡ k →
     (c == equals_sign) ≡ e → is_whitespace c ≡ w → is_key acc ≡ true → StatementLater cs →
     IsStatementRead (in_key first acc) (c ∷ cs) (read_on
@@ -604,7 +604,7 @@ key_step first acc c cs false false true hk he hw ok later =
     word_step first acc c cs (first && bytes_eq acc export) refl hw ok later
 key_step first acc c cs false false false hk he hw ok later = tt
 
--- behind a key, what is read of one character more is right, where what is read behind it is
+-- after a key, what is read of one character more is right, where what is read after it is
 after_step : (acc : List ℕ) (c : ℕ) (cs : List ℕ) (e w : Bool) → (c == equals_sign) ≡ e → is_whitespace c ≡ w →
     is_key acc ≡ true → StatementLater cs →
     IsStatementRead (after_key acc) (c ∷ cs) (read_on
@@ -616,7 +616,7 @@ after_step acc c cs false true he hw ok later =
     after_white acc c cs (read_statement cs (after_key acc)) hw (later (after_key acc) ok)
 after_step acc c cs false false he hw ok later = tt
 
--- behind `export`, what is read of one character more is right, where what is read behind it is
+-- after `export`, what is read of one character more is right, where what is read after it is
 export_step : (c : ℕ) (cs : List ℕ) (e w b : Bool) → (c == equals_sign) ≡ e → is_whitespace c ≡ w →
     begins_key c ≡ b → StatementLater cs →
     IsStatementRead after_export (c ∷ cs) (read_on

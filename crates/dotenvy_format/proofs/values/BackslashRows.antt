@@ -1,4 +1,4 @@
--- Backslashes in a row behind a backslash: each two of them mean one.
+-- Backslashes in a row after a backslash: each two of them mean one.
 use Rattle.std.proofs.Common.{
   ◌≡◌,
   ℕ,
@@ -80,7 +80,7 @@ are_scalars (c ∷ row) h =
 characters : (row : List ℕ) → list_all is_backslash row ≡ true → chars row ≡ row
 characters row h = ap chars (sym (encoded row h)) ∙ chars-encodes row (are_scalars row h)
 
--- a run longer than a number begins with what passes, and has that number at least behind it
+-- a run longer than a number begins with what passes, and has that number at least after it
 taken_more : (p : Bool) (i more : ℕ) → suc i ≤ cond p (1 + more) 0 → (p ≡ true) × (i ≤ more)
 taken_more true i more h = (refl, omega (arith, h))
 taken_more false i more h = absurd (omega (arith, h))
@@ -109,7 +109,7 @@ begins_escape : (dialect : Dialect) (q : Quoting) → value_goes dialect (base q
 begins_escape dialect unquoted = refl
 begins_escape dialect double_quoted = refl
 
--- behind a backslash, another is read as the text of one, and a part may begin after it
+-- after a backslash, another is read as the text of one, and a part may begin after it
 escaped_one : (dialect : Dialect) (q : Quoting) (c : ℕ) (cs : List ℕ) → is_backslash c ≡ true
     → IsReadTo dialect (escaping q) (c ∷ cs) (Text (backslash ∷ []) ∷ []) (base q) cs
 escaped_one dialect q c cs h =
@@ -123,7 +123,7 @@ escape_begun dialect q c cs h =
     subst (λ d. IsReadTo dialect (base q) (d ∷ cs) [] (escaping q) cs)
     (sym (same_from c backslash h)) (one dialect (base q) (escaping q) backslash cs [] (begins_escape dialect q))
 
--- behind a backslash, an odd number of backslashes is read as half of them, and one, each as its own text
+-- after a backslash, an odd number of backslashes is read as half of them, and one, each as its own text
 row_read : (dialect : Dialect) (q : Quoting) (half : ℕ) (row cs : List ℕ) → list_all is_backslash row ≡ true
     → length row ≡ half + half + 1 → IsReadTo dialect (escaping q) (row ++ cs) (texts (suc half)) (base q) cs
 unfolding texts
@@ -154,7 +154,7 @@ texts_mean look_up (c ∷ row) (suc n) h len =
     (ap (λ bs. backslash ∷ bs) (texts_mean look_up row n (and_right (is_backslash c) (list_all is_backslash row) h)
     (omega (arith, len))))
 
--- behind a backslash, an odd number of backslashes gives half of them, and one, and a part may begin behind
+-- after a backslash, an odd number of backslashes gives half of them, and one, and a part may begin after
 pub gives_backslashes : (dialect : Dialect) (q : CodeQuoting) (text : List ℕ) (half : ℕ) (meant rest : Bor (List ℕ))
     → IsUtf8 text → half + half + 1 ≤ prefix_len is_backslash text → meant.now ≡ take (half + 1) text
     → rest.now ≡ drop (half + half + 1) text

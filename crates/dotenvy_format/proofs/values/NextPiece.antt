@@ -159,7 +159,7 @@ read_further dialect m n k text left rest p q a b = record {
   counts = a.counts ∙ ap (λ n. length a.front + n) b.counts ∙ omega (arith, length-append a.front b.front);
 }
 
--- where reading stops behind what was read, it stops there from the start
+-- where reading stops after what was read, it stops there from the start
 pub stop_after : (dialect : Dialect) (m n : ValueMode) (text left rest : List ℕ) (p : List Piece) →
     IsReadTo dialect m text p n left → StopsAt dialect n left rest → StopsAt dialect m text rest
 stop_after dialect m n text left rest p a b = record {
@@ -169,7 +169,7 @@ stop_after dialect m n text left rest p a b = record {
   counts = a.counts ∙ ap (λ n. length a.front + n) b.counts ∙ omega (arith, length-append a.front b.front);
 }
 
--- behind characters that complete no piece, what comes next is what comes next from before them
+-- after characters that complete no piece, what comes next is what comes next from before them
 pub next_after : (dialect : Dialect) (m n : ValueMode) (text left : List ℕ) (result : NextPiece) →
     IsReadTo dialect m text [] n left → NextPieceIs dialect n left result → NextPieceIs dialect m text result
 next_after dialect m n text left End a h = a.reads ∙ ap (given []) h
@@ -341,7 +341,7 @@ name_and_bytes look_up name follows c h =
     ap (λ t. encode_utf8_all (text_of look_up name) ++ t) (h ∙ sym (append-nil (encode_utf8 c)))
     ∙ sym (encodes-append (text_of look_up name) (c ∷ []))
 
--- in braces, a text cut at the first `}` gives the name before it, and goes on behind the brace
+-- in braces, a text cut at the first `}` gives the name before it, and goes on after the brace
 pub gives_braced : (dialect : Dialect) (q : CodeQuoting) (text : List ℕ) (name follows rest : Bor (List ℕ)) →
     IsCut right_brace text name.now rest.now → follows.now ≡ [] →
     GivesPiece dialect (bracing (quoting_of q) []) (chars text)
@@ -358,7 +358,7 @@ gives_braced dialect q text name follows rest cut none = record {
   means = λ look_up. name_bytes look_up (chars name.now) follows.now none;
 }
 
--- behind a backslash, an escape gives what it means, and a part may begin behind it
+-- after a backslash, an escape gives what it means, and a part may begin after it
 pub gives_escape : (dialect : Dialect) (q : CodeQuoting) (text : List ℕ) (c : ℕ) (meant rest : Bor (List ℕ)) →
     IsUtf8 rest.now → chars text ≡ c ∷ chars rest.now → is_escape c ≡ true →
     meant.now ≡ encode_utf8_all (escape_meaning c ∷ []) →
@@ -376,19 +376,19 @@ gives_escape dialect q text c meant rest u e h m = record {
   means = λ look_up. m;
 }
 
--- behind a backslash, a character that is no escape is a fault where it stands
+-- after a backslash, a character that is no escape is a fault where it is
 pub no_escape : (dialect : Dialect) (q : Quoting) (text rest : List ℕ) (c : ℕ) → text ≡ c ∷ rest →
     is_escape c ≡ false → StopsAt dialect (escaping q) text text
 no_escape dialect q text rest c e h =
     subst (λ t. StopsAt dialect (escaping q) t t) (sym e)
     (stop dialect (escaping q) c rest (when_false _ _ (is_escape c) h))
 
--- outside quotes, the value may end behind a backslash, which then means nothing
+-- outside quotes, the value may end after a backslash, which then means nothing
 pub escape_ends : (dialect : Dialect) (text : List ℕ) → text ≡ [] →
     read_value dialect (chars text) (escaping unquoted) ≡ Some []
 escape_ends dialect text e = ap (λ t. read_value dialect t (escaping unquoted)) (no_characters text e)
 
--- in double quotes, a text that ends behind a backslash is a fault at its end
+-- in double quotes, a text that ends after a backslash is a fault at its end
 pub escape_open : (dialect : Dialect) (text : List ℕ) → text ≡ [] →
     StopsAt dialect (escaping double_quoted) (chars text) []
 escape_open dialect text e =
@@ -396,12 +396,12 @@ escape_open dialect text e =
     (record { front = []; spelled = refl; reads = refl; counts = refl })
 
 -- A space or tab, and what may follow it.
--- in a value's tail, a space or tab is passed by, and gives nothing
+-- in a value's tail, a space or tab is skipped, and gives nothing
 collects_blanks : (dialect : Dialect) (held : List ℕ) (c : ℕ) → is_space_or_tab c ≡ true →
     value_goes dialect in_tail c ≡ Some (in_tail, [])
 collects_blanks dialect held c h = when_true _ _ (is_space_or_tab c) h
 
--- in a value's tail, a character that is no space, tab or `#` is a fault where it stands
+-- in a value's tail, a character that is no space, tab or `#` is a fault where it is
 tail_stops : (dialect : Dialect) (comment : List ℕ) → not (begins_passing is_space_or_tab comment) ≡ true →
     is_empty_or_comment comment ≡ false → StopsAt dialect in_tail comment comment
 tail_stops dialect [] h k = cc
@@ -409,7 +409,7 @@ tail_stops dialect (c ∷ comment) h k =
     stop dialect in_tail c comment
     (when_false _ _ (is_space_or_tab c) (not_is (is_space_or_tab c) h) ∙ when_false _ _ (c == hash) k)
 
--- in a value's tail, spaces and tabs are passed by, and give nothing
+-- in a value's tail, spaces and tabs are skipped, and give nothing
 tail_run : (dialect : Dialect) (text blanks comment : List ℕ) → IsSpan is_space_or_tab text blanks comment →
     IsReadTo dialect in_tail text [] in_tail comment
 tail_run dialect text blanks comment is =
@@ -429,7 +429,7 @@ tail_fault dialect text blanks comment is h =
     stop_after dialect in_tail in_tail text comment comment [] (tail_run dialect text blanks comment is)
     (tail_stops dialect comment is.longest h)
 
--- the characters of a text, each as a text of its own
+-- the characters of a text, each as a separate text
 abbrev each_text : List ℕ → List Piece
 each_text [] = []
 each_text (c ∷ cs) = Text (c ∷ []) ∷ each_text cs
@@ -439,7 +439,7 @@ meaning-each : (look_up : LookUp) (cs : List ℕ) → meaning look_up (each_text
 meaning-each look_up [] = refl
 meaning-each look_up (c ∷ cs) = ap (λ t. c ∷ t) (meaning-each look_up cs)
 
--- a row of plain characters gives a text for each, and a part may begin behind it
+-- a row of plain characters gives a text for each, and a part may begin after it
 plain_read : (dialect : Dialect) (q : Quoting) (front rest : List ℕ) → list_all (is_plain q) front ≡ true →
     IsReadTo dialect (base q) (front ++ rest) (each_text front) (base q) rest
 plain_read dialect q [] rest h = none_read dialect (base q) rest
@@ -450,7 +450,7 @@ plain_read dialect q (c ∷ front) rest h =
     (plain_goes dialect q c (and_left (is_plain q c) (list_all (is_plain q) front) h)))
     (plain_read dialect q front rest (and_right (is_plain q c) (list_all (is_plain q) front) h))
 
--- the longest front of plain characters gives one text, and a part may begin behind it
+-- the longest front of plain characters gives one text, and a part may begin after it
 pub gives_plain : (dialect : Dialect) (q : CodeQuoting) (text : List ℕ) (front rest : Bor (List ℕ)) →
     IsUtf8 front.now → IsUtf8 rest.now →
     IsSpan (is_plain (quoting_of q)) (chars text) (chars front.now) (chars rest.now) →
@@ -484,7 +484,7 @@ name_ends dialect name follows left u e none = record {
   means = λ look_up. name_bytes look_up (chars name.now) follows.now none;
 }
 
--- in double quotes, a text that ends behind a bare name is a fault at its end
+-- in double quotes, a text that ends after a bare name is a fault at its end
 pub name_open : (dialect : Dialect) (name left : List ℕ) → left ≡ [] →
     StopsAt dialect (naming double_quoted name) (chars left) []
 name_open dialect name left e =
@@ -538,13 +538,13 @@ name_left dialect q name follows left cs c u e ended h none = record {
   means = λ look_up. name_bytes look_up (chars name.now) follows.now none;
 }
 
--- the character behind a name begins no braced name, unless the name is empty and it is `{`
+-- the character after a name begins no braced name, unless the name is empty and it is `{`
 no_brace_first : (name text cs : List ℕ) (c : ℕ) → text ≡ c ∷ cs →
     not (is_empty name && begins_with left_brace text) ≡ true → is_brace_first name c ≡ false
 no_brace_first [] text cs c e h = not_is (c == left_brace) (subst (λ t. not (begins_with left_brace t) ≡ true) e h)
 no_brace_first (d ∷ name) text cs c e h = refl
 
--- a bare name before any other character that ends it gives the name and that character, and goes on behind
+-- a bare name before any other character that ends it gives the name and that character, and goes on after
 pub name_then : (dialect : Dialect) (q : CodeQuoting) (name follows left rest : Bor (List ℕ)) (c : ℕ) →
     IsUtf8 rest.now → chars left.now ≡ c ∷ chars rest.now →
     not (begins_passing (is_name_character dialect) (chars left.now)) ≡ true →
@@ -569,12 +569,12 @@ name_then dialect q name follows left rest c u e ended no_brace h f = record {
   means = λ look_up. name_and_bytes look_up (chars name.now) follows.now c f;
 }
 
--- a name character behind a bare name is a part of the name
+-- a name character after a bare name is a part of the name
 collects_name : (dialect : Dialect) (q : Quoting) (held : List ℕ) (c : ℕ) → is_name_character dialect c ≡ true →
     value_goes dialect (naming q held) c ≡ Some (naming q (held ++ c ∷ []), [])
 collects_name dialect q held c h = when_true _ _ (is_name_character dialect c) h
 
--- behind a dollar, the longest front of name characters is taken as the bare name
+-- after a dollar, the longest front of name characters is taken as the bare name
 pub name_run : (dialect : Dialect) (q : Quoting) (text name rest : List ℕ) →
     IsSpan (is_name_character dialect) text name rest → IsReadTo dialect (naming q []) text [] (naming q name) rest
 name_run dialect q text name rest is =
@@ -588,7 +588,7 @@ pub no_brace_after : (dialect : Dialect) (text name rest : List ℕ) →
 no_brace_after dialect text [] rest is h = subst (λ t. not (begins_with left_brace t) ≡ true) is.spelled h
 no_brace_after dialect text (c ∷ name) rest is h = refl
 
--- behind a dollar, `{` begins a braced name, and gives no piece yet
+-- after a dollar, `{` begins a braced name, and gives no piece yet
 pub brace_read : (dialect : Dialect) (q : Quoting) (text cs : List ℕ) → text ≡ left_brace ∷ cs →
     IsReadTo dialect (naming q []) text [] (bracing q []) cs
 brace_read dialect q text cs e =
@@ -671,7 +671,7 @@ quotes_len (c ∷ cs) h =
     let more = quotes_len cs (and_right (c == double_quote) (list_all (λ d. d == double_quote) cs) h) in
     omega (arith, one, more)
 
--- a row of double quotes with an even number of bytes leads back to where it stands
+-- a row of double quotes with an even number of bytes leads back to where it is
 pub even_quotes : (text : List ℕ) (quotes rest : List ℕ) (q : Quoting) → IsUtf8 quotes
     → IsSpan (λ c. c == double_quote) (chars text) (chars quotes) (chars rest) → length quotes % 2 ≡ 0
     → after_quotes (chars quotes) q ≡ q
@@ -696,7 +696,7 @@ first_read dialect q n text cs c e h =
     subst (λ t. IsReadTo dialect (base (quoting_of q)) t [] n cs) (sym e)
     (one dialect (base (quoting_of q)) n c cs [] h)
 
--- what comes next behind the first character of a text leaves fewer characters than the text has
+-- what comes next after the first character of a text leaves fewer characters than the text has
 pub first_shorter : (dialect : Dialect) (m : ValueMode) (text cs : List ℕ) (c : ℕ) (result : NextPiece) →
     text ≡ c ∷ cs →
     NextPieceIs dialect m cs result → IsShorter text result

@@ -120,7 +120,7 @@ pub given-nil : (r : ValueReading) → r ≡ given [] r
 given-nil None = refl
 given-nil (Some ps) = refl
 
--- pieces before what is read behind a step are pieces before those of the step
+-- pieces before what is read after a step are pieces before those of the step
 given-after : (ps : List Piece) (g : ValueStep) (next : ValueMode → ValueReading) →
     given ps (read_after g next) ≡ read_after (with_pieces ps g) next
 given-after ps None next = refl
@@ -154,14 +154,14 @@ inside_plain true d o c h = cc
 inside_plain false true o c h = cc
 inside_plain false false true c h = cc
 
--- where a part may begin, a plain character gives itself as text, and a part may begin behind it
+-- where a part may begin, a plain character gives itself as text, and a part may begin after it
 pub plain_goes : (dialect : Dialect) (q : Quoting) (c : ℕ) → is_plain q c ≡ true →
     value_goes dialect (base q) c ≡ Some (base q, Text (c ∷ []) ∷ [])
 plain_goes dialect double_quoted c h = inside_plain (c == backslash) (c == double_quote) (c == dollar) c h
 plain_goes dialect unquoted c h =
     outside_plain (c == backslash) (c == single_quote) (c == double_quote) (c == dollar) (is_space_or_tab c) c h
 
--- where a part may begin, a plain character is given before what is read behind it
+-- where a part may begin, a plain character is given before what is read after it
 read_plain : (dialect : Dialect) (q : Quoting) (c : ℕ) (cs : List ℕ) → is_plain q c ≡ true →
     read_value dialect (c ∷ cs) (base q) ≡ given (Text (c ∷ []) ∷ []) (read_value dialect cs (base q))
 read_plain dialect q c cs h =
@@ -180,7 +180,7 @@ read_dollar : (dialect : Dialect) (q : Quoting) (cs : List ℕ) →
 read_dollar dialect double_quoted cs = silent dialect (base double_quoted) dollar cs (naming double_quoted []) refl
 read_dollar dialect unquoted cs = silent dialect (base unquoted) dollar cs (naming unquoted []) refl
 
--- name characters behind what was read of a bare name are read as more of it
+-- name characters after what was read of a bare name are read as more of it
 read_name : (dialect : Dialect) (q : Quoting) (acc name cs : List ℕ) →
     list_all (is_name_character dialect) name ≡ true →
     read_value dialect (name ++ cs) (naming q acc) ≡ read_value dialect cs (naming q (acc ++ name))
@@ -193,7 +193,7 @@ read_name dialect q acc (c ∷ name) cs h =
     (and_right (is_name_character dialect c) (list_all (is_name_character dialect) name) h)
     ∙ ap (λ n. read_value dialect cs (naming q n)) (append_assoc acc (c ∷ []) name)
 
--- a name in braces goes up to the first right brace, and is given before what is read behind it
+-- a name in braces goes up to the first right brace, and is given before what is read after it
 read_braced : (dialect : Dialect) (q : Quoting) (acc name cs : List ℕ) →
     list_all (λ c. not (c == right_brace)) name ≡ true →
     read_value dialect (name ++ right_brace ∷ cs) (bracing q acc)
@@ -208,7 +208,7 @@ read_braced dialect q acc (c ∷ name) cs h =
     (and_right (not (c == right_brace)) (list_all (λ c. not (c == right_brace)) name) h)
     ∙ ap (λ n. given (Name n ∷ []) (read_value dialect cs (base q))) (append_assoc acc (c ∷ []) name)
 
--- a text in single quotes goes up to the next single quote, and is given before what is read behind it
+-- a text in single quotes goes up to the next single quote, and is given before what is read after it
 read_single : (dialect : Dialect) (acc inner cs : List ℕ) → list_all (λ c. not (c == single_quote)) inner ≡ true →
     read_value dialect (inner ++ single_quote ∷ cs) (in_single acc)
     ≡ given (Text (acc ++ inner) ∷ []) (read_value dialect cs (base unquoted))
@@ -222,7 +222,7 @@ read_single dialect acc (c ∷ inner) cs h =
     (and_right (not (c == single_quote)) (list_all (λ c. not (c == single_quote)) inner) h)
     ∙ ap (λ n. given (Text n ∷ []) (read_value dialect cs (base unquoted))) (append_assoc acc (c ∷ []) inner)
 
--- a character that ends a bare name gives the name, then itself, before what is read behind it
+-- a character that ends a bare name gives the name, then itself, before what is read after it
 pub read_bare_end : (dialect : Dialect) (q : Quoting) (name : List ℕ) (c : ℕ) (cs : List ℕ) →
     ends_name dialect q name c ≡ true →
     read_value dialect (c ∷ cs) (naming q name)
@@ -268,7 +268,7 @@ brace_not_left V15 q = refl
 brace_not_left Next double_quoted = refl
 brace_not_left Next unquoted = refl
 
--- a part is read as what it means, before what is read behind it
+-- a part is read as what it means, before what is read after it
 read_part : (dialect : Dialect) (q : Quoting) (p : Part) (cs : List ℕ) → IsPart dialect q p cs →
     read_value dialect (part_text p ++ cs) (base q) ≡ given (part_pieces p) (read_value dialect cs (base q))
 read_part dialect q (plain c) cs is = read_plain dialect q c cs is
@@ -291,7 +291,7 @@ read_part dialect q (bare name c) cs is =
 read_part dialect q (bare_before name) cs is =
     read_dollar dialect q (name ++ cs) ∙ read_name dialect q [] name cs is.0 ∙ before_left dialect q name cs is.1
 
--- parts in a row are read as what they mean, before what is read behind them
+-- parts in a row are read as what they mean, before what is read after them
 read_parts : (dialect : Dialect) (q : Quoting) (ps : List Part) (cs : List ℕ) → AreParts dialect q ps cs →
     read_value dialect (parts_text ps ++ cs) (base q) ≡ given (flat_map part_pieces ps) (read_value dialect cs (base q))
 read_parts dialect q [] cs are = given-nil (read_value dialect cs (base q))
@@ -301,7 +301,7 @@ read_parts dialect q (p ∷ ps) cs are =
     ∙ ap (given (part_pieces p)) (read_parts dialect q ps cs are.1)
     ∙ given-given (part_pieces p) (flat_map part_pieces ps) (read_value dialect cs (base q))
 
--- a segment is read as what it means, before what is read behind it
+-- a segment is read as what it means, before what is read after it
 read_segment : (dialect : Dialect) (s : Segment) (cs : List ℕ) → IsSegment dialect s cs →
     read_value dialect (segment_text s ++ cs) (base unquoted)
     ≡ given (segment_pieces s) (read_value dialect cs (base unquoted))
@@ -372,7 +372,7 @@ read_last_name dialect name h =
     ap (λ t. read_value dialect t (naming unquoted [])) (sym (append-nil name))
     ∙ read_name dialect unquoted [] name [] h
 
--- what may stand at the end of a value is read as what it means
+-- what may be at the end of a value is read as what it means
 read_close : (dialect : Dialect) (close : Close) → IsClose dialect close →
     read_value dialect (close_text close) (base unquoted) ≡ Some (close_pieces close)
 read_close dialect nothing is = refl
@@ -383,7 +383,7 @@ read_close dialect (tail blank blanks comment) is =
     read_tail dialect blank blanks comment (and_left (is_space_or_tab blank) (list_all is_space_or_tab blanks) is.0)
     (and_right (is_space_or_tab blank) (list_all is_space_or_tab blanks) is.0) is.1
 
--- segments in a row, and what stands at the end of the value, are read as what they mean
+-- segments in a row, and what is at the end of the value, are read as what they mean
 read_segments : (dialect : Dialect) (ss : List Segment) (close : Close) →
     AreSegments dialect ss (close_text close) → IsClose dialect close →
     read_value dialect (segments_text ss ++ close_text close) (base unquoted)
@@ -444,7 +444,7 @@ IsValueRead dialect (bracing q name) text (Some pieces) = IsBase dialect q (doll
 IsValueRead dialect in_tail text (Some pieces) = IsTail text × (pieces ≡ [])
 IsValueRead dialect in_comment text (Some pieces) = pieces ≡ []
 
--- a sound mode: what it has taken may stand in its single quotes, its bare name or its braces
+-- a sound mode: what it has taken may be in its single quotes, its bare name or its braces
 abbrev pub IsValueMode : (dialect : Dialect) → ValueMode → Type 0
 IsValueMode dialect (base q) = Unit {0}
 IsValueMode dialect (escaping q) = Unit {0}
@@ -454,7 +454,7 @@ IsValueMode dialect (bracing q name) = list_all (λ c. not (c == right_brace)) n
 IsValueMode dialect in_tail = Unit {0}
 IsValueMode dialect in_comment = Unit {0}
 
--- where a segment may stand before a text that is read right, both are read right, with its meaning first
+-- where a segment may be before a text that is read right, both are read right, with its meaning first
 segment_first : (dialect : Dialect) (s : Segment) (text : List ℕ) (r : ValueReading) → IsSegment dialect s text →
     IsValueRead dialect (base unquoted) text r →
     IsValueRead dialect (base unquoted) (segment_text s ++ text) (given (segment_pieces s) r)
@@ -472,7 +472,7 @@ segment_first dialect s text (Some pieces) is h = record {
       ∙ sym (append_assoc (segment_pieces s) (flat_map segment_pieces h.segments) (close_pieces h.close));
 }
 
--- where a part may stand before a text that is read right, both are read right, with its meaning first
+-- where a part may be before a text that is read right, both are read right, with its meaning first
 part_first : (dialect : Dialect) (q : Quoting) (p : Part) (text : List ℕ) (r : ValueReading) → IsPart dialect q p text →
     IsValueRead dialect (base q) text r → IsValueRead dialect (base q) (part_text p ++ text) (given (part_pieces p) r)
 part_first dialect q p text None is h = tt
@@ -492,14 +492,14 @@ part_first dialect double_quoted p text (Some pieces) is h = record {
 }
 
 -- What one mode has read, as what another has.
--- what is right behind a backslash is right with the backslash in front, where a part may begin
+-- what is right after a backslash is right with the backslash in front, where a part may begin
 from_escaping : (dialect : Dialect) (q : Quoting) (cs : List ℕ) (r : ValueReading) →
     IsValueRead dialect (escaping q) cs r →
     IsValueRead dialect (base q) (backslash ∷ cs) (given [] r)
 from_escaping dialect q cs None h = tt
 from_escaping dialect q cs (Some ps) h = h
 
--- what is right behind a dollar is right with the dollar in front, where a part may begin
+-- what is right after a dollar is right with the dollar in front, where a part may begin
 from_naming : (dialect : Dialect) (q : Quoting) (cs : List ℕ) (r : ValueReading) →
     IsValueRead dialect (naming q []) cs r →
     IsValueRead dialect (base q) (dollar ∷ cs) (given [] r)
@@ -570,7 +570,7 @@ to_single : (dialect : Dialect) (inner cs : List ℕ) (r : ValueReading) →
 to_single dialect inner cs None h = tt
 to_single dialect inner cs (Some ps) h = h
 
--- what is right from a dollar on is right for what follows in the bare name behind it
+-- what is right from a dollar on is right for what follows in the bare name after it
 to_naming : (dialect : Dialect) (q : Quoting) (name cs : List ℕ) (r : ValueReading) →
     IsValueRead dialect (base q) (dollar ∷ (name ++ cs)) r → IsValueRead dialect (naming q name) cs r
 to_naming dialect q name cs None h = tt
@@ -641,7 +641,7 @@ inside_step dialect c cs false false false hb hd ho later =
     part_first dialect double_quoted (plain c) cs (read_value dialect cs (base double_quoted)) (rw (hb, hd, ho) refl)
     (later (base double_quoted) tt)
 
--- where a text is read right from every sound mode, so is it behind a backslash with a character in front
+-- where a text is read right from every sound mode, so is it after a backslash with a character in front
 escape_step : (dialect : Dialect) (q : Quoting) (c : ℕ) (cs : List ℕ) (b : Bool) → is_escape c ≡ b →
     ValueLater dialect cs →
     IsValueRead dialect (escaping q) (c ∷ cs)
@@ -654,7 +654,7 @@ escape_step dialect q c cs true h later =
     (part_first dialect q (escape c) cs (read_value dialect cs (base q)) h (later (base q) tt))
 escape_step dialect q c cs false h later = tt
 
--- where all characters of a text pass a test and one more does, all pass with that one behind them
+-- where all characters of a text pass a test and one more does, all pass with that one after them
 all-more : (p : ℕ → Bool) (xs : List ℕ) (c : ℕ) → list_all p xs ≡ true → p c ≡ true → list_all p (xs ++ c ∷ []) ≡ true
 all-more p [] c h k = both (p c) true k refl
 all-more p (x ∷ xs) c h k =
@@ -685,7 +685,7 @@ ends : (dialect : Dialect) (q : Quoting) (name : List ℕ) (c : ℕ) → is_name
 ends dialect q [] c h k l = rw (h, k, l) refl
 ends dialect q (d ∷ name) c h k l = rw (h, k) refl
 
--- where a text is read right from every sound mode, so is it behind a dollar with a left brace in front
+-- where a text is read right from every sound mode, so is it after a dollar with a left brace in front
 braces : (dialect : Dialect) (q : Quoting) (name : List ℕ) (c : ℕ) (cs : List ℕ) → is_brace_first name c ≡ true →
     ValueLater dialect cs →
     IsValueRead dialect (naming q name) (c ∷ cs) (given [] (read_value dialect cs (bracing q [])))
@@ -806,7 +806,7 @@ step dialect in_tail c cs ok later = tail_step dialect c cs (is_space_or_tab c) 
 step dialect in_comment c cs ok later =
     comment_step dialect c cs (read_value dialect cs in_comment) (later in_comment tt)
 
--- what may stand at the end of a value is a value by itself, and means the same
+-- what may be at the end of a value is a value by itself, and means the same
 close_value : (dialect : Dialect) (close : Close) → IsClose dialect close →
     IsValue dialect (close_text close) (close_pieces close)
 close_value dialect close is =

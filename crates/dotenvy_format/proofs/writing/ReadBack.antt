@@ -60,7 +60,7 @@ use Rattle.dotenvy_format.proofs.Basics.{and_left}
 abbrev part_of : ℕ → Part
 part_of c = if needs_backslash c then escape c else plain c
 
--- each character of a text as a piece of its own
+-- each character of a text as a separate piece
 abbrev pub character_pieces : List ℕ → List Piece
 character_pieces text = map (λ c. Text (c ∷ [])) text
 
@@ -93,11 +93,11 @@ part_pieces_of : (c : ℕ) (b : Bool) → needs_backslash c ≡ b →
 part_pieces_of c true h = ap (λ d. Text (d ∷ []) ∷ []) (escaped_same c h)
 part_pieces_of c false h = refl
 
--- the part that writes a character may stand in double quotes, whatever follows it
+-- the part that writes a character may be in double quotes, whatever follows it
 is_part_of : (dialect : Dialect) (c : ℕ) (after : List ℕ) → IsPart dialect double_quoted (part_of c) after
 is_part_of dialect c after = is_part_at dialect c after (needs_backslash c) refl
 
--- the parts that write a text may stand in a row in double quotes, whatever follows them
+-- the parts that write a text may be in a row in double quotes, whatever follows them
 are_parts_of : (dialect : Dialect) (text : List ℕ) (after : List ℕ) →
     AreParts dialect double_quoted (map part_of text) after
 are_parts_of dialect [] after = tt
@@ -109,14 +109,14 @@ written_parts : (text : List ℕ) → parts_text (map part_of text) ≡ flat_map
 written_parts [] = refl
 written_parts (c ∷ text) = let e = part_text_of c (needs_backslash c) in let f = written_parts text in cc
 
--- the parts that write a text mean its characters, each as a piece of its own
+-- the parts that write a text mean its characters, each as a separate piece
 pieces_of_parts : (text : List ℕ) → flat_map part_pieces (map part_of text) ≡ character_pieces text
 pieces_of_parts [] = refl
 pieces_of_parts (c ∷ text) =
     ap (λ p. p ++ flat_map part_pieces (map part_of text)) (part_pieces_of c (needs_backslash c) refl)
     ∙ ap (λ ps. Text (c ∷ []) ∷ ps) (pieces_of_parts text)
 
--- the characters of a text, each as a piece of its own, mean the text, whatever names stand for
+-- the characters of a text, each as a separate piece, mean the text, whatever names stand for
 pub meaning-characters : (look_up : LookUp) (text : List ℕ) → meaning look_up (character_pieces text) ≡ text
 meaning-characters look_up [] = refl
 meaning-characters look_up (c ∷ text) = ap (λ cs. c ∷ cs) (meaning-characters look_up text)

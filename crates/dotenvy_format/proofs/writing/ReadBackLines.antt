@@ -98,7 +98,7 @@ use Rattle.dotenvy_format.proofs.KeyCharacters.{key_continues}
 key_is_plain : (c : ℕ) → continues_key c ≡ true → not (is_blank c || stands_for_itself c) ≡ true
 key_is_plain c h = grind (arith, nat_tests, h)
 
--- a character as it is written between double quotes: behind a backslash where it needs one, or alone
+-- a character as it is written between double quotes: after a backslash where it needs one, or alone
 abbrev quoted_of : ℕ → QuotedCharacter
 quoted_of c = if needs_backslash c then pair c else one c
 
@@ -106,7 +106,7 @@ quoted_of c = if needs_backslash c then pair c else one c
 abbrev pair_tokens : List ℕ → List ℕ → List Token
 pair_tokens key text = map plain key ++ plain equals_sign ∷ quoted double_quote (map quoted_of text) ∷ []
 
--- the tokens of a key's characters may stand before other tokens that may stand in a row
+-- the tokens of a key's characters may be before other tokens that may be in a row
 are_plain : (key : List ℕ) (ts : List Token) (after : List ℕ) → list_all continues_key key ≡ true →
     AreTokens ts after → AreTokens (map plain key ++ ts) after
 are_plain [] ts after h are = are
@@ -115,17 +115,17 @@ are_plain (c ∷ key) ts after h are = (
   are_plain key ts after (and_right (continues_key c) (list_all continues_key key) h) are,
 )
 
--- a character, behind a backslash where it needs one, may stand between double quotes
+-- a character, after a backslash where it needs one, may be between double quotes
 is_quoted_of : (c : ℕ) (b : Bool) → needs_backslash c ≡ b → is_quoted double_quote (cond b (pair c) (one c)) ≡ true
 is_quoted_of c true h = refl
 is_quoted_of c false h = grind (arith, nat_tests, h)
 
--- the characters of a text, each as it is written, may stand between double quotes
+-- the characters of a text, each as it is written, may be between double quotes
 are_quoted : (text : List ℕ) → list_all (is_quoted double_quote) (map quoted_of text) ≡ true
 are_quoted [] = refl
 are_quoted (c ∷ text) = rw (is_quoted_of c (needs_backslash c) refl) (are_quoted text)
 
--- between quotes, a character behind a backslash is spelled with it, and another alone
+-- between quotes, a character after a backslash is spelled with it, and another alone
 text_of_quoted : (c : ℕ) (b : Bool) → quoted_text (cond b (pair c) (one c)) ≡ cond b (backslash ∷ c ∷ []) (c ∷ [])
 text_of_quoted c true = refl
 text_of_quoted c false = refl
@@ -271,7 +271,7 @@ written_lines key text pairs =
     ∙ map-append Some (physical_lines (pair_line key text ++ line_feed ∷ []))
     (physical_lines (written_text pairs)))
 
--- lines that are not none are not none with others behind them
+-- lines that are not none are not none with others after them
 lines_not_empty : (xss : List (List ℕ)) (lines : List (Option (List ℕ))) → IsSome xss → map Some xss ++ lines ≢ []
 lines_not_empty xss lines (xs, yss, is) h =
     let e : Some xs ∷ (map Some yss ++ lines) ≡ [] = ap (λ zss. map Some zss ++ lines) (sym is) ∙ h in cc
