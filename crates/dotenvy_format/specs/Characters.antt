@@ -102,10 +102,14 @@ is_name_character dialect c =
     (is_alphabetic c || is_number_category (general_category_number (general_category c)))
     || (allows_underscore dialect && c == underscore)
 
+-- the text has a first character, and it passes the test
+abbrev pub begins_passing : (ℕ → Bool) → List ℕ → Bool
+begins_passing passes [] = false
+begins_passing passes (c ∷ cs) = passes c
+
 -- the text begins with this character
 abbrev pub begins_with : ℕ → List ℕ → Bool
-begins_with c [] = false
-begins_with c (d ∷ cs) = d == c
+begins_with c text = begins_passing (λ d. d == c) text
 
 -- the text is empty, or is a comment: it begins with `#`
 abbrev pub is_empty_or_comment : List ℕ → Bool

@@ -1,8 +1,8 @@
 -- Statements: an optional `export`, a key, `=`, and what is assigned, with white space around each of these.
-use Rattle.std.specs.Prelude.{◌≡◌, ◌⊎◌, ℕ, Bool, false, not, ◌&&◌, List, [], ◌∷◌, ◌++◌, codes, IsTrue}
+use Rattle.std.specs.Prelude.{◌≡◌, ◌⊎◌, ℕ, Bool, not, ◌&&◌, List, [], ◌∷◌, ◌++◌, codes, IsTrue}
 use Rattle.std.specs.Char.{is_whitespace}
 use Rattle.std.specs.List.{list_all}
-use Rattle.dotenvy_format.specs.Characters.{equals_sign}
+use Rattle.dotenvy_format.specs.Characters.{equals_sign, begins_passing}
 use Rattle.dotenvy_format.specs.Keys.{is_key}
 
 -- the text is all white space
@@ -18,8 +18,7 @@ IsPrefix prefix =
 
 -- the text begins with white space
 abbrev pub begins_with_white_space : List ℕ → Bool
-begins_with_white_space [] = false
-begins_with_white_space (c ∷ cs) = is_whitespace c
+begins_with_white_space text = begins_passing is_whitespace text
 
 -- the line is a statement, which assigns the rest to the key
 pub record IsStatement (line key rest : List ℕ) : Type 0 where

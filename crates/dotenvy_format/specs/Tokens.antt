@@ -1,7 +1,7 @@
 -- The tokens of a logical line. The splitter takes each token as a whole.
-use Rattle.std.specs.Prelude.{ℕ, Bool, true, false, not, ◌||◌, ◌==◌, List, [], ◌∷◌, ◌++◌, IsTrue}
+use Rattle.std.specs.Prelude.{ℕ, Bool, true, not, ◌||◌, ◌==◌, List, [], ◌∷◌, ◌++◌, IsTrue}
 use Rattle.std.specs.List.{flat_map, list_all}
-use Rattle.dotenvy_format.specs.Characters.{is_blank, is_quote, line_feed, backslash, hash}
+use Rattle.dotenvy_format.specs.Characters.{is_blank, is_quote, begins_passing, line_feed, backslash, hash}
 
 -- one item between quotes: a single character, or a backslash with the character after it
 pub data QuotedCharacter : Type 0 where
@@ -44,8 +44,7 @@ stands_for_itself c = (c == backslash || is_quote c) || c == line_feed
 
 -- the text begins with a backslash, a quote or a line feed
 abbrev pub is_before_break : List ℕ → Bool
-is_before_break [] = false
-is_before_break (c ∷ cs) = stands_for_itself c
+is_before_break text = begins_passing stands_for_itself text
 
 -- this may be a token before this text; no token has a line feed outside quotes
 abbrev pub IsToken : Token → List ℕ → Type 0

@@ -23,6 +23,7 @@ use Rattle.dotenvy_format.specs.Characters.{
   is_space_or_tab,
   is_name_character,
   is_empty_or_comment,
+  begins_passing,
   line_feed,
   letter_n,
   space,
@@ -154,8 +155,7 @@ is_left_by_name dialect quoting c =
 
 -- the text begins with a character that ends a bare name and is not its text
 abbrev pub is_before_left : Dialect → Quoting → List ℕ → Bool
-is_before_left dialect quoting [] = false
-is_before_left dialect quoting (c ∷ cs) = is_left_by_name dialect quoting c
+is_before_left dialect quoting text = begins_passing (is_left_by_name dialect quoting) text
 
 -- this character ends the bare name and means itself; after an empty name, `{` would begin a braced name instead
 abbrev pub ends_name : Dialect → Quoting → List ℕ → ℕ → Bool

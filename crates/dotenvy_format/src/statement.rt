@@ -2,8 +2,7 @@
 
 ghost use Rattle.std.specs.Prelude.{◌≡◌};
 ghost use Rattle.std.specs.Str.{chars};
-ghost use Rattle.dotenvy_format.specs.Characters.{begins_key};
-ghost use Rattle.dotenvy_format.specs.inside.Slices.{begins_passing};
+ghost use Rattle.dotenvy_format.specs.Characters.{begins_key, begins_passing};
 ghost use Rattle.dotenvy_format.specs.inside.ParseStatement.{key_then, skipping, equals_then, after_equals, after_plain_key, second_key, after_first_key, parse, Parsed, parsed_of, keyed_of, assigned_of};
 
 use crate::classes::begins_key;

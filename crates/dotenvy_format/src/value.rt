@@ -4,8 +4,8 @@ ghost use Rattle.std.specs.Prelude.{◌≡◌, ◌<◌, ◌==◌, ◌&&◌, not,
 ghost use Rattle.std.specs.List.{prefix_len};
 ghost use Rattle.std.specs.Str.{chars};
 ghost use Rattle.dotenvy_format.specs.inside.ReadValue.{base, escaping, in_single, naming, bracing, in_tail};
-ghost use Rattle.dotenvy_format.specs.Characters.{backslash, left_brace, begins_with, is_name_character};
-ghost use Rattle.dotenvy_format.specs.inside.Slices.{quoting_of, begins_passing};
+ghost use Rattle.dotenvy_format.specs.Characters.{backslash, left_brace, begins_with, is_name_character, begins_passing};
+ghost use Rattle.dotenvy_format.specs.inside.Slices.{quoting_of};
 ghost use Rattle.dotenvy_format.specs.Value.{is_left_by_name, is_plain};
 ghost use Rattle.dotenvy_format.specs.inside.NextPiece.{other_quoting, is_empty, kind_of, Escapes, NextPieceIs, IsShorter};
 

@@ -61,9 +61,9 @@ use Rattle.std.proofs.lemmas.Str.{
 }
 use Rattle.memchr.specs.Find.{IsFirstByte, is_byte2, is_byte3}
 use Rattle.dotenvy_format.specs.declared.text.Class.TheVariants.{Quoted}
-use Rattle.dotenvy_format.specs.Characters.{backslash, double_quote, dollar}
+use Rattle.dotenvy_format.specs.Characters.{backslash, double_quote, dollar, begins_passing}
 use Rattle.dotenvy_format.specs.Value.{is_plain_inside}
-use Rattle.dotenvy_format.specs.inside.Slices.{BeginsWith, IsSpan, PassesBytes, PassesTo, begins_passing, in_run}
+use Rattle.dotenvy_format.specs.inside.Slices.{BeginsWith, IsSpan, PassesBytes, PassesTo, in_run}
 use Rattle.dotenvy_format.proofs.Basics.{and_left, and_right, both, not_is, if_true, if_false}
 
 -- the first byte of a character

@@ -44,9 +44,9 @@ use Rattle.std.proofs.lemmas.Str.{
 }
 use Rattle.std.proofs.lemmas.List.{take-append-drop, append-nil}
 use Rattle.std.proofs.Common.{length-drop}
-use Rattle.dotenvy_format.specs.Characters.{begins_with}
+use Rattle.dotenvy_format.specs.Characters.{begins_with, begins_passing}
 use Rattle.dotenvy_format.proofs.Basics.{both, same_from, not_false}
-use Rattle.dotenvy_format.specs.inside.Slices.{BeginsWith, IsSpan, begins_passing}
+use Rattle.dotenvy_format.specs.inside.Slices.{BeginsWith, IsSpan}
 
 -- a text that begins with a character's bytes begins with that character, and a text follows
 pub begins_with_first : (text rest : List ℕ) (c : ℕ) → IsUtf8 text → text ≡ encode_utf8 c ++ rest →

@@ -36,9 +36,9 @@ use Rattle.std.specs.Str.{
 use Rattle.std.proofs.lemmas.Str.{chars-encodes, scalars-chars, encodes-chars}
 use Rattle.std.proofs.lemmas.Bool.Decides.{nat_tests}
 use Rattle.dotenvy_format.proofs.Basics.{and_left, and_right, both, not_is, if_true, if_false}
-use Rattle.dotenvy_format.specs.Characters.{begins_key, continues_key, equals_sign}
+use Rattle.dotenvy_format.specs.Characters.{begins_key, continues_key, equals_sign, begins_passing}
 use lib.Utf8.{scalar, encode}
-use Rattle.dotenvy_format.specs.inside.Slices.{IsSpan, begins_passing}
+use Rattle.dotenvy_format.specs.inside.Slices.{IsSpan}
 use Rattle.dotenvy_format.specs.inside.ParseStatement.{export, Parsed, fails, key_run, key_left, key_then, equals_then}
 use Rattle.dotenvy_format.proofs.KeyCharacters.{key_begins_continues}
 

@@ -66,8 +66,9 @@ use Rattle.dotenvy_format.specs.Characters.{
   is_name_character,
   is_empty_or_comment,
   begins_with,
+  begins_passing,
 }
-use Rattle.dotenvy_format.specs.inside.Slices.{quoting_of, IsSpan, begins_passing}
+use Rattle.dotenvy_format.specs.inside.Slices.{quoting_of, IsSpan}
 use Rattle.dotenvy_format.specs.Value.{
   Quoting,
   unquoted,

@@ -3,7 +3,6 @@ use Rattle.std.specs.Prelude.{
   ℕ,
   ◌≡◌,
   Bool,
-  false,
   not,
   ◌&&◌,
   ◌||◌,
@@ -41,6 +40,7 @@ use Rattle.dotenvy_format.specs.declared.text.Quoting.TheVariants.{Unquoted, Dou
 use Rattle.std.specs.Char.{is_ascii_alphanumeric}
 use Rattle.dotenvy_format.specs.declared.dialect.Dialect.{Dialect}
 use Rattle.dotenvy_format.specs.Characters.{
+  begins_passing,
   tab,
   space,
   underscore,
@@ -100,11 +100,6 @@ pub record BeginsWith (text : List ℕ) (c : ℕ) (rest : List ℕ) : Type 0 whe
   pub bytes : text ≡ encode_utf8 c ++ rest
   pub follows : IsUtf8 rest
   pub characters : chars text ≡ c ∷ chars rest
-
--- the text has a first character, and it passes the test
-abbrev pub begins_passing : (ℕ → Bool) → List ℕ → Bool
-begins_passing passes [] = false
-begins_passing passes (c ∷ cs) = passes c
 
 -- the text is the longest front of characters that pass the test, and the rest
 pub record IsSpan (passes : ℕ → Bool) (text front rest : List ℕ) : Type 0 where

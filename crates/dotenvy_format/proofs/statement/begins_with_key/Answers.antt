@@ -1,6 +1,5 @@
 use Rattle.std.proofs.Common.{ap, sym}
-use Rattle.dotenvy_format.specs.Characters.{begins_key}
-use Rattle.dotenvy_format.specs.inside.Slices.{begins_passing}
+use Rattle.dotenvy_format.specs.Characters.{begins_key, begins_passing}
 use Rattle.dotenvy_format.proofs.bytes.Slices.{no_characters}
 use Rattle.dotenvy_format.proofs.statement.begins_with_key.Goals as goal
 
