@@ -27,13 +27,17 @@ use Rattle.std.specs.declared.io.ErrorKind.TheVariants.{NotFound, OutOfMemory}
 use Rattle.dotenvy_base.specs.declared.errors.Error.{Error}
 use Rattle.dotenvy_base.specs.declared.errors.Error.TheVariants.{LineParse, Io, EnvVar, Nul, Memory}
 
+-- the error is an `Io` for which P holds
+abbrev pub IsIoOf : {A : Type 0} → (IoError → Type 0) → Error A → Type 0
+IsIoOf P (LineParse _ _) = ⊥
+IsIoOf P (Io e) = P e
+IsIoOf P (EnvVar _) = ⊥
+IsIoOf P (Nul _) = ⊥
+IsIoOf P (Memory _) = ⊥
+
 -- the error is an `Io` of kind `NotFound`
 abbrev pub IsNotFound : {A : Type 0} → Error A → Type 0
-IsNotFound (LineParse _ _) = ⊥
-IsNotFound (Io e) = error_kind e ≡ NotFound
-IsNotFound (EnvVar _) = ⊥
-IsNotFound (Nul _) = ⊥
-IsNotFound (Memory _) = ⊥
+IsNotFound e = IsIoOf (λ fault. error_kind fault ≡ NotFound) e
 
 -- the error says that an allocation failed
 abbrev pub IsMemory : {A : Type 0} → Error A → Type 0
@@ -63,14 +67,6 @@ IsNulOf key (Io _) = ⊥
 IsNulOf key (EnvVar _) = ⊥
 IsNulOf key (Nul text) = string_bytes text ≡ key
 IsNulOf key (Memory _) = ⊥
-
--- the error is an `Io` for which P holds
-abbrev pub IsIoOf : {A : Type 0} → (IoError → Type 0) → Error A → Type 0
-IsIoOf P (LineParse _ _) = ⊥
-IsIoOf P (Io e) = P e
-IsIoOf P (EnvVar _) = ⊥
-IsIoOf P (Nul _) = ⊥
-IsIoOf P (Memory _) = ⊥
 
 -- the call failed because an allocation failed
 abbrev pub IsMemoryErr : {T A : Type 0} → Result T (Error A) → Type 0
