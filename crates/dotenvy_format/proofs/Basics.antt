@@ -27,11 +27,6 @@ pub and_right : (a b : Bool) → (a && b) ≡ true → b ≡ true
 and_right true b h = h
 and_right false b h = cc
 
--- where each of two tests holds, both hold together
-pub both : (a b : Bool) → a ≡ true → b ≡ true → (a && b) ≡ true
-both true b h k = k
-both false b h k = cc
-
 -- a test whose negation holds is false
 pub not_is : (a : Bool) → not a ≡ true → a ≡ false
 not_is true h = cc

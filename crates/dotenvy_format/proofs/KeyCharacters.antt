@@ -2,9 +2,10 @@
 use Rattle.std.proofs.Common.{◌≡◌, ℕ, true, List, [], ◌∷◌, refl}
 use Rattle.std.specs.Prelude.{IsTrue}
 use Rattle.std.specs.List.{list_all}
+use Rattle.std.proofs.lemmas.Bool.{and_from}
 use Rattle.dotenvy_format.specs.Characters.{begins_key, continues_key}
 use Rattle.dotenvy_format.specs.Keys.{is_key}
-use Rattle.dotenvy_format.proofs.Basics.{and_left, and_right, both}
+use Rattle.dotenvy_format.proofs.Basics.{and_left, and_right}
 
 -- a character that begins a key may also stand later in one
 pub key_begins_continues : (c : ℕ) → begins_key c ≡ true → continues_key c ≡ true
@@ -14,6 +15,6 @@ key_begins_continues c h = rw h refl
 pub key_continues : (key : List ℕ) → IsTrue (is_key key) → list_all continues_key key ≡ true
 key_continues [] h = refl
 key_continues (c ∷ key) h =
-    both (continues_key c) (list_all continues_key key)
+    and_from (continues_key c) (list_all continues_key key)
     (key_begins_continues c (and_left (begins_key c) (list_all continues_key key) h))
     (and_right (begins_key c) (list_all continues_key key) h)

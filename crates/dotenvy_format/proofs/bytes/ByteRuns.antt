@@ -59,12 +59,13 @@ use Rattle.std.proofs.lemmas.Str.{
   len_utf8_bounds,
   IsCharBoundary-at_seam,
 }
+use Rattle.std.proofs.lemmas.Bool.{and_from}
 use Rattle.memchr.specs.Find.{IsFirstByte, is_byte2, is_byte3}
 use Rattle.dotenvy_format.specs.declared.text.Class.TheVariants.{Quoted}
 use Rattle.dotenvy_format.specs.Characters.{backslash, double_quote, dollar, begins_passing}
 use Rattle.dotenvy_format.specs.Value.{is_plain_inside}
 use Rattle.dotenvy_format.specs.inside.Slices.{BeginsWith, IsSpan, PassesBytes, PassesTo, in_run}
-use Rattle.dotenvy_format.proofs.Basics.{and_left, and_right, both, not_is, if_true, if_false}
+use Rattle.dotenvy_format.proofs.Basics.{and_left, and_right, not_is, if_true, if_false}
 
 -- the first byte of a character
 abbrev pub lead : ℕ → ℕ
@@ -98,21 +99,22 @@ later_pass byte n later = later (128 + n % 64) (is_later n).0 (is_later n).1
 -- where all bytes from 128 to 191 pass, so do the last two bytes of a character of three bytes or four
 two_pass : (byte : ℕ → Bool) (c : ℕ) → ((b : ℕ) → 128 ≤ b → b < 192 → byte b ≡ true)
     → (byte (128 + c / 64 % 64) && (byte (128 + c % 64) && true)) ≡ true
-two_pass byte c later = both (byte (128 + c / 64 % 64)) (byte (128 + c % 64) && true)
-    (later_pass byte (c / 64) later) (both (byte (128 + c % 64)) true (later_pass byte c later) refl)
+two_pass byte c later = and_from (byte (128 + c / 64 % 64)) (byte (128 + c % 64) && true)
+    (later_pass byte (c / 64) later) (and_from (byte (128 + c % 64)) true (later_pass byte c later) refl)
 
 -- where the bytes from 128 to 191 pass, and a character's first byte, all its bytes do, whatever its size
 bytes_pass : (byte : ℕ → Bool) (x y z : Bool) (c : ℕ) → ((b : ℕ) → 128 ≤ b → b < 192 → byte b ≡ true)
     → byte (get_or (bytes_of x y z c) 0 0) ≡ true → list_all byte (bytes_of x y z c) ≡ true
-bytes_pass byte true y z c later h = both (byte c) true h refl
-bytes_pass byte false true z c later h = both (byte (192 + c / 64)) (byte (128 + c % 64) && true) h
-    (both (byte (128 + c % 64)) true (later_pass byte c later) refl)
+bytes_pass byte true y z c later h = and_from (byte c) true h refl
+bytes_pass byte false true z c later h = and_from (byte (192 + c / 64)) (byte (128 + c % 64) && true) h
+    (and_from (byte (128 + c % 64)) true (later_pass byte c later) refl)
 bytes_pass byte false false true c later h =
-    both (byte (224 + c / 4096)) (byte (128 + c / 64 % 64) && (byte (128 + c % 64) && true)) h (two_pass byte c later)
+    and_from (byte (224 + c / 4096)) (byte (128 + c / 64 % 64) && (byte (128 + c % 64) && true)) h
+    (two_pass byte c later)
 bytes_pass byte false false false c later h =
-    both (byte (240 + c / 262144)) (byte (128 + c / 4096 % 64) &&
+    and_from (byte (240 + c / 262144)) (byte (128 + c / 4096 % 64) &&
     (byte (128 + c / 64 % 64) && (byte (128 + c % 64) && true))) h
-    (both (byte (128 + c / 4096 % 64)) (byte (128 + c / 64 % 64) && (byte (128 + c % 64) && true))
+    (and_from (byte (128 + c / 4096 % 64)) (byte (128 + c / 64 % 64) && (byte (128 + c % 64) && true))
     (later_pass byte (c / 4096) later) (two_pass byte c later))
 
 -- all bytes of a wide character pass where its first does
@@ -157,7 +159,7 @@ character_passes byte character tells c is h = at (ltb c 128) refl
         let one : byte c ≡ true = subst (λ bs. byte (get_or bs 0 0) ≡ true) (encode_ascii c low) h in (
           tells.narrow c low one,
           subst (λ bs. list_all byte bs ≡ true) (sym (encode_ascii c low))
-              (both (byte c) true one refl),
+              (and_from (byte c) true one refl),
         )
     at false large =
         let high : 128 ≤ c = grind (arith, nat_tests, large) in
@@ -184,7 +186,7 @@ byte_run byte character tells (c ∷ cs) are = at (byte (lead c)) refl
           front = c ∷ more.front;
           rest = more.rest;
           spelled = ap (λ ds. c ∷ ds) more.spelled;
-          pass = both (character c) (list_all character more.front) passes.0 more.pass;
+          pass = and_from (character c) (list_all character more.front) passes.0 more.pass;
           len = passed_over byte (encode c) (encode_utf8_all cs) passes.1 ∙ ap (λ n. length (encode c) + n) more.len
               ∙ sym (length-append (encode c) (encode_utf8_all more.front));
         }
@@ -192,7 +194,7 @@ byte_run byte character tells (c ∷ cs) are = at (byte (lead c)) refl
 -- where two texts joined have Unicode scalar values alone, so has the first
 scalars_left : (xs ys : List ℕ) → scalars (xs ++ ys) ≡ true → scalars xs ≡ true
 scalars_left [] ys h = refl
-scalars_left (x ∷ xs) ys h = both (scalar x) (scalars xs) (and_left (scalar x) (scalars (xs ++ ys)) h)
+scalars_left (x ∷ xs) ys h = and_from (scalar x) (scalars xs) (and_left (scalar x) (scalars (xs ++ ys)) h)
     (scalars_left xs ys (and_right (scalar x) (scalars (xs ++ ys)) h))
 
 -- where two texts joined have Unicode scalar values alone, so has the second
@@ -314,7 +316,7 @@ passed_none passes text = record {
 all_append : (passes : ℕ → Bool) (xs ys : List ℕ) → list_all passes xs ≡ true → list_all passes ys ≡ true
     → list_all passes (xs ++ ys) ≡ true
 all_append passes [] ys h k = k
-all_append passes (x ∷ xs) ys h k = both (passes x) (list_all passes (xs ++ ys))
+all_append passes (x ∷ xs) ys h k = and_from (passes x) (list_all passes (xs ++ ys))
     (and_left (passes x) (list_all passes xs) h)
     (all_append passes xs ys (and_right (passes x) (list_all passes xs) h) k)
 
@@ -343,10 +345,10 @@ pub passed_first : (passes : ℕ → Bool) (text rest after : List ℕ) (c : ℕ
 passed_first passes text rest after c passed utf8 begins h =
     let is : scalar c ≡ true = and_left (scalar c) (scalars (chars after))
     (subst (λ cs. scalars cs ≡ true) begins.characters (scalars-chars rest utf8)) in
-    let one : scalars (c ∷ []) ≡ true = both (scalar c) true is refl in
+    let one : scalars (c ∷ []) ≡ true = and_from (scalar c) true is refl in
     let alone : chars (encode c) ≡ c ∷ [] = ap chars (sym (append-nil (encode c))) ∙ chars-encodes (c ∷ []) one in
     passed_text passes text rest (encode c) after passed begins.bytes (c ∷ [], (one, append-nil (encode c)))
-    (subst (λ cs. list_all passes cs ≡ true) (sym alone) (both (passes c) true h refl))
+    (subst (λ cs. list_all passes cs ≡ true) (sym alone) (and_from (passes c) true h refl))
 
 -- where the next character fails, or there is none, what stands before is the longest front
 pub passed_all : (passes : ℕ → Bool) (text after front rest : List ℕ) (len : ℕ) → Passed passes text after

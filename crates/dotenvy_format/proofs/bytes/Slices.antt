@@ -44,8 +44,9 @@ use Rattle.std.proofs.lemmas.Str.{
 }
 use Rattle.std.proofs.lemmas.List.{take-append-drop, append-nil}
 use Rattle.std.proofs.Common.{length-drop}
+use Rattle.std.proofs.lemmas.Bool.{and_from}
 use Rattle.dotenvy_format.specs.Characters.{begins_with, begins_passing}
-use Rattle.dotenvy_format.proofs.Basics.{both, same_from, not_false}
+use Rattle.dotenvy_format.proofs.Basics.{same_from, not_false}
 use Rattle.dotenvy_format.specs.inside.Slices.{BeginsWith, IsSpan}
 
 -- a text that begins with a character's bytes begins with that character, and a text follows
@@ -61,7 +62,8 @@ no_characters text h = ap chars h ∙ chars-nil
 -- where no character fails, all pass
 all_pass : (passes : ℕ → Bool) (cs : List ℕ) → NonePass (λ c. not (passes c)) cs → list_all passes cs ≡ true
 all_pass passes [] h = refl
-all_pass passes (c ∷ cs) h = both (passes c) (list_all passes cs) (not_false (passes c) h.0) (all_pass passes cs h.1)
+all_pass passes (c ∷ cs) h =
+    and_from (passes c) (list_all passes cs) (not_false (passes c) h.0) (all_pass passes cs h.1)
 
 -- in a text where no character fails, all its characters pass
 pub characters_pass : (passes : ℕ → Bool) (text : List ℕ) → IsUtf8 text → NoCharPasses (λ c. not (passes c)) text →
@@ -98,7 +100,7 @@ found_span passes text front rest i j u b f r h p =
 none_pass : (passes : ℕ → Bool) (cs : List ℕ) → NonePass passes cs → list_all (λ c. not (passes c)) cs ≡ true
 none_pass passes [] h = refl
 none_pass passes (c ∷ cs) h =
-    both (not (passes c)) (list_all (λ c. not (passes c)) cs) (ap not h.0) (none_pass passes cs h.1)
+    and_from (not (passes c)) (list_all (λ c. not (passes c)) cs) (ap not h.0) (none_pass passes cs h.1)
 
 -- in a text of which no character passes, each fails
 pub characters_fail : (passes : ℕ → Bool) (text : List ℕ) → IsUtf8 text → NoCharPasses passes text →

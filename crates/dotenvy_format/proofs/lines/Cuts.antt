@@ -29,9 +29,10 @@ use Rattle.std.proofs.lemmas.Bool.Decides.{nat_tests}
 use Rattle.std.proofs.lemmas.Str.{encode_ascii, chars-encodes, is_utf8-from_IsUtf8}
 use Rattle.std.proofs.Math.Utf8.{encode, scalar, scalars}
 use Rattle.std.proofs.Common.{◌/◌, ◌%◌, ltb}
+use Rattle.std.proofs.lemmas.Bool.{and_from}
 use Rattle.dotenvy_format.specs.PhysicalLines.{no_line_feed, physical_lines, onto_first, line_text, line_texts}
 use Rattle.dotenvy_format.specs.LogicalLine.{joined_text, with_text_before}
-use Rattle.dotenvy_format.proofs.Basics.{same_from, and_left, and_right, both}
+use Rattle.dotenvy_format.proofs.Basics.{same_from, and_left, and_right}
 
 -- the list of lines is not empty: it has a first line, and others
 abbrev pub IsSome : List (List ℕ) → Type 0
@@ -213,14 +214,14 @@ scalars-onto c (xs ∷ xss) h k = grow (scalar c) (scalars xs) (list_all scalars
 -- lines of Unicode scalar values, with one more before them, alone or on the first, are such lines
 scalars_step : (c : ℕ) (b : Bool) (xss : List (List ℕ)) → scalars (c ∷ []) ≡ true → list_all scalars xss ≡ true →
     list_all scalars (cond b ((c ∷ []) ∷ xss) (onto_first c xss)) ≡ true
-scalars_step c true xss h k = both (scalar c && true) (list_all scalars xss) h k
+scalars_step c true xss h k = and_from (scalar c && true) (list_all scalars xss) h k
 scalars_step c false xss h k = scalars-onto c xss h k
 
 -- the physical lines of a text of Unicode scalar values have such values alone
 pub scalars-lines : (cs : List ℕ) → scalars cs ≡ true → list_all scalars (physical_lines cs) ≡ true
 scalars-lines [] h = refl
 scalars-lines (c ∷ cs) h =
-    scalars_step c (c == 10) (physical_lines cs) (both (scalar c) true (and_left (scalar c) (scalars cs) h) refl)
+    scalars_step c (c == 10) (physical_lines cs) (and_from (scalar c) true (and_left (scalar c) (scalars cs) h) refl)
     (scalars-lines cs (and_right (scalar c) (scalars cs) h))
 
 -- the bytes of Unicode scalar values are no broken line, and spell these values

@@ -39,6 +39,7 @@ use Rattle.std.proofs.lemmas.Str.{IsUtf8-from_is_utf8, encodes-chars, encode_asc
 use Rattle.std.proofs.lemmas.List.{append-nil}
 use Rattle.std.proofs.Math.Utf8.{encode}
 use Rattle.std.proofs.Common.{Ok}
+use Rattle.std.proofs.lemmas.Bool.{and_from}
 use Rattle.dotenvy_format.specs.declared.dialect.Dialect.{Dialect}
 use Rattle.dotenvy_format.specs.PhysicalLines.{
   no_line_feed,
@@ -54,7 +55,7 @@ use Rattle.dotenvy_format.specs.LogicalLine.{Logical, Skip, Text, Open, Broken, 
 use Rattle.dotenvy_format.specs.Entries.{Entry, AreLogicalLines, outcome_entries, Gives, GiveAll, HasEntries}
 use Rattle.dotenvy_format.specs.Items.{LookUp, items}
 use Rattle.dotenvy_format.specs.Written.{written_text, AreWritable}
-use Rattle.dotenvy_format.proofs.Basics.{same_from, not_is, and_left, and_right, both}
+use Rattle.dotenvy_format.proofs.Basics.{same_from, not_is, and_left, and_right}
 use Rattle.dotenvy_format.proofs.lines.Cuts.{spelled}
 use Rattle.dotenvy_format.proofs.lines.NextLine.{one_next, next_exists, some_lines, cut_later}
 use Rattle.dotenvy_format.proofs.statements.Outcomes.{outcome_of, outcome_of-is, one_outcome}
@@ -153,8 +154,8 @@ cut_onto : (c : ℕ) (xss : List (List ℕ)) → (c == 10) ≡ false → AreCut 
 cut_onto c [] h cut = refl
 cut_onto c ([] ∷ []) h cut = refl
 cut_onto c ([] ∷ ys ∷ xss) h cut = let e : false ≡ true = cut.0 in cc
-cut_onto c ((x ∷ xs) ∷ []) h cut = both (not (c == 10)) (is_last_line (x ∷ xs)) (ap not h) cut
-cut_onto c ((x ∷ xs) ∷ ys ∷ xss) h cut = (both (not (c == 10)) (is_whole_line (x ∷ xs)) (ap not h) cut.0, cut.1)
+cut_onto c ((x ∷ xs) ∷ []) h cut = and_from (not (c == 10)) (is_last_line (x ∷ xs)) (ap not h) cut
+cut_onto c ((x ∷ xs) ∷ ys ∷ xss) h cut = (and_from (not (c == 10)) (is_whole_line (x ∷ xs)) (ap not h) cut.0, cut.1)
 
 -- before lines as bytes are cut into them, a line feed may be a line of its own
 cut_line : (c : ℕ) (xss : List (List ℕ)) → (c == 10) ≡ true → AreCut (map Some xss) → AreCut (map Some ((c ∷ []) ∷ xss))
@@ -199,7 +200,7 @@ no_whole b (c ∷ bs) h =
 pub one_last : (b : ℕ) (bs : List ℕ) → no_line_feed (b ∷ bs) ≡ true → is_last_line (b ∷ bs) ≡ true
 one_last b [] h = refl
 one_last b (c ∷ bs) h =
-    both (not (b == 10)) (is_last_line (c ∷ bs)) (and_left (not (b == 10)) (no_line_feed (c ∷ bs)) h)
+    and_from (not (b == 10)) (is_last_line (c ∷ bs)) (and_left (not (b == 10)) (no_line_feed (c ∷ bs)) h)
     (one_last c bs (and_right (not (b == 10)) (no_line_feed (c ∷ bs)) h))
 
 -- the bytes are not empty: they are a first one, and others

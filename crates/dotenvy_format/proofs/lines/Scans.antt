@@ -23,6 +23,7 @@ use Rattle.std.proofs.Common.{
 use Rattle.std.specs.Prelude.{IsTrue, ◌==◌}
 use Rattle.std.specs.List.{flat_map, list_all}
 use Rattle.std.proofs.lemmas.Bool.Decides.{nat_tests}
+use Rattle.std.proofs.lemmas.Bool.{and_from}
 use Rattle.dotenvy_format.specs.Characters.{line_feed, backslash, hash, is_quote, is_blank}
 use Rattle.dotenvy_format.specs.Tokens.{
   QuotedCharacter,
@@ -42,7 +43,7 @@ use Rattle.dotenvy_format.specs.Tokens.{
   AreTokens,
 }
 use Rattle.dotenvy_format.specs.LogicalLine.{Ending, line_end, escaped_line_end, comment, input_end, ending_text}
-use Rattle.dotenvy_format.proofs.Basics.{and_left, and_right, both, not_is, not_or, same_from, when_true, when_false}
+use Rattle.dotenvy_format.proofs.Basics.{and_left, and_right, not_is, not_or, same_from, when_true, when_false}
 
 -- where a reading stands: outside, after a backslash, in quotes, after a backslash there, after a blank
 pub data ScanMode : Type 0 where
@@ -462,7 +463,7 @@ read_inside q c cs (stops front ending rest) h r =
       inner = one c ∷ r.inner;
       after = r.after;
       front' = r.front';
-      are = both (not (c == q || c == backslash)) (list_all (is_quoted q) r.inner) h r.are;
+      are = and_from (not (c == q || c == backslash)) (list_all (is_quoted q) r.inner) h r.are;
       spelled = ap (λ t. c ∷ t) r.spelled;
       front_is = ap (λ t. c ∷ t) r.front_is;
       reads = r.reads;

@@ -35,7 +35,8 @@ use Rattle.std.specs.Str.{
 }
 use Rattle.std.proofs.lemmas.Str.{chars-encodes, scalars-chars, encodes-chars}
 use Rattle.std.proofs.lemmas.Bool.Decides.{nat_tests}
-use Rattle.dotenvy_format.proofs.Basics.{and_left, and_right, both, not_is, if_true, if_false}
+use Rattle.std.proofs.lemmas.Bool.{and_from}
+use Rattle.dotenvy_format.proofs.Basics.{and_left, and_right, not_is, if_true, if_false}
 use Rattle.dotenvy_format.specs.Characters.{begins_key, continues_key, equals_sign, begins_passing}
 use lib.Utf8.{scalar, encode}
 use Rattle.dotenvy_format.specs.inside.Slices.{IsSpan}
@@ -112,7 +113,7 @@ chars-trim_start text trimmed u h =
 scalars-drop : (cs : List ℕ) → all_scalars cs ≡ true → all_scalars (drop_trailing_whitespace cs) ≡ true
 scalars-drop [] h = refl
 scalars-drop (c ∷ cs) h =
-    at (is_whitespace c && length (drop_trailing_whitespace cs) == 0) (both (scalar c)
+    at (is_whitespace c && length (drop_trailing_whitespace cs) == 0) (and_from (scalar c)
     (all_scalars (drop_trailing_whitespace cs)) (and_left (scalar c) (all_scalars cs) h)
     (scalars-drop cs (and_right (scalar c) (all_scalars cs) h)))
   where

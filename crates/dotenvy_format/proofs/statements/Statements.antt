@@ -31,10 +31,11 @@ use Rattle.std.specs.Char.{is_whitespace}
 use Rattle.std.specs.Cmp.Lexicographic.{same_text}
 use Rattle.std.proofs.lemmas.List.{append-nil}
 use Rattle.std.proofs.lemmas.Bool.Decides.{nat_tests}
+use Rattle.std.proofs.lemmas.Bool.{and_from}
 use Rattle.dotenvy_format.specs.Characters.{begins_key, continues_key, equals_sign}
 use Rattle.dotenvy_format.specs.Statement.{IsStatement, IsPrefix, is_white_space, begins_with_white_space}
 use Rattle.dotenvy_format.specs.Keys.{is_key}
-use Rattle.dotenvy_format.proofs.Basics.{and_left, and_right, both, some_same, same_from, when_true, when_false}
+use Rattle.dotenvy_format.proofs.Basics.{and_left, and_right, some_same, same_from, when_true, when_false}
 use Rattle.dotenvy_format.proofs.writing.ReadBack.{begins_key_visible}
 use Rattle.dotenvy_format.specs.inside.ParseStatement.{export}
 
@@ -362,7 +363,7 @@ statement_from text key rest a = let e = a.equals in record {
   prefix = [];
   before = e.before;
   after = e.after;
-  white_space = both (is_white_space e.before) (is_white_space e.after) e.white_before e.white_after;
+  white_space = and_from (is_white_space e.before) (is_white_space e.after) e.white_before e.white_after;
   is_prefix = inl refl;
   is_key = a.key_is;
   trimmed = e.trimmed;
@@ -394,7 +395,7 @@ equals_white w text rest h e =
     record {
       before = w ∷ e.before;
       after = e.after;
-      white_before = both (is_whitespace w) (is_white_space e.before) h e.white_before;
+      white_before = and_from (is_whitespace w) (is_white_space e.before) h e.white_before;
       white_after = e.white_after;
       trimmed = e.trimmed;
       spelled = ap (λ t. w ∷ t) e.spelled;
@@ -409,7 +410,7 @@ rest_is (c ∷ cs) = by (is_whitespace c) refl (rest_is cs)
     by true h r =
         record {
           after = c ∷ r.after;
-          white = both (is_whitespace c) (is_white_space r.after) h r.white;
+          white = and_from (is_whitespace c) (is_white_space r.after) h r.white;
           trimmed = r.trimmed;
           spelled = ap (λ t. c ∷ t) r.spelled;
         }
@@ -486,7 +487,7 @@ export_white w cs (Some (key, rest)) h (inl e) =
     inl (record {
       gap = w ∷ e.gap;
       tail = e.tail;
-      white = both (is_whitespace w) (is_white_space e.gap) h e.white;
+      white = and_from (is_whitespace w) (is_white_space e.gap) h e.white;
       assigned = e.assigned;
       spelled = ap (λ t. w ∷ t) e.spelled;
     })
@@ -509,8 +510,8 @@ export_word w cs (Some (key, rest)) white (inl e) = let a = e.assigned in let q 
   prefix = export ++ (w ∷ e.gap);
   before = q.before;
   after = q.after;
-  white_space = both (is_white_space q.before) (is_white_space q.after) q.white_before q.white_after;
-  is_prefix = inr (w, e.gap, refl, both (is_whitespace w) (is_white_space e.gap) white e.white);
+  white_space = and_from (is_white_space q.before) (is_white_space q.after) q.white_before q.white_after;
+  is_prefix = inr (w, e.gap, refl, and_from (is_whitespace w) (is_white_space e.gap) white e.white);
   is_key = a.key_is;
   trimmed = q.trimmed;
   spelled = ap (λ t. export ++ w ∷ t) (e.spelled ∙ ap (λ t. e.gap ++ t) (a.spelled ∙ ap (λ t. key ++ t) q.spelled));
@@ -543,14 +544,14 @@ StatementLater cs = (m : StatementMode) → IsStatementMode m → IsStatementRea
 is_key_more : (acc : List ℕ) (c : ℕ) → is_key acc ≡ true → continues_key c ≡ true → is_key (acc ++ c ∷ []) ≡ true
 is_key_more [] c h k = cc
 is_key_more (d ∷ acc) c h k =
-    both (begins_key d) (list_all continues_key (acc ++ c ∷ []))
+    and_from (begins_key d) (list_all continues_key (acc ++ c ∷ []))
     (and_left (begins_key d) (list_all continues_key acc) h)
     (all_more acc (and_right (begins_key d) (list_all continues_key acc) h))
   where
     all_more : (xs : List ℕ) → list_all continues_key xs ≡ true → list_all continues_key (xs ++ c ∷ []) ≡ true
-    all_more [] h = both (continues_key c) true k refl
+    all_more [] h = and_from (continues_key c) true k refl
     all_more (x ∷ xs) h =
-        both (continues_key x) (list_all continues_key (xs ++ c ∷ []))
+        and_from (continues_key x) (list_all continues_key (xs ++ c ∷ []))
         (and_left (continues_key x) (list_all continues_key xs) h)
         (all_more xs (and_right (continues_key x) (list_all continues_key xs) h))
 
@@ -567,7 +568,7 @@ start_step : (c : ℕ) (cs : List ℕ) (w b : Bool) → is_whitespace c ≡ w �
 start_step c cs true b hw hb later = indented c cs (read_statement cs start) hw (later start tt)
 start_step c cs false true hw hb later =
     key_from_start c cs (read_statement cs (in_key true (c ∷ [])))
-    (later (in_key true (c ∷ [])) (both (begins_key c) true hb refl))
+    (later (in_key true (c ∷ [])) (and_from (begins_key c) true hb refl))
 start_step c cs false false hw hb later = tt
 
 -- at white space after a word, what is read is right, where what is read after it is
@@ -635,7 +636,7 @@ export_step c cs false true b he hw hb later =
     export_white c cs (read_statement cs after_export) hw (later after_export tt)
 export_step c cs false false true he hw hb later =
     export_key c cs (read_statement cs (in_key false (c ∷ [])))
-    (later (in_key false (c ∷ [])) (both (begins_key c) true hb refl))
+    (later (in_key false (c ∷ [])) (and_from (begins_key c) true hb refl))
 export_step c cs false false false he hw hb later = tt
 
 -- each reading of a text from a mode whose word is a key is right

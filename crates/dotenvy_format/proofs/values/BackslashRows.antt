@@ -38,6 +38,7 @@ use Rattle.std.specs.Str.{chars, encode_utf8_all, IsUtf8, IsCharBoundary}
 use Rattle.std.proofs.lemmas.List.{take-append-drop}
 use Rattle.std.proofs.lemmas.List.Sums.{prefix_len-le-length, prefix_len_passes}
 use Rattle.std.proofs.lemmas.Str.{chars-append, chars-encodes, IsUtf8-take, IsUtf8-drop, IsCharBoundary-after_ascii}
+use Rattle.std.proofs.lemmas.Bool.{and_from}
 use Rattle.dotenvy_format.specs.declared.dialect.Dialect.{Dialect}
 use Rattle.dotenvy_format.specs.declared.text.Quoting.{Quoting as CodeQuoting}
 use Rattle.dotenvy_format.specs.declared.value.Piece.TheVariants.{Text as CodeText}
@@ -47,7 +48,7 @@ use Rattle.dotenvy_format.specs.Value.{Quoting, unquoted, double_quoted, Piece, 
 use Rattle.dotenvy_format.specs.Items.{LookUp, meaning}
 use Rattle.dotenvy_format.specs.inside.ReadValue.{base, escaping, value_goes}
 use Rattle.dotenvy_format.specs.inside.NextPiece.{IsReadTo, GivesPiece}
-use Rattle.dotenvy_format.proofs.Basics.{and_left, and_right, both, same_from}
+use Rattle.dotenvy_format.proofs.Basics.{and_left, and_right, same_from}
 use Rattle.dotenvy_format.proofs.values.NextPiece.{one, read_further}
 
 -- the character is a backslash
@@ -73,7 +74,7 @@ are_scalars : (row : List ℕ) → list_all is_backslash row ≡ true → scalar
 are_scalars [] h = refl
 are_scalars (c ∷ row) h =
     let e = same_from c backslash (and_left (is_backslash c) (list_all is_backslash row) h) in
-    both (scalar c) (scalars row) (subst (λ d. scalar d ≡ true) (sym e) refl)
+    and_from (scalar c) (scalars row) (subst (λ d. scalar d ≡ true) (sym e) refl)
     (are_scalars row (and_right (is_backslash c) (list_all is_backslash row) h))
 
 -- a row of backslashes is its own characters
@@ -92,7 +93,7 @@ taken_pass passes bytes zero h = refl
 taken_pass passes [] (suc i) h = absurd (omega (arith, h))
 taken_pass passes (b ∷ bytes) (suc i) h =
     let more = taken_more (passes b) i (prefix_len passes bytes) h in
-    both (passes b) (list_all passes (take i bytes)) more.0 (taken_pass passes bytes i more.1)
+    and_from (passes b) (list_all passes (take i bytes)) more.0 (taken_pass passes bytes i more.1)
 
 -- a text may be cut anywhere in the row of backslashes at its front
 pub row_boundary : (text : List ℕ) (i : ℕ) → IsUtf8 text → 0 < i → i ≤ prefix_len is_backslash text

@@ -27,6 +27,7 @@ use Rattle.std.specs.Prelude.{◌==◌}
 use Rattle.std.specs.List.{flat_map, list_all}
 use Rattle.std.proofs.lemmas.List.{append-nil}
 use Rattle.std.proofs.lemmas.Bool.Decides.{nat_tests}
+use Rattle.std.proofs.lemmas.Bool.{and_from}
 use Rattle.dotenvy_format.specs.declared.dialect.Dialect.{Dialect}
 use Rattle.dotenvy_format.specs.declared.dialect.Dialect.TheVariants.{V15, Next}
 use Rattle.dotenvy_format.specs.Characters.{
@@ -85,7 +86,7 @@ use Rattle.dotenvy_format.specs.Value.{
   IsClose,
   IsValue,
 }
-use Rattle.dotenvy_format.proofs.Basics.{and_left, and_right, both, not_is, not_or, same_from, when_true, when_false}
+use Rattle.dotenvy_format.proofs.Basics.{and_left, and_right, not_is, not_or, same_from, when_true, when_false}
 use Rattle.dotenvy_format.proofs.bytes.NameCharacters.{dollar_no_name, brace_no_name, quote_no_name}
 use Rattle.dotenvy_format.specs.inside.ReadValue.{
   ValueMode,
@@ -531,7 +532,7 @@ from_tail dialect c cs (Some ps) is h = record {
   segments = [];
   close = tail c h.0.blanks h.0.comment;
   are_segments = tt;
-  is_close = (both (is_space_or_tab c) (list_all is_space_or_tab h.0.blanks) is h.0.are, h.0.is);
+  is_close = (and_from (is_space_or_tab c) (list_all is_space_or_tab h.0.blanks) is h.0.are, h.0.is);
   spelled = ap (λ t. c ∷ t) h.0.spelled;
   means = h.1;
 }
@@ -656,9 +657,9 @@ escape_step dialect q c cs false h later = tt
 
 -- where all characters of a text pass a test and one more does, all pass with that one after them
 all-more : (p : ℕ → Bool) (xs : List ℕ) (c : ℕ) → list_all p xs ≡ true → p c ≡ true → list_all p (xs ++ c ∷ []) ≡ true
-all-more p [] c h k = both (p c) true k refl
+all-more p [] c h k = and_from (p c) true k refl
 all-more p (x ∷ xs) c h k =
-    both (p x) (list_all p (xs ++ c ∷ [])) (and_left (p x) (list_all p xs) h)
+    and_from (p x) (list_all p (xs ++ c ∷ [])) (and_left (p x) (list_all p xs) h)
     (all-more p xs c (and_right (p x) (list_all p xs) h) k)
 
 -- where a text is read right from every sound mode, so is it in single quotes with a character in front
@@ -773,7 +774,7 @@ tail_step dialect c cs true n ht hn later = longer (read_value dialect cs in_tai
       record {
         blanks = c ∷ h.0.blanks;
         comment = h.0.comment;
-        are = both (is_space_or_tab c) (list_all is_space_or_tab h.0.blanks) ht h.0.are;
+        are = and_from (is_space_or_tab c) (list_all is_space_or_tab h.0.blanks) ht h.0.are;
         is = h.0.is;
         spelled = ap (λ t. c ∷ t) h.0.spelled;
       },

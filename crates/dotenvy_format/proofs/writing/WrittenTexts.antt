@@ -3,6 +3,7 @@ use Rattle.std.proofs.Common.{◌≡◌, ℕ, Bool, true, false, cond, List, [],
 use Rattle.std.specs.List.{flat_map, list_all}
 use Rattle.std.proofs.lemmas.Bool.Decides.{nat_tests}
 use Rattle.std.proofs.Math.Utf8.{scalar, scalars}
+use Rattle.std.proofs.lemmas.Bool.{and_from}
 use Rattle.dotenvy_format.specs.Characters.{
   double_quote,
   backslash,
@@ -13,7 +14,7 @@ use Rattle.dotenvy_format.specs.Characters.{
 }
 use Rattle.dotenvy_format.specs.Keys.{is_key}
 use Rattle.dotenvy_format.specs.Written.{needs_backslash, written_character, written_pair, written_text, AreWritable}
-use Rattle.dotenvy_format.proofs.Basics.{and_left, and_right, both}
+use Rattle.dotenvy_format.proofs.Basics.{and_left, and_right}
 use Rattle.dotenvy_format.proofs.writing.ReadBackLines.{AreKeys}
 
 -- of pairs that can be written each first part is a key
@@ -25,7 +26,7 @@ keys_of ((key, text) ∷ pairs) are = (and_left (is_key key) (scalars text) are.
 scalars-append : (xs ys : List ℕ) → scalars xs ≡ true → scalars ys ≡ true → scalars (xs ++ ys) ≡ true
 scalars-append [] ys h k = k
 scalars-append (x ∷ xs) ys h k =
-    both (scalar x) (scalars (xs ++ ys)) (and_left (scalar x) (scalars xs) h)
+    and_from (scalar x) (scalars (xs ++ ys)) (and_left (scalar x) (scalars xs) h)
     (scalars-append xs ys (and_right (scalar x) (scalars xs) h) k)
 
 -- a later character of a key is a Unicode scalar value
@@ -36,14 +37,14 @@ key_scalar c h = grind (arith, nat_tests, h)
 rest_scalars : (cs : List ℕ) → list_all continues_key cs ≡ true → scalars cs ≡ true
 rest_scalars [] h = refl
 rest_scalars (c ∷ cs) h =
-    both (scalar c) (scalars cs) (key_scalar c (and_left (continues_key c) (list_all continues_key cs) h))
+    and_from (scalar c) (scalars cs) (key_scalar c (and_left (continues_key c) (list_all continues_key cs) h))
     (rest_scalars cs (and_right (continues_key c) (list_all continues_key cs) h))
 
 -- a key is a text of Unicode scalar values
 key_scalars : (key : List ℕ) → is_key key ≡ true → scalars key ≡ true
 key_scalars [] h = refl
 key_scalars (c ∷ cs) h =
-    both (scalar c) (scalars cs)
+    and_from (scalar c) (scalars cs)
     (key_scalar c (let b = and_left (begins_key c) (list_all continues_key cs) h in rw b refl))
     (rest_scalars cs (and_right (begins_key c) (list_all continues_key cs) h))
 
