@@ -64,8 +64,8 @@ use Rattle.dotenvy_lines.specs.Input.{
   DropsMark,
   end_reads,
 }
-use Rattle.dotenvy_lines.specs.Lines.{LinesState, IsAtEnd, IsNextAlways, TakesNext, IsUndecided, GoesOn}
-use Rattle.dotenvy_lines.specs.Splitter.{AdvanceIs}
+use Rattle.dotenvy_lines.specs.Lines.{LinesState, IsAtEnd, GoesOn}
+use Rattle.dotenvy_lines.specs.inside.NextLine.{IsNextAlways, TakesNext, IsUndecided, AdvanceIs}
 use Rattle.dotenvy_lines.specs.Reading.{HasLeft, told_fault, certain_bytes, StopsAtBound, IsReading}
 use Rattle.dotenvy_items.specs.LoadsLeft.{IsAnswer, Leaves, Rule, LoadsLeft}
 use Rattle.dotenvy_items.specs.inside.LoadStep.{LoadsLine}

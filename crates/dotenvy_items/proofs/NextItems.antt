@@ -59,24 +59,13 @@ use Rattle.dotenvy_format.specs.Decided.{HasDecided}
 use Rattle.dotenvy_base.specs.Environment.{Texts}
 use Rattle.dotenvy_base.specs.Source.{Ahead}
 use Rattle.dotenvy_lines.specs.Input.{InputState, IsTold, Moves, IsFinal, end_reads}
-use Rattle.dotenvy_lines.specs.Lines.{
-  LinesState,
-  whole_lines,
-  IsAtEnd,
-  IsNextAlways,
-  TakesNext,
-  Counts,
-  CountsLine,
-  TakesFault,
-  IsUndecided,
-  GoesOn,
-  FailsFor,
-}
-use Rattle.dotenvy_lines.specs.Splitter.{AdvanceIs, no_line, last_lines, lines_unless_failed}
+use Rattle.dotenvy_lines.specs.Lines.{LinesState, whole_lines, IsAtEnd, Counts, GoesOn, FailsFor, no_line}
+use Rattle.dotenvy_lines.specs.inside.NextLine.{IsNextAlways, TakesNext, CountsLine, TakesFault, IsUndecided, AdvanceIs}
+use Rattle.dotenvy_lines.specs.inside.Splitter.{last_lines, lines_unless_failed}
 use Rattle.dotenvy_lines.proofs.NumberedLines.{counts_none, counts_more}
 use Rattle.dotenvy_lines.specs.Reading.{HasLeft}
 use Rattle.dotenvy_items.specs.Meaning.{recalled_of}
-use Rattle.dotenvy_items.specs.Iter.{IterState}
+use Rattle.dotenvy_items.specs.Iter.{IterState, state_of}
 use Rattle.dotenvy_items.specs.NextItem.{DecideFirst, UsesLines, StandsOn, ItemIs}
 use Rattle.dotenvy_format.specs.Items.{text_of}
 use Rattle.dotenvy_items.specs.inside.ItemStep.{
@@ -86,7 +75,6 @@ use Rattle.dotenvy_items.specs.inside.ItemStep.{
   AddsLine,
   item_lines_then,
   reading_of,
-  state_of,
 }
 use Rattle.dotenvy_items.specs.Remembered.{Remembered}
 use Rattle.dotenvy_lines.proofs.Inputs.{ahead_of, moves_none, moves_on, final_before}

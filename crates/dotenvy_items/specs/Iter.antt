@@ -9,8 +9,7 @@ use Rattle.dotenvy_base.specs.Source.{Ahead}
 use Rattle.dotenvy_base.specs.declared.errors.Error.{Error}
 use Rattle.dotenvy_lines.specs.declared.lines.Stage.TheVariants.{Open, Failed}
 use Rattle.dotenvy_lines.specs.Input.{AsksReads, DropsMark, IsTold}
-use Rattle.dotenvy_lines.specs.Lines.{LinesState, lines_code, fuel_of, WhereOpen}
-use Rattle.dotenvy_lines.specs.Splitter.{fresh_lines, no_line}
+use Rattle.dotenvy_lines.specs.Lines.{LinesState, lines_code, fuel_of, WhereOpen, fresh_lines, no_line}
 use Rattle.dotenvy_items.specs.Remembered.{Remembered}
 
 -- its logical lines, the values that it remembers, the dialect that it reads, and the first and the
@@ -31,6 +30,15 @@ iter_code =
     (λ s. (s.lines, (s.remembered, (s.dialect, s.item_lines))))
     (λ p. record { lines = p.0; remembered = p.1.0; dialect = p.1.1.0; item_lines = p.1.1.1 })
     (λ _. refl)
+
+-- an iterator's state, from its parts
+abbrev pub state_of : LinesState → Remembered → Dialect → ℕ × ℕ → IterState
+state_of lines remembered dialect item_lines = record {
+  lines = lines;
+  remembered = remembered;
+  dialect = dialect;
+  item_lines = item_lines;
+}
 
 -- nothing was read of what a source tells, and nothing is remembered; these are the calls on it so
 -- far, if it tells them

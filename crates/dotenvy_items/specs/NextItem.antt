@@ -48,8 +48,7 @@ use Rattle.dotenvy_base.specs.Environment.{Texts, name_ok}
 use Rattle.dotenvy_items.specs.Meaning.{recalled_of, names_of}
 use Rattle.dotenvy_base.specs.Source.{Ahead}
 use Rattle.dotenvy_lines.specs.Input.{Moves}
-use Rattle.dotenvy_lines.specs.Lines.{whole_lines, IsAtEnd, GoesOn, FailsFor, Counts}
-use Rattle.dotenvy_lines.specs.Splitter.{no_line}
+use Rattle.dotenvy_lines.specs.Lines.{whole_lines, IsAtEnd, GoesOn, FailsFor, Counts, no_line}
 use Rattle.dotenvy_lines.specs.Reading.{HasLeft}
 use Rattle.dotenvy_items.specs.Iter.{IterState, IsOpen, TellsLeft}
 

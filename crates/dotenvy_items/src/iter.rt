@@ -15,7 +15,8 @@ ghost use Rattle.dotenvy_items.specs.Meaning.{names_of};
 ghost use Rattle.dotenvy_items.specs.inside.ParsedLine.{IsLineAnswer, Remembers, HasKey};
 ghost use Rattle.dotenvy_lines.specs.Lines.{fuel_of};
 ghost use Rattle.dotenvy_items.specs.Remembered.{remembered_of};
-ghost use Rattle.dotenvy_items.specs.inside.ItemStep.{AddsLine, item_lines_then, reading_of, state_of};
+ghost use Rattle.dotenvy_items.specs.inside.ItemStep.{AddsLine, item_lines_then, reading_of};
+ghost use Rattle.dotenvy_items.specs.Iter.{state_of};
 ghost use Rattle.dotenvy_items.specs.NextItem.{GivesName, NextItem};
 ghost use Rattle.dotenvy_items.specs.LoadsLeft.{ChangesKeys, LoadsLeft};
 ghost use Rattle.dotenvy_items.specs.inside.LoadStep.{mode_of};
@@ -55,7 +56,7 @@ pub struct Iter<R: Source, A: Allocator = Global> {
 
 impl<R: Source, A: Allocator> Model for Iter<R, A> {
     ghost use Rattle.dotenvy_items.specs.Iter.{IterState, iter_code};
-    ghost use Rattle.dotenvy_items.specs.inside.ItemStep.{state_of};
+    ghost use Rattle.dotenvy_items.specs.Iter.{state_of};
     ghost use Rattle.dotenvy_items.specs.Remembered.{remembered_of};
 
     ghost Value = { IterState };

@@ -29,7 +29,8 @@ use Rattle.dotenvy_base.specs.Calls.{Call, TellsCall, MayGoOn, AllMayGoOn, OnlyL
 use Rattle.dotenvy_lines.specs.declared.lines.Stage.{Stage}
 use Rattle.dotenvy_lines.specs.declared.lines.Stage.TheVariants.{Open, Ended, Failed}
 use Rattle.dotenvy_lines.specs.Lines.{LinesState}
-use Rattle.dotenvy_lines.specs.Input.{InputState, AsksReads, AsksOnce}
+use Rattle.dotenvy_lines.specs.Input.{InputState, AsksReads}
+use Rattle.dotenvy_lines.specs.inside.InputSteps.{AsksOnce}
 
 -- no read is made where neither the calls nor the reads left change
 pub asks_none : (goes_on : Type 0) (s t : InputState) → t.calls ≡ s.calls → t.reads ≡ s.reads →

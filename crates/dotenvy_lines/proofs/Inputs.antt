@@ -36,19 +36,17 @@ use Rattle.std.proofs.Common.{
   length-drop,
   get_or,
 }
-use Rattle.std.specs.Prelude.{Option, Some, None, unwrap_or, ◌==◌}
+use Rattle.std.specs.Prelude.{Option, Some, None, unwrap_or, ◌==◌, nat_eq, MatchBool}
 use Rattle.std.specs.IoError.{error_kind}
 use Rattle.std.proofs.Math.Seq.{take-append_seam}
 use Rattle.std.proofs.lemmas.Option.{none-some}
-use Rattle.std.specs.List.{position_or_len}
+use Rattle.std.specs.List.{position_or_len, starts_with}
 use Rattle.memchr.specs.Find.{IsFirstByte, is_byte}
 use Rattle.std.proofs.lemmas.List.Sums.{position_or_len_is}
 use Rattle.std.proofs.lemmas.Grind.{common_steps}
 use Rattle.std.proofs.lemmas.Bool.{ltb-true, ltb-false}
 use Rattle.std.proofs.lemmas.Bool.Decides.{nat_tests}
 use Rattle.std.proofs.lemmas.List.{take-append-drop, take-take, take_all, length-take-le}
-use Rattle.std.specs.Prelude.{nat_eq, MatchBool}
-use Rattle.std.specs.List.{starts_with}
 use lib.Pointwise.{pointwise}
 use Rattle.std.specs.declared.io.ErrorKind.{ErrorKind}
 use Rattle.std.specs.declared.io.Error.{Error as IoError}
@@ -61,24 +59,17 @@ use Rattle.dotenvy_base.specs.Source.{Ahead}
 use Rattle.dotenvy_base.proofs.Basics.{nil_of}
 use Rattle.dotenvy_format.proofs.Basics.{and_left, and_right}
 use Rattle.dotenvy_base.specs.Errors.{IsMemory, IsIoOf}
-use Rattle.dotenvy_lines.specs.Input.{
-  InputState,
+use Rattle.dotenvy_lines.specs.Input.{InputState, IsTold, ReadsFit, IsReadFault, IsFinal, end_reads, Moves, begins_mark}
+use Rattle.dotenvy_lines.specs.inside.InputSteps.{
   left_of,
-  IsTold,
   IsAllRead,
-  ReadsFit,
-  IsReadFault,
-  IsFinal,
   FaultIsNext,
   Takes,
-  end_reads,
   drop_left,
   used_up,
   IsLinePiece,
   MovesLine,
-  Moves,
   TakesLine,
-  begins_mark,
 }
 
 -- the byte is a line feed

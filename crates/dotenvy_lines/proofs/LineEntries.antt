@@ -9,7 +9,8 @@ use Rattle.dotenvy_format.specs.Decided.{up_to_last_line_feed, without_open_end,
 use Rattle.dotenvy_lines.specs.Input.{InputState}
 use Rattle.dotenvy_lines.specs.Reading.{HasLeft}
 use Rattle.dotenvy_format.specs.PhysicalLines.{line_texts}
-use Rattle.dotenvy_lines.specs.Lines.{whole_lines, lines_so_far, IsNextAlways, TakesNext, IsUndecided}
+use Rattle.dotenvy_lines.specs.Lines.{whole_lines}
+use Rattle.dotenvy_lines.specs.inside.NextLine.{lines_so_far, IsNextAlways, TakesNext, IsUndecided}
 use Rattle.dotenvy_format.proofs.lines.EntriesOnce.{lines_within, cut_line_texts, entries_exist, entries_once}
 use Rattle.dotenvy_format.proofs.lines.DecidedFront.{decided_exist, decided_once}
 use Rattle.dotenvy_format.proofs.lines.NextEntries.{entries-none}

@@ -81,19 +81,16 @@ use Rattle.dotenvy_format.specs.LogicalLine.{
 }
 use Rattle.dotenvy_format.specs.inside.Walk.{walk, going, ended}
 use Rattle.dotenvy_base.specs.Source.{Ahead}
-use Rattle.dotenvy_lines.specs.Input.{InputState, IsTold, ReadsFit, IsFinal, Moves, TakesLine, end_reads}
-use Rattle.dotenvy_lines.specs.Lines.{
-  LinesState,
-  whole_before,
-  whole_lines,
+use Rattle.dotenvy_lines.specs.Input.{InputState, IsTold, ReadsFit, IsFinal, Moves, end_reads}
+use Rattle.dotenvy_lines.specs.inside.InputSteps.{TakesLine}
+use Rattle.dotenvy_lines.specs.Lines.{LinesState, whole_before, whole_lines, IsAtEnd, Counts, GoesOn}
+use Rattle.dotenvy_lines.specs.inside.NextLine.{
   lines_so_far,
-  IsAtEnd,
   IsNextAlways,
   TakesNext,
-  Counts,
   IsUndecided,
-  GoesOn,
   NextTextIs,
+  AdvanceIs,
 }
 use Rattle.dotenvy_lines.specs.inside.JoinedLines.{
   begun_at_end,
@@ -103,7 +100,6 @@ use Rattle.dotenvy_lines.specs.inside.JoinedLines.{
   stage_after,
   IsOutcome,
 }
-use Rattle.dotenvy_lines.specs.Splitter.{AdvanceIs}
 use Rattle.dotenvy_lines.specs.declared.physical_line.Taken.{Taken}
 use Rattle.dotenvy_lines.specs.declared.physical_line.Taken.TheVariants.{
   Going as taken_going,
@@ -111,7 +107,7 @@ use Rattle.dotenvy_lines.specs.declared.physical_line.Taken.TheVariants.{
   Comment as taken_comment,
   Broken as taken_broken,
 }
-use Rattle.dotenvy_lines.proofs.NumberedLines.{counts_one}
+use Rattle.dotenvy_lines.proofs.NumberedLines.{counts_one, counts_none}
 use Rattle.dotenvy_lines.specs.inside.TakenLine.{LineMakes}
 use Rattle.dotenvy_format.proofs.lines.Scans as scans
 use Rattle.dotenvy_format.proofs.lines.Scans.{stops, scan, scan-reads, Reads, Read}
@@ -137,7 +133,6 @@ use Rattle.dotenvy_format.proofs.lines.SplitLines.{
   lines_more,
 }
 use Rattle.dotenvy_lines.proofs.Inputs.{ahead_of, moves_none, moves_on, moves_still, final_before}
-use Rattle.dotenvy_lines.proofs.NumberedLines.{counts_none, counts_one}
 
 -- up to their last line feed, a line with its line feed and more bytes are that line and what those have
 up_to_whole : (line left : List ℕ) → is_whole_line line ≡ true →

@@ -49,7 +49,7 @@ use Rattle.std.specs.Prelude.{
 use Rattle.std.specs.Str.{chars, IsValidUpTo}
 use Rattle.std.specs.Result.{result_unwrap_or}
 use Rattle.std.proofs.Math.Utf8.{encode}
-use Rattle.std.proofs.Math.Seq.{take-append_seam, take-append-add}
+use Rattle.std.proofs.Math.Seq.{take-append_seam, take-append-add, drop-append_seam}
 use Rattle.std.proofs.lemmas.Bool.{false≢true}
 use Rattle.std.proofs.lemmas.Bool.Decides.{nat_tests}
 use Rattle.std.proofs.lemmas.List.{take-append-drop, take-append-le, take_all, length-take-le}
@@ -65,9 +65,9 @@ use Rattle.dotenvy_lines.specs.declared.physical_line.After.TheVariants.{LineEnd
 use Rattle.dotenvy_format.specs.Characters.{line_feed}
 use Rattle.dotenvy_format.specs.PhysicalLines.{is_whole_line, no_line_feed}
 use Rattle.dotenvy_base.specs.Source.{Ahead}
-use Rattle.dotenvy_lines.specs.Input.{InputState, IsAllRead, IsLinePiece, drop_left, used_up}
+use Rattle.dotenvy_lines.specs.Input.{InputState}
+use Rattle.dotenvy_lines.specs.inside.InputSteps.{IsAllRead, IsLinePiece, drop_left, used_up}
 use Rattle.dotenvy_lines.specs.inside.TakenLine.{IsTextFront, PieceFalls, Stands, TakesPiece, after_text}
-use Rattle.std.proofs.Math.Seq.{drop-append_seam}
 use Rattle.dotenvy_base.proofs.Basics.{nil_of, more_some}
 use Rattle.dotenvy_format.proofs.Basics.{and_left, and_right}
 use Rattle.dotenvy_format.proofs.lines.LineTexts.{char_text}

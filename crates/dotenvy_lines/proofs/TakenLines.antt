@@ -41,7 +41,8 @@ use Rattle.dotenvy_format.specs.Characters.{begins_with, hash}
 use Rattle.dotenvy_format.specs.PhysicalLines.{no_line_feed, is_whole_line}
 use Rattle.dotenvy_format.specs.inside.Walk.{walk}
 use Rattle.dotenvy_base.specs.Source.{Ahead}
-use Rattle.dotenvy_lines.specs.Input.{InputState, IsTold, IsFinal, ReadsFit, Moves, TakesLine}
+use Rattle.dotenvy_lines.specs.Input.{InputState, IsTold, IsFinal, ReadsFit, Moves}
+use Rattle.dotenvy_lines.specs.inside.InputSteps.{TakesLine}
 use Rattle.dotenvy_lines.specs.inside.TakenLine.{
   Walks,
   WalksOn,

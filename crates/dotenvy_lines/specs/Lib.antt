@@ -2,4 +2,3 @@ pub mod inside
 pub mod Input
 pub mod Lines
 pub mod Reading
-pub mod Splitter

@@ -1,3 +1,6 @@
 pub mod Buffer
+pub mod InputSteps
 pub mod TakenLine
+pub mod NextLine
 pub mod JoinedLines
+pub mod Splitter

@@ -2,7 +2,8 @@
 ghost use Rattle.std.specs.Prelude.{[], ◌≡◌, ◌≤◌, ◌<◌, ◌+◌, ◌==◌, ◌⊎◌, true, false, Some, None, IfOk, IfErr, IsOk, IsTrue, ◌↔◌, OnOk, MatchOption, MatchBool, position, nat_eq, length, take, drop, vec_len};
 ghost use Rattle.std.specs.IoError.{error_kind};
 ghost use Rattle.dotenvy_base.specs.Source.{Ahead};
-ghost use Rattle.dotenvy_lines.specs.Input.{WhereTold, ReadsOnce, IsAllRead, used_up, supply, IsLinePiece, ReadsMore, FindsMore, MovesLine, SkipsLine, begins_mark, DropsMark, AsksOnce, AsksReads};
+ghost use Rattle.dotenvy_lines.specs.Input.{supply, begins_mark, DropsMark, AsksReads};
+ghost use Rattle.dotenvy_lines.specs.inside.InputSteps.{WhereTold, ReadsOnce, IsAllRead, used_up, IsLinePiece, ReadsMore, FindsMore, MovesLine, SkipsLine, AsksOnce};
 ghost use Rattle.std.specs.List.{starts_with};
 ghost use Rattle.dotenvy_format.specs.PhysicalLines.{is_whole_line, no_line_feed};
 ghost use Rattle.dotenvy_format.specs.Marks.{byte_order_mark};
@@ -37,7 +38,8 @@ pub struct LinePiece<'a> {
 
 impl<R: Source, A: Allocator> Model for Input<R, A> {
     ghost use Rattle.std.specs.Prelude.{length};
-    ghost use Rattle.dotenvy_lines.specs.Input.{InputState, input_code, left_of};
+    ghost use Rattle.dotenvy_lines.specs.Input.{InputState, input_code};
+    ghost use Rattle.dotenvy_lines.specs.inside.InputSteps.{left_of};
 
     ghost Value = { InputState };
 

@@ -3,10 +3,12 @@ ghost use Rattle.std.specs.Prelude.{◌≡◌, ◌≢◌, ◌≤◌, ◌<◌, �
 ghost use Rattle.std.specs.Str.{chars};
 ghost use Rattle.std.specs.IoError.{error_kind};
 ghost use Rattle.dotenvy_base.specs.Errors.{IsIoOf, IsLineParseOf, IsMemory, IsMemoryErr};
-ghost use Rattle.dotenvy_lines.specs.Input.{AsksReads, DropsMark, WhereTold};
-ghost use Rattle.dotenvy_lines.specs.Lines.{fuel_of, NextTextIs, WhereOpen};
+ghost use Rattle.dotenvy_lines.specs.Input.{AsksReads, DropsMark};
+ghost use Rattle.dotenvy_lines.specs.inside.InputSteps.{WhereTold};
+ghost use Rattle.dotenvy_lines.specs.Lines.{fuel_of, WhereOpen, fresh_lines};
+ghost use Rattle.dotenvy_lines.specs.inside.NextLine.{NextTextIs, AdvanceIs};
 ghost use Rattle.dotenvy_lines.specs.inside.JoinedLines.{joined_at_end, JoinsNext, UsesSome, stage_after, is_refused, IsOutcome};
-ghost use Rattle.dotenvy_lines.specs.Splitter.{fresh_lines, last_lines, AdvanceIs};
+ghost use Rattle.dotenvy_lines.specs.inside.Splitter.{last_lines};
 
 use crate::input::Input;
 use crate::physical_line::{Taken, take_line};
@@ -95,7 +97,7 @@ pub struct Splitter<R: Source, A: Allocator> {
 
 impl<R: Source, A: Allocator> Model for Splitter<R, A> {
     ghost use Rattle.std.specs.Prelude.{string_bytes};
-    ghost use Rattle.dotenvy_lines.specs.Splitter.{SplitterState, splitter_code};
+    ghost use Rattle.dotenvy_lines.specs.inside.Splitter.{SplitterState, splitter_code};
 
     ghost Value = { SplitterState };
 

@@ -7,7 +7,8 @@ ghost use Rattle.dotenvy_format.specs.PhysicalLines.{no_line_feed};
 ghost use Rattle.dotenvy_format.specs.LogicalLine.{without_carriage_return};
 ghost use Rattle.dotenvy_format.specs.inside.Walk.{kept_before};
 ghost use Rattle.dotenvy_base.specs.Errors.{IsMemory};
-ghost use Rattle.dotenvy_lines.specs.Input.{AsksReads, WhereTold, supply};
+ghost use Rattle.dotenvy_lines.specs.Input.{AsksReads, supply};
+ghost use Rattle.dotenvy_lines.specs.inside.InputSteps.{WhereTold};
 ghost use Rattle.dotenvy_lines.specs.inside.TakenLine.{IsTextFront, PieceFalls, TakesLineOn, TakesPiece, WalksFrom, WalksOn, after_text, at_line_end, starting, still_blank};
 
 use crate::input::Input;

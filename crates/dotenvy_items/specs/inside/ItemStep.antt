@@ -8,13 +8,13 @@ use Rattle.dotenvy_format.specs.declared.dialect.Dialect.{Dialect}
 use Rattle.dotenvy_lines.specs.declared.lines.Stage.TheVariants.{Failed}
 use Rattle.dotenvy_base.specs.Errors.{IsMemoryErr}
 use Rattle.dotenvy_format.specs.Outcome.{Outcome, Says}
-use Rattle.dotenvy_lines.specs.Lines.{LinesState}
-use Rattle.dotenvy_lines.specs.Splitter.{no_line, last_lines}
+use Rattle.dotenvy_lines.specs.Lines.{LinesState, no_line}
+use Rattle.dotenvy_lines.specs.inside.Splitter.{last_lines}
 use Rattle.dotenvy_format.specs.Entries.{Entry, outcome_entries}
 use Rattle.dotenvy_base.specs.Environment.{Texts}
 use Rattle.dotenvy_items.specs.Remembered.{Remembered}
 use Rattle.dotenvy_items.specs.Meaning.{names_of, recalled_of}
-use Rattle.dotenvy_items.specs.Iter.{IterState}
+use Rattle.dotenvy_items.specs.Iter.{IterState, state_of}
 use Rattle.dotenvy_items.specs.NextItem.{IsItem, RemembersEntry}
 
 -- refused memory fails the logical lines, and no other fault does
@@ -40,15 +40,6 @@ abbrev pub IsRefused : {A : Type 0} → Option (Result (String A × String A) (E
     Type 0
 IsRefused None t = ⊥
 IsRefused (Some item) t = IsMemoryErr item × (t.stage ≡ Failed)
-
--- an iterator's state, from its parts
-abbrev pub state_of : LinesState → Remembered → Dialect → ℕ × ℕ → IterState
-state_of lines remembered dialect item_lines = record {
-  lines = lines;
-  remembered = remembered;
-  dialect = dialect;
-  item_lines = item_lines;
-}
 
 -- the same, where it is no matter on which lines an item stands
 abbrev pub reading_of : LinesState → Remembered → Dialect → IterState

@@ -42,7 +42,8 @@ use Rattle.dotenvy_base.specs.Source.{Ahead}
 use Rattle.dotenvy_format.specs.LogicalLine.{Skip, Text, Open, Broken}
 use Rattle.dotenvy_base.specs.Errors.{IsIoOf, IsMemory, IsLineParseOf}
 use Rattle.dotenvy_lines.specs.Input.{InputState, IsFinal, supply}
-use Rattle.dotenvy_lines.specs.Lines.{TakesNext, Counts, IsUndecided}
+use Rattle.dotenvy_lines.specs.Lines.{Counts}
+use Rattle.dotenvy_lines.specs.inside.NextLine.{TakesNext, IsUndecided}
 
 -- what a text that was begun is at the end of input
 abbrev pub begun_at_end : LineMode → Joined

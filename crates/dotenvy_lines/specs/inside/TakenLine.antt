@@ -44,7 +44,8 @@ use Rattle.dotenvy_format.specs.Characters.{begins_with, hash}
 use Rattle.dotenvy_format.specs.PhysicalLines.{no_line_feed, is_whole_line}
 use Rattle.dotenvy_format.specs.inside.Walk.{walk, going, ended}
 use Rattle.dotenvy_base.specs.Source.{Ahead}
-use Rattle.dotenvy_lines.specs.Input.{InputState, IsFinal, TakesLine, supply}
+use Rattle.dotenvy_lines.specs.Input.{InputState, IsFinal, supply}
+use Rattle.dotenvy_lines.specs.inside.InputSteps.{TakesLine}
 
 -- the longest front of the bytes that is text
 pub record IsTextFront (bytes front : List ℕ) : Type 0 where

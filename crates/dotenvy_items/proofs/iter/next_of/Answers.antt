@@ -3,8 +3,9 @@ use Rattle.std.proofs.lemmas.Option.{none-some}
 use Rattle.dotenvy_base.specs.Source.{Ahead}
 use Rattle.dotenvy_lines.specs.Lines.{LinesState}
 use Rattle.dotenvy_items.specs.Remembered.{remembered_of}
-use Rattle.dotenvy_lines.specs.Splitter.{SplitterState}
-use Rattle.dotenvy_items.specs.inside.ItemStep.{item_lines_then, reading_of, state_of}
+use Rattle.dotenvy_lines.specs.inside.Splitter.{SplitterState}
+use Rattle.dotenvy_items.specs.inside.ItemStep.{item_lines_then, reading_of}
+use Rattle.dotenvy_items.specs.Iter.{state_of}
 use Rattle.dotenvy_lines.specs.declared.lines.Stage.TheVariants.{Open}
 use Rattle.dotenvy_lines.specs.Input.{InputState, AsksReads}
 use Rattle.dotenvy_lines.proofs.AskedReads.{asks_none, asks_line, asks_weaker}

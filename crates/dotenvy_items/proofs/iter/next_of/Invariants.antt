@@ -4,7 +4,7 @@ use Rattle.dotenvy_format.specs.Entries.{Entry}
 use Rattle.dotenvy_base.specs.Source.{Ahead}
 use Rattle.dotenvy_lines.specs.Input.{AsksReads, IsTold}
 use Rattle.dotenvy_lines.specs.Lines.{fuel_of}
-use Rattle.dotenvy_items.specs.inside.ItemStep.{state_of}
+use Rattle.dotenvy_items.specs.Iter.{state_of}
 use Rattle.dotenvy_lines.specs.Reading.{HasLeft}
 use Rattle.dotenvy_items.specs.Remembered.{remembered_of}
 use Rattle.dotenvy_items.proofs.NextItems.{Passed}

@@ -2,11 +2,10 @@ use Rattle.std.proofs.Common.{rules, ◌∙◌, Err, Ok, ap, refl, subst}
 use Rattle.std.specs.Str.{chars}
 use Rattle.std.proofs.lemmas.Result.{err_from_is_err_and}
 use Rattle.dotenvy_format.specs.Run.{run}
-use Rattle.dotenvy_items.specs.Iter.{IterState}
+use Rattle.dotenvy_items.specs.Iter.{IterState, state_of}
 use Rattle.dotenvy_items.specs.LoadsLeft.{LoadsLeft}
 use Rattle.dotenvy_items.specs.inside.LoadStep.{mode_of, LoadsLine}
 use Rattle.dotenvy_items.specs.Remembered.{remembered_of}
-use Rattle.dotenvy_items.specs.inside.ItemStep.{state_of}
 use Rattle.dotenvy_items.proofs.LineLoads.{keeps_twice, changes_keys-twice}
 use Rattle.dotenvy_items.proofs.LoadSteps.{
   CameTo,

@@ -6,7 +6,7 @@ use Rattle.dotenvy_format.specs.Run.{Keep}
 use Rattle.dotenvy_items.specs.LoadsLeft.{ChangesKeys}
 use Rattle.dotenvy_items.specs.inside.LoadStep.{mode_of}
 use Rattle.dotenvy_items.specs.Remembered.{remembered_of}
-use Rattle.dotenvy_items.specs.inside.ItemStep.{state_of}
+use Rattle.dotenvy_items.specs.Iter.{state_of}
 use Rattle.dotenvy_items.proofs.LoadSteps.{CameTo}
 use Rattle.dotenvy_items.proofs.iter.Iter.load_lines.Given as goal
 

@@ -1,6 +1,7 @@
 use Rattle.std.proofs.Common.{arith, refl, sym, ap, ◌∙◌, ◌≡◌, cond}
 use Rattle.std.proofs.lemmas.Result.{err_from_is_err_and}
-use Rattle.dotenvy_lines.specs.Input.{AsksReads, used_up}
+use Rattle.dotenvy_lines.specs.Input.{AsksReads}
+use Rattle.dotenvy_lines.specs.inside.InputSteps.{used_up}
 use Rattle.dotenvy_lines.proofs.Inputs.{fits_more, deciding_fails, deciding_done}
 use Rattle.dotenvy_lines.proofs.AskedReads.{asks_none, asks_more, asks_weaker, asks_failed}
 use Rattle.dotenvy_lines.proofs.input.Input.drop_mark.Goals as goal

@@ -3,7 +3,8 @@ use Rattle.std.proofs.lemmas.Bool.{false≢true}
 use Rattle.std.proofs.lemmas.Result.{err_from_is_err_and}
 use Rattle.std.specs.Prelude.{List, Option, Ok, Err}
 use Rattle.dotenvy_base.specs.Calls.{Call}
-use Rattle.dotenvy_lines.specs.Input.{InputState, AsksOnce, left_of}
+use Rattle.dotenvy_lines.specs.Input.{InputState}
+use Rattle.dotenvy_lines.specs.inside.InputSteps.{AsksOnce, left_of}
 use Rattle.dotenvy_lines.proofs.Inputs.{read_more_fails, read_more_gives}
 use Rattle.dotenvy_lines.proofs.AskedReads.{asks_none, asks_once, asks_failed}
 use Rattle.dotenvy_lines.proofs.input.Input.read_more.Goals as goal

@@ -1,6 +1,7 @@
 use Rattle.std.proofs.Common.{◌∙◌, ap, subst, Some}
 use Rattle.std.specs.Prelude.{Ok, Err}
-use Rattle.dotenvy_lines.specs.Lines.{LinesState, NextTextIs}
+use Rattle.dotenvy_lines.specs.Lines.{LinesState}
+use Rattle.dotenvy_lines.specs.inside.NextLine.{NextTextIs}
 use Rattle.dotenvy_lines.proofs.LineJoins.{copied, fault-stays}
 use Rattle.dotenvy_lines.proofs.lines.QuotedLines.next_line.Goals as goal
 

@@ -1,8 +1,9 @@
 use Rattle.std.proofs.Common.{◌∙◌, ap, refl, subst, inr, List, ℕ, string_bytes}
 use Rattle.dotenvy_lines.specs.Input.{InputState, IsFinal}
-use Rattle.dotenvy_lines.specs.Lines.{LinesState, IsUndecided}
+use Rattle.dotenvy_lines.specs.Lines.{LinesState}
+use Rattle.dotenvy_lines.specs.inside.NextLine.{IsUndecided, AdvanceIs}
 use Rattle.dotenvy_lines.specs.inside.JoinedLines.{IsOutcome, stage_after}
-use Rattle.dotenvy_lines.specs.Splitter.{SplitterState, AdvanceIs}
+use Rattle.dotenvy_lines.specs.inside.Splitter.{SplitterState}
 use Rattle.dotenvy_lines.proofs.AskedReads.{asks_none}
 use Rattle.dotenvy_lines.proofs.NumberedLines.{counts_none, counts_one}
 use Rattle.dotenvy_lines.proofs.LineJoins.{advanced}

@@ -1,0 +1,94 @@
+-- How the next logical line is taken, and what the splitter answers for it.
+use Rattle.dotenvy_lines.specs.Input.{InputState, Moves}
+use Rattle.dotenvy_lines.specs.Lines.{whole_lines, LinesState, Counts, IsAtEnd, GoesOn, FailsFor}
+use Rattle.std.specs.Prelude.{ℕ, ◌≡◌, ◌≢◌, ◌⊎◌, ◌++◌, List, [], drop, Option, Some, None, Result, Ok, Err, string_bytes}
+use Rattle.std.specs.Str.{chars}
+use Rattle.std.specs.IoError.{error_kind}
+use Rattle.std.specs.declared.string.String.{String}
+use Rattle.std.specs.declared.io.ErrorKind.TheVariants.{InvalidData}
+use Rattle.dotenvy_base.specs.declared.errors.Error.{Error}
+use Rattle.dotenvy_base.specs.declared.errors.Error.TheVariants.{LineParse, Io, EnvVar, Nul, Memory}
+use Rattle.dotenvy_lines.specs.declared.lines.Stage.TheVariants.{Ended}
+use Rattle.dotenvy_base.specs.Source.{Ahead}
+use Rattle.dotenvy_format.specs.PhysicalLines.{physical_lines, line_texts}
+use Rattle.dotenvy_format.specs.Decided.{up_to_last_line_feed}
+use Rattle.dotenvy_format.specs.LogicalLine.{Logical, Skip, Text, Open, Broken, IsNext, IsOpenEnd}
+
+-- the physical lines of bytes whose end was not reached: those up to the last line feed
+abbrev pub lines_so_far : List ℕ → List (Option (List ℕ))
+lines_so_far bytes = line_texts (up_to_last_line_feed bytes)
+
+-- whatever follows the bytes, their first physical lines, so many, are this logical line
+abbrev pub IsNextAlways : List ℕ → ℕ → Logical → Type 0
+IsNextAlways bytes count next =
+    (more : List ℕ) →
+    (lines_so_far (bytes ++ more) ≢ []) × IsNext (lines_so_far (bytes ++ more)) count next
+    × (drop count (lines_so_far (bytes ++ more)) ≡ lines_so_far more)
+
+-- from s with a left the next logical line was taken, which is so many physical lines; an open end is one at the end of input alone. What follows these is left, and unless the end was read they are that line whatever follows
+pub record TakesNext (a : Ahead) (s : InputState) (next : Logical) (count : ℕ) (t : InputState) :
+    Type 0 where
+  pub some : whole_lines a ≢ []
+  pub is_next : IsNext (whole_lines a) count next
+  pub open_at_end : IsOpenEnd next → a.fault ≡ None
+  pub used : List ℕ
+  pub left : List ℕ
+  pub moves : Moves a s used left t
+  pub rest : physical_lines left ≡ drop count (physical_lines a.bytes)
+  pub later : whole_lines (record { bytes = left; fault = a.fault }) ≡ drop count (whole_lines a)
+  pub stays : IsAtEnd a.fault left t ⊎ ((IsOpenEnd next → ⊥) × IsNextAlways used count next)
+
+-- of bytes whose end was not reached no logical line is whole
+abbrev pub IsUndecided : List ℕ → Type 0
+IsUndecided bytes =
+    (count : ℕ) (next : Logical) → lines_so_far bytes ≢ [] →
+    IsNext (lines_so_far bytes) count next → IsOpenEnd next
+
+-- a logical line of so many physical lines is counted: it begins behind those taken before
+abbrev pub CountsLine : LinesState → ℕ → LinesState → Type 0
+CountsLine s count t =
+    Counts s.lines_taken 1 t.first_line × Counts s.lines_taken count t.lines_taken
+
+-- a logical line as an answer: a text, empty for a line that is skipped
+abbrev pub TakesLineText : {A : Type 0} → Ahead → InputState → String A → ℕ → InputState → Type 0
+TakesLineText a s text count t =
+    ((string_bytes text ≡ []) × TakesNext a s Skip count t)
+    ⊎ TakesNext a s (Text (chars (string_bytes text))) count t
+
+-- and a fault: an open end with its whole text and length, or a broken line
+abbrev pub TakesFault : {A : Type 0} → Ahead → InputState → Error A → ℕ → InputState → Type 0
+TakesFault a s (LineParse text index) count t =
+    TakesNext a s (Open (chars (string_bytes text)) index) count t
+TakesFault a s (Io e) count t = (error_kind e ≡ InvalidData) × TakesNext a s Broken count t
+TakesFault a s (EnvVar e) count t = ⊥
+TakesFault a s (Nul key) count t = ⊥
+TakesFault a s (Memory e) count t = ⊥
+
+-- a text, or a fault that stands in place of one, taken so
+abbrev pub TakesAnswer : {A : Type 0} → Ahead → InputState → Result (String A) (Error A) → ℕ →
+    InputState → Type 0
+TakesAnswer a s (Ok text) count t = TakesLineText a s text count t
+TakesAnswer a s (Err e) count t = TakesFault a s e count t
+
+-- an answer of an open iterator with a left
+abbrev pub NextTextIs : {A : Type 0} → Ahead → LinesState → Option (Result (String A) (Error A)) →
+    LinesState → Type 0
+NextTextIs a s None t = (a.bytes ≡ []) × (a.fault ≡ None) × (t.stage ≡ Ended)
+NextTextIs a s (Some r) t =
+    ((count : ℕ) × TakesAnswer a s.input r count t.input × CountsLine s count t × GoesOn t)
+    ⊎ FailsFor a s.input r IsUndecided t
+
+-- an outcome and the text that it left: a line that is skipped leaves the empty one
+abbrev pub TakesOutcome : {A : Type 0} → Ahead → InputState → Result (Unit {0}) (Error A) → List ℕ →
+    ℕ → InputState → Type 0
+TakesOutcome a s (Ok _) line count t =
+    ((line ≡ []) × TakesNext a s Skip count t) ⊎ TakesNext a s (Text (chars line)) count t
+TakesOutcome a s (Err e) line count t = TakesFault a s e count t
+
+-- what an open splitter answers with a left, and the text that it leaves
+abbrev pub AdvanceIs : {A : Type 0} → Ahead → LinesState → Option (Result (Unit {0}) (Error A)) →
+    List ℕ → LinesState → Type 0
+AdvanceIs a s None line t = (a.bytes ≡ []) × (a.fault ≡ None) × (t.stage ≡ Ended)
+AdvanceIs a s (Some r) line t =
+    ((count : ℕ) × TakesOutcome a s.input r line count t.input × CountsLine s count t × GoesOn t)
+    ⊎ FailsFor a s.input r IsUndecided t
