@@ -49,7 +49,7 @@ use Rattle.dotenvy_base.specs.Calls.{Call}
 use Rattle.dotenvy_base.specs.Source.{Ahead}
 use Rattle.dotenvy_lines.specs.Input.{InputState, BoundIsMet, IsFinal, end_reads}
 use Rattle.dotenvy_lines.specs.Lines.{LinesState, FailsFor}
-use Rattle.dotenvy_lines.specs.Reading.{HasLeft, told_fault}
+use Rattle.dotenvy_lines.specs.Reading.{HasEntriesLeft, told_fault}
 use Rattle.dotenvy_items.specs.Iter.{IterState, fresh}
 use Rattle.dotenvy_items.specs.NextItem.{IsItem, RemembersEntry, TakesEntry}
 use Rattle.dotenvy_items.specs.Iteration.{Item, GivesItems, NoneRefused, IsReadable, CanRead, SayItems, SayTheSame}
@@ -95,7 +95,7 @@ not_met a s t P few met =
 
 -- a fault that is told is the last item, where memory is not refused and the bound on reads not met
 told_last : {A : Type 0} (env earlier : LookUp) (dialect : Dialect) (a : Ahead) (s t : InputState)
-    (entries : List Entry) (e : Error A) → HasLeft dialect a.fault a.bytes entries →
+    (entries : List Entry) (e : Error A) → HasEntriesLeft dialect a.fault a.bytes entries →
     length a.bytes < s.reads + s.unread + end_reads s.at_end → (IsMemory e → ⊥) →
     IsFinal a s (λ bytes. HasDecided dialect bytes []) e t →
     SayItems (Err e ∷ []) (items_from env earlier (entries ++ told_fault a.fault))
@@ -114,7 +114,7 @@ told_last env earlier dialect a s t entries (Memory m) has few granted (inr is) 
 
 -- an item that is a fault is the last, where memory is not refused and the bound on reads not met
 fails_last : {A : Type 0} (env earlier : LookUp) (dialect : Dialect) (a : Ahead) (s : InputState)
-    (entries : List Entry) (item : Item A) (t : LinesState) → HasLeft dialect a.fault a.bytes entries →
+    (entries : List Entry) (item : Item A) (t : LinesState) → HasEntriesLeft dialect a.fault a.bytes entries →
     length a.bytes < s.reads + s.unread + end_reads s.at_end → (IsMemoryErr item → ⊥) →
     FailsFor a s item (λ bytes. HasDecided dialect bytes []) t →
     (t.stage ≡ Failed) × SayItems (item ∷ []) (items_from env earlier (entries ++ told_fault a.fault))
@@ -138,7 +138,7 @@ failed_shut s is e = let f : Failed ≡ Open = sym is ∙ e in cc
 
 -- at the end nothing is left
 nothing_left : (dialect : Dialect) (a b : Ahead) (entries : List Entry) → Some a ≡ Some b → b.bytes ≡ [] →
-    b.fault ≡ None → HasLeft dialect a.fault a.bytes entries → entries ++ told_fault a.fault ≡ []
+    b.fault ≡ None → HasEntriesLeft dialect a.fault a.bytes entries → entries ++ told_fault a.fault ≡ []
 nothing_left dialect a b entries same bytes fault has =
     let f = the_fault a b same ∙ fault in
     let e =
@@ -163,7 +163,7 @@ can_go_on names a s t entries entry can k is_open =
 ended_says : {A : Type 0} (names : Texts) (s : IterState) (a : Ahead) (entries : List Entry)
     (given : List (Item A)) → s.lines.stage ≡ Ended →
     s.lines.input.left ≡ Some (record { bytes = []; fault = None }) → s.lines.input.left ≡ Some a →
-    HasLeft s.dialect a.fault a.bytes entries → GivesItems names s given →
+    HasEntriesLeft s.dialect a.fault a.bytes entries → GivesItems names s given →
     SayItems given (items_from (values_of names) (recalled_of s.remembered) (entries ++ told_fault a.fault))
 ended_says {A = A} names s a entries given ended empty_left is_left has gives =
     let nothing =
@@ -175,7 +175,7 @@ ended_says {A = A} names s a entries given ended empty_left is_left has gives =
 
 -- calls give the items of what is left, all and in order
 pub items_go_on : {A : Type 0} (s : IterState) (a : Ahead) (names : Texts) (entries : List Entry)
-    (given : List (Item A)) → CanRead s a → HasLeft s.dialect a.fault a.bytes entries →
+    (given : List (Item A)) → CanRead s a → HasEntriesLeft s.dialect a.fault a.bytes entries →
     GivesItems names s given → NoneRefused given →
     SayItems given (items_from (values_of names) (recalled_of s.remembered) (entries ++ told_fault a.fault))
 items_go_on {A = A} s a names entries [] can has gives granted =
@@ -185,7 +185,7 @@ items_go_on {A = A} s a names entries [] can has gives granted =
 items_go_on s a names entries (item ∷ given) can has (t, next, gives) granted = ⊎_elim
     (λ (entry, is, k).
     let left : Ahead = record { bytes = k.left; fault = a.fault } in
-    let has_left = subst (λ d. HasLeft d a.fault k.left k.later) (sym k.dialect) k.has_left in
+    let has_left = subst (λ d. HasEntriesLeft d a.fault k.left k.later) (sym k.dialect) k.has_left in
     let later : SayItems given
     (items_from (values_of names) (recalled_of t.remembered) (k.later ++ told_fault a.fault)) = ⊎_elim
     (λ is_open.
@@ -224,7 +224,7 @@ recalled-empty n =
 -- a fresh iterator gives the items of what its source tells
 pub items_in_order : {A : Type 0} (dialect : Dialect) (a : Ahead) (calls : Option (List Call)) (names : Texts)
     (entries : List Entry)
-    (given : List (Item A)) → IsReadable a → HasLeft dialect a.fault a.bytes entries →
+    (given : List (Item A)) → IsReadable a → HasEntriesLeft dialect a.fault a.bytes entries →
     GivesItems names (fresh (Some a) calls dialect) given → NoneRefused given →
     SayItems given (items (values_of names) (entries ++ told_fault a.fault))
 items_in_order dialect a calls names entries given can has gives granted =

@@ -31,7 +31,7 @@ use Rattle.dotenvy_items.specs.Remembered.{Remembered, recalled}
 use Rattle.dotenvy_format.specs.Keys.{is_key}
 use Rattle.dotenvy_format.specs.Items.{with_value}
 use Rattle.dotenvy_items.specs.Meaning.{by_characters, values_of}
-use Rattle.dotenvy_items.specs.LoadsLeft.{ChangesKeys}
+use Rattle.dotenvy_items.specs.LoadsRest.{ChangesKeys}
 use Rattle.std.specs.declared.string.String.{String}
 use Rattle.std.proofs.lemmas.Str.{IsUtf8-string_bytes}
 use Rattle.dotenvy_base.specs.declared.errors.Error.{Error}

@@ -38,7 +38,7 @@ use Rattle.dotenvy_format.specs.Run.{Mode, Keep, Loaded, sets, run, has_nul}
 use Rattle.dotenvy_base.specs.Environment.{Texts, Env, value_ok, KeepsNames}
 use Rattle.dotenvy_items.specs.Remembered.{Remembered}
 use Rattle.dotenvy_items.specs.Meaning.{values_of, recalled_of, names_of}
-use Rattle.dotenvy_items.specs.LoadsLeft.{Leaves, ChangesKeys}
+use Rattle.dotenvy_items.specs.LoadsRest.{Leaves, ChangesKeys}
 use Rattle.dotenvy_items.specs.inside.LoadStep.{LoadsLine}
 use Rattle.dotenvy_items.specs.inside.FirstPass.{IsDeclared, IsPairOf}
 use Rattle.dotenvy_format.proofs.Basics.{not_is, not_false}

@@ -25,7 +25,7 @@ use Rattle.dotenvy_base.specs.Source.{Ahead}
 use Rattle.dotenvy_lines.specs.declared.lines.Stage.TheVariants.{Open}
 use Rattle.dotenvy_items.specs.Iter.{IterState, fresh}
 use Rattle.dotenvy_format.specs.Loads.{load_result}
-use Rattle.dotenvy_items.specs.LoadsLeft.{IsAnswer, Leaves, Rule, LoadsLeft, ChangesKeys}
+use Rattle.dotenvy_items.specs.LoadsRest.{IsAnswer, Leaves, Rule, LoadsRest, ChangesKeys}
 use Rattle.dotenvy_format.specs.Written.{written_bytes}
 use Rattle.dotenvy_items.proofs.KeyBytes.{encodes-key}
 use Rattle.dotenvy_base.specs.Output.{Writes}
@@ -51,10 +51,10 @@ refused_lists s held last_fault calls old (Err e) is = (
 -- a load by a fresh iterator, into an environment that is empty
 pub first_load : {A : Type 0} (rule : Rule) (ahead : Option Ahead) (calls : Option (List Call)) (dialect : Dialect)
     (s : IterState) (old new : Texts) (answer : Result (Unit {0}) (Error A)) → s ≡ fresh ahead calls dialect →
-    old ≡ fin.empty → (s.lines.stage ≡ Open → LoadsLeft rule s old answer new) →
-    LoadsLeft rule (fresh ahead calls dialect) fin.empty answer new
+    old ≡ fin.empty → (s.lines.stage ≡ Open → LoadsRest rule s old answer new) →
+    LoadsRest rule (fresh ahead calls dialect) fin.empty answer new
 first_load rule ahead calls dialect s old new answer same empty loads =
-    subst (λ names. LoadsLeft rule (fresh ahead calls dialect) names answer new) empty
+    subst (λ names. LoadsRest rule (fresh ahead calls dialect) names answer new) empty
     (fresh_load rule ahead calls dialect s old new answer same loads)
 
 -- in an empty environment every name is absent

@@ -66,8 +66,8 @@ use Rattle.dotenvy_lines.specs.Input.{
 }
 use Rattle.dotenvy_lines.specs.Lines.{LinesState, IsAtEnd, GoesOn}
 use Rattle.dotenvy_lines.specs.inside.NextLine.{IsNextAlways, TakesNext, IsUndecided, AdvanceIs}
-use Rattle.dotenvy_lines.specs.Reading.{HasLeft, told_fault, certain_bytes, StopsAtBound, IsReading}
-use Rattle.dotenvy_items.specs.LoadsLeft.{IsAnswer, Leaves, Rule, LoadsLeft}
+use Rattle.dotenvy_lines.specs.Reading.{HasEntriesLeft, told_fault, certain_bytes, StopsAtBound, IsReading}
+use Rattle.dotenvy_items.specs.LoadsRest.{IsAnswer, Leaves, Rule, LoadsRest}
 use Rattle.dotenvy_items.specs.inside.LoadStep.{LoadsLine}
 use Rattle.dotenvy_items.specs.Iter.{IterState, fresh}
 use Rattle.dotenvy_lines.proofs.Inputs.{ahead_of, the_bytes, the_fault, moves_on}
@@ -135,14 +135,14 @@ pub record Came (l : Load) (names : Texts) (t : IterState) : Type 0 where
   pub moves : Moves l.ahead l.start used left t.lines.input
   pub stays : IsAtEnd l.ahead.fault left t.lines.input ⊎ DecideDone l t loaded.done used left
   pub told : l.ahead.fault ≢ Some Interrupted
-  pub has_left : HasLeft t.dialect l.ahead.fault left loaded.later
+  pub has_left : HasEntriesLeft t.dialect l.ahead.fault left loaded.later
   pub goes_on : GoesOn t.lines
 
 -- a load of what s has left came to t, whatever s is told
 abbrev pub CameTo : Mode → IterState → Texts → Texts → IterState → Type 0
 CameTo mode s old new t =
     s.lines.stage ≡ Open → (a : Ahead) → IsTold s.lines.input.left a → (entries : List Entry) →
-    HasLeft s.dialect a.fault (without_mark a.bytes) entries → Came (load_of mode s old a entries) new t
+    HasEntriesLeft s.dialect a.fault (without_mark a.bytes) entries → Came (load_of mode s old a entries) new t
 
 -- a load ends with this environment and this answer
 abbrev pub Ends : {A : Type 0} → Load → Texts → Result (Unit {0}) (Error A) → Type 0
@@ -294,7 +294,7 @@ came_on l names new t u next front k takes goes_on dialect gives same =
             (decided_so_far l names t next u.lines.input k takes) takes always.0 always.1 gives dialect)
       ];
       told = k.told;
-      has_left = subst (λ d. HasLeft d l.ahead.fault takes.left own.0) (sym dialect) own.1;
+      has_left = subst (λ d. HasEntriesLeft d l.ahead.fault takes.left own.0) (sym dialect) own.1;
       goes_on = goes_on;
     }
 
@@ -482,13 +482,13 @@ came_start A mode s t old stage recall dialect drops opened a told entries has =
           subst (λ bytes. HasDecided s.dialect bytes decided) (sym (m.stays more rest cut))
           (subst (λ e. HasDecided e more decided) dialect has'));
       told = told.1;
-      has_left = subst (λ e. HasLeft e a.fault (without_mark a.bytes) entries) (sym dialect) has;
+      has_left = subst (λ e. HasEntriesLeft e a.fault (without_mark a.bytes) entries) (sym dialect) has;
       goes_on = inl (stage ∙ opened);
     }
 
 -- a fault before the mark is decided ends a load
 ends_mark : {A : Type 0} (mode : Mode) (s : IterState) (v : InputState) (old : Texts) (a : Ahead)
-    (entries : List Entry) (e : Error A) → HasLeft s.dialect a.fault (without_mark a.bytes) entries →
+    (entries : List Entry) (e : Error A) → HasEntriesLeft s.dialect a.fault (without_mark a.bytes) entries →
     DropsMark a s.lines.input (Err e) v → Ends (load_of mode s old a entries) old (Err e)
 ends_mark mode s v old a entries e has drops =
     ends_final (load_of mode s old a entries) a s.lines.input v
@@ -529,7 +529,7 @@ pub loads_line : {A : Type 0} (mode : Mode) (s t : IterState) (m : LinesState) (
     (t.lines.stage ≢ Open → ◌≡◌ {A = Option (Result (Unit {0}) (Error A))} (Some line) None) →
     ((a : Ahead) → t.lines.stage ≡ Open → IsTold t.lines.input.left a → AdvanceIs a t.lines (Some line) text m) →
     LoadsLine mode t.dialect t.remembered (chars text) names (Err e) new →
-    LoadsLeft (run mode) s old (Err e) new
+    LoadsRest (run mode) s old (Err e) new
 loads_line {A = A} mode s t m old names new line text e opened came is shut next loads = λ a told entries has.
     let l = load_of mode s old a entries in
     let k = came opened a told entries has in
@@ -544,7 +544,7 @@ pub loads_fault : {A : Type 0} (mode : Mode) (s t : IterState) (m : LinesState) 
     line ≡ Err e →
     (t.lines.stage ≢ Open → ◌≡◌ {A = Option (Result (Unit {0}) (Error A))} (Some line) None) →
     ((a : Ahead) → t.lines.stage ≡ Open → IsTold t.lines.input.left a → AdvanceIs a t.lines (Some line) text m) →
-    LoadsLeft (run mode) s old (Err e) names
+    LoadsRest (run mode) s old (Err e) names
 loads_fault {A = A} mode s t m old names line text e opened came is shut next = λ a told entries has.
     let l = load_of mode s old a entries in
     let k = came opened a told entries has in
@@ -556,7 +556,7 @@ loads_fault {A = A} mode s t m old names line text e opened came is shut next = 
 pub loads_none : {A : Type 0} (mode : Mode) (s t : IterState) (m : LinesState) (old names : Texts) (text : List ℕ) →
     s.lines.stage ≡ Open → CameTo mode s old names t →
     ((a : Ahead) → t.lines.stage ≡ Open → IsTold t.lines.input.left a → AdvanceIs {A = A} a t.lines None text m) →
-    LoadsLeft {A = A} (run mode) s old (Ok tt) names
+    LoadsRest {A = A} (run mode) s old (Ok tt) names
 loads_none {A = A} mode s t m old names text opened came next =
     λ a told entries has.
     ends_none {A = A} (load_of mode s old a entries) names t m text (came opened a told entries has) next
@@ -564,12 +564,12 @@ loads_none {A = A} mode s t m old names text opened came next =
 -- where a fault comes before the mark is decided, the load answers that fault and changes nothing
 pub loads_mark : {A : Type 0} (mode : Mode) (s : IterState) (v : InputState) (old : Texts) (e : Error A) →
     ((a : Ahead) → IsTold s.lines.input.left a → DropsMark a s.lines.input (Err e) v) →
-    LoadsLeft (run mode) s old (Err e) old
+    LoadsRest (run mode) s old (Err e) old
 loads_mark mode s v old e drops = λ a told entries has. ends_mark mode s v old a entries e has (drops a told)
 
 -- where memory is refused at the start, a load answers that and changes nothing
 pub loads_refused : {A : Type 0} (mode : Mode) (s : IterState) (old : Texts) (e : Error A) → IsMemory e →
-    LoadsLeft (run mode) s old (Err e) old
+    LoadsRest (run mode) s old (Err e) old
 loads_refused mode s old e is =
     λ a told entries has.
     ends_memory (load_of mode s old a entries) old s.remembered e (none_done mode s old a entries) is
@@ -582,7 +582,7 @@ same-back x y h = record { env = λ n. sym (h.env n); answer = sym h.answer }
 pub loads_by : {A : Type 0} (f g : Rule) (s : IterState) (old new : Texts) (answer : Result (Unit {0}) (Error A)) →
     ((env remembered : LookUp) (entries : List Entry) →
     SameLoad (f env remembered entries) (g env remembered entries)) →
-    LoadsLeft f s old answer new → LoadsLeft g s old answer new
+    LoadsRest f s old answer new → LoadsRest g s old answer new
 loads_by f g s old new answer same loads = λ a told entries has.
     let l = loads a told entries has in
     let k = same (values_of old) (recalled_of s.remembered) l.0 in (
@@ -598,7 +598,7 @@ loads_by f g s old new answer same loads = λ a told entries has.
 pub refused_by : {A : Type 0} (mode : Mode) (rule : Rule) (s : IterState) (old : Texts) (e : Error A) →
     ((env remembered : LookUp) (entries : List Entry) →
     SameLoad (run mode env remembered entries) (rule env remembered entries)) →
-    IsMemory e → LoadsLeft rule s old (Err e) old
+    IsMemory e → LoadsRest rule s old (Err e) old
 refused_by mode rule s old e same is =
     loads_by (run mode) rule s old old (Err e) same (loads_refused mode s old e is)
 
@@ -607,7 +607,7 @@ pub is_in_turn : {A : Type 0} (mode : Mode) (rule : Rule) (s : IterState) (old n
     (answer : Result (Unit {0}) (Error A)) →
     ((env remembered : LookUp) (entries : List Entry) →
     SameLoad (run mode env remembered entries) (rule env remembered entries)) →
-    LoadsLeft rule s old answer new → LoadsLeft (run mode) s old answer new
+    LoadsRest rule s old answer new → LoadsRest (run mode) s old answer new
 is_in_turn mode rule s old new answer same loads =
     loads_by rule (run mode) s old new answer
     (λ env remembered entries. same-back _ _ (same env remembered entries)) loads
@@ -615,7 +615,7 @@ is_in_turn mode rule s old new answer same loads =
 -- what an iterator loads where it is open, a fresh one loads
 pub fresh_load : {A : Type 0} (rule : Rule) (ahead : Option Ahead) (calls : Option (List Call)) (dialect : Dialect)
     (s : IterState) (old new : Texts) (answer : Result (Unit {0}) (Error A)) → s ≡ fresh ahead calls dialect →
-    (s.lines.stage ≡ Open → LoadsLeft rule s old answer new) →
-    LoadsLeft rule (fresh ahead calls dialect) old answer new
+    (s.lines.stage ≡ Open → LoadsRest rule s old answer new) →
+    LoadsRest rule (fresh ahead calls dialect) old answer new
 fresh_load rule ahead calls dialect s old new answer same loads =
-    subst (λ t. t.lines.stage ≡ Open → LoadsLeft rule t old answer new) same loads refl
+    subst (λ t. t.lines.stage ≡ Open → LoadsRest rule t old answer new) same loads refl

@@ -63,7 +63,7 @@ use Rattle.dotenvy_lines.specs.Lines.{LinesState, whole_lines, IsAtEnd, Counts, 
 use Rattle.dotenvy_lines.specs.inside.NextLine.{IsNextAlways, TakesNext, CountsLine, TakesFault, IsUndecided, AdvanceIs}
 use Rattle.dotenvy_lines.specs.inside.Splitter.{last_lines, lines_unless_failed}
 use Rattle.dotenvy_lines.proofs.NumberedLines.{counts_none, counts_more}
-use Rattle.dotenvy_lines.specs.Reading.{HasLeft}
+use Rattle.dotenvy_lines.specs.Reading.{HasEntriesLeft}
 use Rattle.dotenvy_items.specs.Meaning.{recalled_of}
 use Rattle.dotenvy_items.specs.Iter.{IterState, state_of}
 use Rattle.dotenvy_items.specs.NextItem.{DecideFirst, UsesLines, StandsOn, ItemIs}
@@ -93,7 +93,7 @@ pub record Passed (a : Ahead) (s : IterState) (entries : List Entry) (t : IterSt
   pub uses : UsesLines a silent left
   pub later : whole_lines (record { bytes = left; fault = a.fault }) ≡ drop uses.count (whole_lines a)
   pub stays : IsAtEnd a.fault left t.lines.input ⊎ DecideFirst s.dialect used []
-  pub has_left : HasLeft s.dialect a.fault left entries
+  pub has_left : HasEntriesLeft s.dialect a.fault left entries
   pub goes_on : GoesOn t.lines
   pub remembered : t.remembered ≡ s.remembered
   pub dialect : t.dialect ≡ s.dialect
@@ -102,7 +102,7 @@ pub record Passed (a : Ahead) (s : IterState) (entries : List Entry) (t : IterSt
 -- no line was passed yet
 pub passed_none : (a : Ahead) (s : IterState) (entries : List Entry) →
     s.lines.stage ≡ Open → IsTold s.lines.input.left a →
-    HasLeft s.dialect a.fault a.bytes entries → Passed a s entries s
+    HasEntriesLeft s.dialect a.fault a.bytes entries → Passed a s entries s
 passed_none a s entries is_open told has = record {
   used = [];
   left = a.bytes;
@@ -125,7 +125,7 @@ some_left a b o h k = cc
 
 -- where no byte is left and no fault is told, there are no entries left
 no_entries : (dialect : Dialect) (fault : Option ErrorKind) (left : List ℕ) (entries : List Entry) →
-    HasLeft dialect fault left entries → left ≡ [] → fault ≡ None → entries ≡ []
+    HasEntriesLeft dialect fault left entries → left ≡ [] → fault ≡ None → entries ≡ []
 no_entries dialect fault left entries has empty none =
     left_once dialect fault left entries [] has (left-none dialect fault left empty none)
 
@@ -265,7 +265,7 @@ added names a s t v m entries [] next None count p k counts goes_on gives adds l
       stays =
           subst (λ n. IsAtEnd a.fault k.left n.input ⊎ DecideFirst s.dialect (p.used ++ k.used) []) (sym lines)
           (taken_stays a s t entries [] next m.input p k gives);
-      has_left = subst (HasLeft s.dialect a.fault k.left) (sym l.2) l.1;
+      has_left = subst (HasEntriesLeft s.dialect a.fault k.left) (sym l.2) l.1;
       goes_on = subst GoesOn (sym lines) goes_on;
       remembered = adds;
       dialect = dialect;

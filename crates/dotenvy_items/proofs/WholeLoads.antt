@@ -50,9 +50,9 @@ use Rattle.dotenvy_base.specs.Errors.{IsMemoryErr}
 use Rattle.dotenvy_items.specs.Meaning.{values_of, recalled_of}
 use Rattle.dotenvy_format.specs.Marks.{without_mark}
 use Rattle.dotenvy_base.specs.Source.{Ahead}
-use Rattle.dotenvy_lines.specs.Reading.{HasLeft, told_fault}
+use Rattle.dotenvy_lines.specs.Reading.{HasEntriesLeft, told_fault}
 use Rattle.dotenvy_items.specs.Iter.{fresh}
-use Rattle.dotenvy_items.specs.LoadsLeft.{IsAnswer, Leaves, Rule}
+use Rattle.dotenvy_items.specs.LoadsRest.{IsAnswer, Leaves, Rule}
 use Rattle.dotenvy_items.specs.Iteration.{IsReadable}
 use Rattle.dotenvy_items.specs.Laws.{LoadsFresh, LoadsAllLeft, LoadTheSame, LoadsAgain}
 use Rattle.dotenvy_lines.proofs.LineEntries.{left_exists}
@@ -156,7 +156,7 @@ override_takes_all = loads_all override_result override_stops
 -- a load by a fresh iterator that can read all, by such a rule, is the load of all that its source tells
 pub fresh_takes_all : {A : Type 0} (rule : Rule) (dialect : Dialect) (a : Ahead) (old new : Texts)
     (answer : Result (Unit {0}) (Error A)) (entries : List Entry) → LoadsAllLeft rule A → IsReadable a →
-    HasLeft dialect a.fault (without_mark a.bytes) entries → LoadsFresh rule dialect a old answer new →
+    HasEntriesLeft dialect a.fault (without_mark a.bytes) entries → LoadsFresh rule dialect a old answer new →
     Leaves (rule (values_of old) (recalled_of empty) (entries ++ told_fault a.fault)) new answer
 fresh_takes_all rule dialect a old new answer entries takes_all can has load =
     takes_all (fresh (Some a) load.calls dialect) a old new answer entries (can_read_fresh dialect a load.calls can)

@@ -9,7 +9,7 @@ use Rattle.dotenvy_base.specs.Source.{Ahead}
 use Rattle.dotenvy_base.specs.declared.errors.Error.{Error}
 use Rattle.dotenvy_lines.specs.declared.lines.Stage.TheVariants.{Open, Failed}
 use Rattle.dotenvy_lines.specs.Input.{AsksReads, DropsMark, IsTold}
-use Rattle.dotenvy_lines.specs.Lines.{LinesState, lines_code, fuel_of, WhereOpen, fresh_lines, no_line}
+use Rattle.dotenvy_lines.specs.Lines.{LinesState, lines_code, lines_measure, WhereOpen, fresh_lines, no_line}
 use Rattle.dotenvy_items.specs.Remembered.{Remembered}
 
 -- its logical lines, the values that it remembers, the dialect that it reads, and the first and the
@@ -71,9 +71,9 @@ abbrev pub DropsNextMark : {A : Type 0} → IterState → Result (Unit {0}) (Err
     Type 0
 DropsNextMark s answer t = WhereOpen s.lines (λ a. DropsMark a s.lines.input answer t.lines.input)
 
--- more than the items that can still come
-abbrev pub item_fuel : IterState → ℕ
-item_fuel s = fuel_of s.lines
+-- the measure of loops over items: it falls with each item that is given
+abbrev pub items_measure : IterState → ℕ
+items_measure s = lines_measure s.lines
 
 -- what was remembered, the dialect, the lines of the last item and the number of lines taken are as
 -- they were

@@ -28,7 +28,7 @@ use Rattle.dotenvy_base.specs.Source.{Ahead}
 use Rattle.dotenvy_lines.specs.Input.{end_reads}
 use Rattle.dotenvy_items.specs.Iter.{IterState, IsOpen, TellsLeft}
 use Rattle.dotenvy_items.specs.NextItem.{IsFailure, NextItem}
-use Rattle.dotenvy_items.specs.LoadsLeft.{IsAnswer}
+use Rattle.dotenvy_items.specs.LoadsRest.{IsAnswer}
 
 -- what a call of `next_item` gives, if not `None`
 abbrev pub Item : Type 0 → Type 0

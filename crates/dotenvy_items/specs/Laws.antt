@@ -18,10 +18,10 @@ use Rattle.dotenvy_items.specs.Meaning.{values_of, recalled_of}
 use Rattle.dotenvy_format.specs.Marks.{without_mark}
 use Rattle.dotenvy_base.specs.Calls.{Call}
 use Rattle.dotenvy_base.specs.Source.{Ahead}
-use Rattle.dotenvy_lines.specs.Reading.{HasLeft, told_fault}
+use Rattle.dotenvy_lines.specs.Reading.{HasEntriesLeft, told_fault}
 use Rattle.dotenvy_items.specs.Iter.{IterState, fresh}
 use Rattle.dotenvy_items.specs.Listed.{Lists, pairs_of}
-use Rattle.dotenvy_items.specs.LoadsLeft.{IsAnswer, Rule, Leaves, LoadsLeft}
+use Rattle.dotenvy_items.specs.LoadsRest.{IsAnswer, Rule, Leaves, LoadsRest}
 use Rattle.dotenvy_items.specs.Iteration.{
   Item,
   GivesItems,
@@ -38,7 +38,7 @@ abbrev pub ItemsInOrder : Type 0 → Type 0
 ItemsInOrder A =
     (dialect : Dialect) (a : Ahead) (calls : Option (List Call)) (names : Texts)
     (entries : List Entry) (given : List (Item A)) →
-    IsReadable a → HasLeft dialect a.fault a.bytes entries →
+    IsReadable a → HasEntriesLeft dialect a.fault a.bytes entries →
     GivesItems names (fresh (Some a) calls dialect) given → NoneRefused given →
     SayItems given (items (values_of names) (entries ++ told_fault a.fault))
 
@@ -46,7 +46,7 @@ ItemsInOrder A =
 abbrev pub ItemsGoOn : Type 0 → Type 0
 ItemsGoOn A =
     (s : IterState) (a : Ahead) (names : Texts) (entries : List Entry) (given : List (Item A)) →
-    CanRead s a → HasLeft s.dialect a.fault a.bytes entries →
+    CanRead s a → HasEntriesLeft s.dialect a.fault a.bytes entries →
     GivesItems names s given → NoneRefused given →
     SayItems given
     (items_from (values_of names) (recalled_of s.remembered) (entries ++ told_fault a.fault))
@@ -64,7 +64,7 @@ GiveTheSame A =
 pub record LoadsFresh {A : Type 0} (rule : Rule) (dialect : Dialect) (a : Ahead) (old : Texts)
     (answer : Result (Unit {0}) (Error A)) (new : Texts) : Type 0 where
   pub calls : Option (List Call)
-  pub loads : LoadsLeft rule (fresh (Some a) calls dialect) old answer new
+  pub loads : LoadsRest rule (fresh (Some a) calls dialect) old answer new
   pub not_refused : ¬ (IsMemoryErr answer)
 
 -- both environments have the same values
@@ -89,8 +89,8 @@ abbrev pub LoadsAllLeft : Rule → Type 0 → Type 0
 LoadsAllLeft rule A =
     (s : IterState) (a : Ahead) (old new : Texts) (answer : Result (Unit {0}) (Error A))
     (entries : List Entry) →
-    CanRead s a → HasLeft s.dialect a.fault (without_mark a.bytes) entries →
-    LoadsLeft rule s old answer new → ¬ (IsMemoryErr answer) →
+    CanRead s a → HasEntriesLeft s.dialect a.fault (without_mark a.bytes) entries →
+    LoadsRest rule s old answer new → ¬ (IsMemoryErr answer) →
     Leaves (rule (values_of old) (recalled_of s.remembered) (entries ++ told_fault a.fault)) new
     answer
 
@@ -137,7 +137,7 @@ ListsByRule A W =
     (dialect : Dialect) (a : Ahead) (reads : Option (List Call)) (held : W → Option (List ℕ))
     (last_fault : W → Option ErrorKind) (calls : W → Option (List Call)) (old new : W)
     (answer : Result (Unit {0}) (Error A)) (entries : List Entry) →
-    IsReadable a → HasLeft dialect a.fault (without_mark a.bytes) entries →
+    IsReadable a → HasEntriesLeft dialect a.fault (without_mark a.bytes) entries →
     Lists (fresh (Some a) reads dialect) held last_fault calls old new answer →
     ¬ (IsMemoryErr answer) →
     ListsLoaded held last_fault calls old new
@@ -147,6 +147,6 @@ ListsByRule A W =
 abbrev pub OneEntryALine : Type 0
 OneEntryALine =
     ((dialect : Dialect) (fault : Option ErrorKind) (bytes : List ℕ) (entries : List Entry) →
-    HasLeft dialect fault bytes entries → length entries ≤ length (physical_lines bytes))
+    HasEntriesLeft dialect fault bytes entries → length entries ≤ length (physical_lines bytes))
     × ((env remembered : LookUp) (entries : List Entry) →
     length (items_from env remembered entries) ≡ length entries)

@@ -3,7 +3,7 @@ pub mod inside
 pub mod Iter
 pub mod Meaning
 pub mod NextItem
-pub mod LoadsLeft
+pub mod LoadsRest
 pub mod Listed
 pub mod Iteration
 pub mod Laws

@@ -10,7 +10,7 @@ use Rattle.dotenvy_base.specs.Output.{Writes}
 use Rattle.dotenvy_base.specs.Environment.{AreTexts, Texts}
 use Rattle.dotenvy_format.specs.Loads.{load_result}
 use Rattle.dotenvy_items.specs.Iter.{IterState}
-use Rattle.dotenvy_items.specs.LoadsLeft.{ChangesKeys, LoadsLeft}
+use Rattle.dotenvy_items.specs.LoadsRest.{ChangesKeys, LoadsRest}
 
 -- the pairs of a map by their characters, in byte order of the names
 abbrev pub pairs_of : Texts → List (List ℕ × List ℕ)
@@ -38,5 +38,5 @@ abbrev pub Lists : {A W : Type 0} → IterState → (W → Option (List ℕ)) �
     Type 0
 Lists {A = A} s held last_fault calls old new answer =
     (names : Texts) × (loaded : Result (Unit {0}) (Error A))
-    × LoadsLeft load_result s fin.empty loaded names
+    × LoadsRest load_result s fin.empty loaded names
     × WritesLoaded held last_fault calls old new names loaded answer

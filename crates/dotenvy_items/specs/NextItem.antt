@@ -49,7 +49,7 @@ use Rattle.dotenvy_items.specs.Meaning.{recalled_of, names_of}
 use Rattle.dotenvy_base.specs.Source.{Ahead}
 use Rattle.dotenvy_lines.specs.Input.{Moves}
 use Rattle.dotenvy_lines.specs.Lines.{whole_lines, IsAtEnd, GoesOn, FailsFor, Counts, no_line}
-use Rattle.dotenvy_lines.specs.Reading.{HasLeft}
+use Rattle.dotenvy_lines.specs.Reading.{HasEntriesLeft}
 use Rattle.dotenvy_items.specs.Iter.{IterState, IsOpen, TellsLeft}
 
 -- the error says this failure
@@ -115,7 +115,7 @@ pub record TakesEntry (names : Texts) (a : Ahead) (s : IterState) (entries : Lis
   pub reaches : UsesUpTo s.dialect a entry left
   pub stands : StandsOn s reaches.before reaches.uses.count t
   pub stays : IsAtEnd a.fault left t.lines.input ⊎ DecideFirst s.dialect used (entry ∷ [])
-  pub has_left : HasLeft s.dialect a.fault left later
+  pub has_left : HasEntriesLeft s.dialect a.fault left later
   pub goes_on : GoesOn t.lines
   pub remembers :
       RemembersEntry (names_of names s.remembered) (recalled_of s.remembered)
@@ -138,7 +138,7 @@ abbrev pub NextItem : {A : Type 0} → Texts → IterState →
     Option (Result (String A × String A) (Error A)) → IterState → Type 0
 NextItem names s item t =
     (IsOpen s → (a : Ahead) → TellsLeft s a → (entries : List Entry) →
-    HasLeft s.dialect a.fault a.bytes entries → ItemIs names a s entries item t)
+    HasEntriesLeft s.dialect a.fault a.bytes entries → ItemIs names a s entries item t)
     × (¬ (IsOpen s) → (item ≡ None) × (t ≡ s))
 
 -- a pair that is given has a name that an environment can hold

@@ -5,7 +5,7 @@ ghost use Rattle.std.specs.Iterator.{at_most};
 ghost use Rattle.dotenvy_lines.specs.declared.lines.Stage.TheVariants.{Failed, Open};
 ghost use Rattle.dotenvy_base.specs.Errors.{IsMemory, IsMemoryErr};
 ghost use Rattle.dotenvy_lines.specs.Input.{AsksReads};
-ghost use Rattle.dotenvy_items.specs.Iter.{fresh, item_fuel, AsksBetween, DropsNextMark, HasFailed, IsOpen, KeepsItems};
+ghost use Rattle.dotenvy_items.specs.Iter.{fresh, items_measure, AsksBetween, DropsNextMark, HasFailed, IsOpen, KeepsItems};
 ghost use Rattle.dotenvy_base.specs.Environment.{KeepsNames};
 ghost use Rattle.dotenvy_format.specs.Keys.{is_key};
 ghost use Rattle.dotenvy_format.specs.Run.{Keep, Replace, run};
@@ -13,12 +13,12 @@ ghost use Rattle.dotenvy_format.specs.Loads.{load_result, override_result};
 ghost use Rattle.dotenvy_format.specs.Outcome.{Outcome, Says};
 ghost use Rattle.dotenvy_items.specs.Meaning.{names_of};
 ghost use Rattle.dotenvy_items.specs.inside.ParsedLine.{IsLineAnswer, Remembers, HasKey};
-ghost use Rattle.dotenvy_lines.specs.Lines.{fuel_of};
+ghost use Rattle.dotenvy_lines.specs.Lines.{lines_measure};
 ghost use Rattle.dotenvy_items.specs.Remembered.{remembered_of};
 ghost use Rattle.dotenvy_items.specs.inside.ItemStep.{AddsLine, item_lines_then, reading_of};
 ghost use Rattle.dotenvy_items.specs.Iter.{state_of};
 ghost use Rattle.dotenvy_items.specs.NextItem.{GivesName, NextItem};
-ghost use Rattle.dotenvy_items.specs.LoadsLeft.{ChangesKeys, LoadsLeft};
+ghost use Rattle.dotenvy_items.specs.LoadsRest.{ChangesKeys, LoadsRest};
 ghost use Rattle.dotenvy_items.specs.inside.LoadStep.{mode_of};
 
 use crate::loads::{Mode, load_line};
@@ -105,7 +105,7 @@ impl<R: Source, A: Allocator + Clone> Iter<R, A> {
     /// else the empty text; `env` may be another at each call (docs/GRAMMAR.md, "What a name means").
     pub fn next_item(&mut self, env: &Environment<A>) -> Option<Result<(String<A>, String<A>), A>>
         ensures next { NextItem env.now.names self.old result self.new }
-        ensures falls { IsSome result → item_fuel self.new < item_fuel self.old }
+        ensures falls { IsSome result → items_measure self.new < items_measure self.old }
         ensures memory { IfSome result (λ item. IsMemoryErr item → HasFailed self.new) }
         ensures key { IfSome result
             (λ item. IfOk item (λ pair. IsTrue (is_key (chars (string_bytes pair.0))))) }
@@ -157,7 +157,7 @@ impl<R: Source, A: Allocator + Clone> Iter<R, A> {
         ensures ok { OnOk result (IsOpen self.old → IsOpen self.new) }
         ensures err { OnErr result (HasFailed self.new) }
         ensures same { KeepsItems self.old self.new }
-        ensures falls { item_fuel self.new ≤ item_fuel self.old }
+        ensures falls { items_measure self.new ≤ items_measure self.old }
         ensures asks { AsksBetween self.old self.new }
     {
         self.lines.drop_mark()
@@ -204,7 +204,7 @@ fn next_of<R: Source, A: Allocator + Clone>(
         (state_of lines.old.lines (remembered_of remembered.old.entries) dialect before) result
         (state_of lines.new.lines (remembered_of remembered.new.entries) dialect
         (item_lines_then result lines.new.lines before)) }
-    ensures falls { IsSome result → fuel_of lines.new.lines < fuel_of lines.old.lines }
+    ensures falls { IsSome result → lines_measure lines.new.lines < lines_measure lines.old.lines }
     ensures memory { IfSome result (λ item. IsMemoryErr item → lines.new.lines.stage ≡ Failed) }
     ensures key { IfSome result
         (λ item. IfOk item (λ pair. IsTrue (is_key (chars (string_bytes pair.0))))) }
@@ -232,7 +232,7 @@ fn item_of<R: Source, A: Allocator + Clone>(
         (reading_of lines.old.lines (remembered_of remembered.old.entries) dialect) outcome
         lines.old.line result
         (reading_of lines.new.lines (remembered_of remembered.new.entries) dialect) }
-    ensures falls { fuel_of lines.new.lines ≤ fuel_of lines.old.lines }
+    ensures falls { lines_measure lines.new.lines ≤ lines_measure lines.old.lines }
     ensures input { lines.new.lines.input ≡ lines.old.lines.input }
     ensures stage { lines.new.lines.stage ≡ Open → lines.old.lines.stage ≡ Open }
     ensures memory { IfSome result (λ item. IsMemoryErr item → lines.new.lines.stage ≡ Failed) }
@@ -282,7 +282,7 @@ impl<R: Source + Drop, A: Allocator + Clone> Iter<R, A> {
     pub fn load(self, env: &mut Environment<A>) -> Result<(), A>
         ensures shut { ¬ (IsOpen self) → (result ≡ Ok tt) × (env.new ≡ env.old) }
         ensures told { IsOpen self →
-            LoadsLeft load_result self env.old.names result env.new.names }
+            LoadsRest load_result self env.old.names result env.new.names }
         ensures keeps { KeepsNames env.old.names env.new.names }
         ensures keys { ChangesKeys env.old.names env.new.names }
         ensures mark { env.new.loaded ≡ env.old.loaded }
@@ -298,7 +298,7 @@ impl<R: Source + Drop, A: Allocator + Clone> Iter<R, A> {
     pub fn load_override(self, env: &mut Environment<A>) -> Result<(), A>
         ensures shut { ¬ (IsOpen self) → (result ≡ Ok tt) × (env.new ≡ env.old) }
         ensures told { IsOpen self →
-            LoadsLeft override_result self env.old.names result env.new.names }
+            LoadsRest override_result self env.old.names result env.new.names }
         ensures keys { ChangesKeys env.old.names env.new.names }
         ensures mark { env.new.loaded ≡ env.old.loaded }
     {
@@ -310,7 +310,7 @@ impl<R: Source + Drop, A: Allocator + Clone> Iter<R, A> {
     fn load_lines(mut self, mode: Mode, env: &mut Environment<A>) -> Result<(), A>
         ensures shut { ¬ (IsOpen self) → (result ≡ Ok tt) × (env.new ≡ env.old) }
         ensures told { IsOpen self →
-            LoadsLeft (run (mode_of mode)) self env.old.names result env.new.names }
+            LoadsRest (run (mode_of mode)) self env.old.names result env.new.names }
         ensures keeps { mode_of mode ≡ Keep → KeepsNames env.old.names env.new.names }
         ensures keys { ChangesKeys env.old.names env.new.names }
         ensures mark { env.new.loaded ≡ env.old.loaded }
@@ -345,7 +345,7 @@ impl<'a, R: Source, A: Allocator + Clone> Iterator for Items<'a, R, A> {
         × AsksBetween s.file.now t.file.now
         × (t.file.ghost_name ≡ s.file.ghost_name) × (t.env.now ≡ s.env.now) × GivesName item };
 
-    ghost remaining = { λ s. at_most (item_fuel s.file.now) };
+    ghost remaining = { λ s. at_most (items_measure s.file.now) };
 
     fn next(&mut self) -> Option<Result<(String<A>, String<A>), A>> {
         self.file.next_item(self.env)
@@ -358,9 +358,9 @@ pub fn from_read<R: Source + Drop, A: Allocator + Clone>(
     reader: R,
     env: &mut Environment<A>,
 ) -> Result<(), A>
-    ensures told { LoadsLeft load_result (fresh (R.ahead reader) (R.calls reader) Dialect.V15)
+    ensures told { LoadsRest load_result (fresh (R.ahead reader) (R.calls reader) Dialect.V15)
         env.old.names result env.new.names }
-    ensures in_turn { LoadsLeft (run Keep) (fresh (R.ahead reader) (R.calls reader) Dialect.V15)
+    ensures in_turn { LoadsRest (run Keep) (fresh (R.ahead reader) (R.calls reader) Dialect.V15)
         env.old.names result env.new.names }
     ensures keeps { KeepsNames env.old.names env.new.names }
     ensures keys { ChangesKeys env.old.names env.new.names }
@@ -375,9 +375,9 @@ pub fn from_read_override<R: Source + Drop, A: Allocator + Clone>(
     reader: R,
     env: &mut Environment<A>,
 ) -> Result<(), A>
-    ensures told { LoadsLeft override_result (fresh (R.ahead reader) (R.calls reader) Dialect.V15)
+    ensures told { LoadsRest override_result (fresh (R.ahead reader) (R.calls reader) Dialect.V15)
         env.old.names result env.new.names }
-    ensures in_turn { LoadsLeft (run Replace)
+    ensures in_turn { LoadsRest (run Replace)
         (fresh (R.ahead reader) (R.calls reader) Dialect.V15) env.old.names result env.new.names }
     ensures keys { ChangesKeys env.old.names env.new.names }
     ensures mark { env.new.loaded ≡ env.old.loaded }

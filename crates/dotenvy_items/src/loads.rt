@@ -5,7 +5,7 @@ ghost use Rattle.dotenvy_items.specs.Remembered.{remembered_of};
 ghost use Rattle.dotenvy_items.specs.Meaning.{values_of};
 ghost use Rattle.dotenvy_base.specs.Environment.{KeepsNames};
 ghost use Rattle.dotenvy_format.specs.Run.{Keep, sets};
-ghost use Rattle.dotenvy_items.specs.LoadsLeft.{ChangesKeys};
+ghost use Rattle.dotenvy_items.specs.LoadsRest.{ChangesKeys};
 ghost use Rattle.dotenvy_items.specs.inside.LoadStep.{mode_of, LoadsLine};
 
 use crate::meaning::Names;

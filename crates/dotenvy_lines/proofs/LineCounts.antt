@@ -27,7 +27,7 @@ use Rattle.dotenvy_format.specs.Outcome.{Outcome, Nothing, Pair, Fault}
 use Rattle.dotenvy_format.specs.Entries.{Entry, Declares, Fails, AreLogicalLines, outcome_entries, Gives, GiveAll}
 use Rattle.dotenvy_format.specs.Items.{LookUp, meaning, or_else, with_value, items_from}
 use Rattle.dotenvy_format.specs.Decided.{up_to_last_line_feed, without_open_end}
-use Rattle.dotenvy_lines.specs.Reading.{HasLeft}
+use Rattle.dotenvy_lines.specs.Reading.{HasEntriesLeft}
 use Rattle.dotenvy_format.proofs.lines.EntriesOnce.{some_length, next_positive}
 use Rattle.dotenvy_format.proofs.lines.DecidedFront.{front_is}
 
@@ -94,7 +94,7 @@ texts_count bytes = length-map (physical_lines bytes) line_text
 
 -- there are no more entries than physical lines
 pub entries_count : (dialect : Dialect) (fault : Option ErrorKind) (bytes : List ℕ) (entries : List Entry) →
-    HasLeft dialect fault bytes entries → length entries ≤ length (physical_lines bytes)
+    HasEntriesLeft dialect fault bytes entries → length entries ≤ length (physical_lines bytes)
 entries_count dialect None bytes entries has =
     omega (
       arith,

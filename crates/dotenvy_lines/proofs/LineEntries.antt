@@ -7,7 +7,7 @@ use Rattle.dotenvy_format.specs.LogicalLine.{Logical, Skip, Text, Open, Broken, 
 use Rattle.dotenvy_format.specs.Entries.{Entry, AreLogicalLines, Gives, GiveAll, HasEntries}
 use Rattle.dotenvy_format.specs.Decided.{up_to_last_line_feed, without_open_end, HasDecided}
 use Rattle.dotenvy_lines.specs.Input.{InputState}
-use Rattle.dotenvy_lines.specs.Reading.{HasLeft}
+use Rattle.dotenvy_lines.specs.Reading.{HasEntriesLeft}
 use Rattle.dotenvy_format.specs.PhysicalLines.{line_texts}
 use Rattle.dotenvy_lines.specs.Lines.{whole_lines}
 use Rattle.dotenvy_lines.specs.inside.NextLine.{lines_so_far, IsNextAlways, TakesNext, IsUndecided}
@@ -17,19 +17,19 @@ use Rattle.dotenvy_format.proofs.lines.NextEntries.{entries-none}
 
 -- there are entries of what is left
 pub left_exists : (dialect : Dialect) (fault : Option ErrorKind) (bytes : List ℕ) →
-    (entries : List Entry) × HasLeft dialect fault bytes entries
+    (entries : List Entry) × HasEntriesLeft dialect fault bytes entries
 left_exists dialect None bytes = entries_exist dialect bytes
 left_exists dialect (Some kind) bytes = decided_exist dialect bytes
 
 -- what is left has at most one list of entries
 pub left_once : (dialect : Dialect) (fault : Option ErrorKind) (bytes : List ℕ) (entries others : List Entry) →
-    HasLeft dialect fault bytes entries → HasLeft dialect fault bytes others → entries ≡ others
+    HasEntriesLeft dialect fault bytes entries → HasEntriesLeft dialect fault bytes others → entries ≡ others
 left_once dialect None bytes entries others a b = entries_once dialect bytes entries others a b
 left_once dialect (Some kind) bytes entries others a b = decided_once dialect bytes entries others a b
 
 -- nothing is left at the end
 pub left-none : (dialect : Dialect) (fault : Option ErrorKind) (bytes : List ℕ) → bytes ≡ [] → fault ≡ None →
-    HasLeft dialect fault bytes []
+    HasEntriesLeft dialect fault bytes []
 left-none dialect None bytes e f = subst (λ b. HasEntries dialect b []) (sym e) (entries-none dialect)
 left-none dialect (Some kind) bytes e f = absurd (none-some kind (sym f))
 
@@ -46,7 +46,8 @@ decided_give dialect Broken lines front after no_open gives later = (front, afte
 pub left-next : {count : ℕ} (dialect : Dialect) (fault : Option ErrorKind) (bytes : List ℕ) (s t : InputState)
     (next : Logical) (front after : List Entry) →
     (k : TakesNext (record { bytes = bytes; fault = fault }) s next count t) →
-    Gives dialect next front → HasLeft dialect fault k.left after → HasLeft dialect fault bytes (front ++ after)
+    Gives dialect next front → HasEntriesLeft dialect fault k.left after →
+    HasEntriesLeft dialect fault bytes (front ++ after)
 left-next {count = count} dialect None bytes s t next front after k gives has = record {
   lines = next ∷ has.lines;
   are_lines = (k.some, count, k.is_next, subst (λ ls. AreLogicalLines ls has.lines) k.later has.are_lines);
@@ -64,8 +65,8 @@ left-next {count = count} dialect (Some kind) bytes s t next front after k gives
 pub took : {count : ℕ} (dialect : Dialect) (fault : Option ErrorKind) (bytes : List ℕ) (entries : List Entry)
     (s t : InputState) (next : Logical) (front : List Entry) →
     (k : TakesNext (record { bytes = bytes; fault = fault }) s next count t) →
-    Gives dialect next front → HasLeft dialect fault bytes entries →
-    (later : List Entry) × HasLeft dialect fault k.left later × (entries ≡ front ++ later)
+    Gives dialect next front → HasEntriesLeft dialect fault bytes entries →
+    (later : List Entry) × HasEntriesLeft dialect fault k.left later × (entries ≡ front ++ later)
 took dialect fault bytes entries s t next front k gives has =
     let l = left_exists dialect fault k.left in
     let all = left-next dialect fault bytes s t next front l.0 k gives l.1 in
@@ -112,7 +113,7 @@ decided-none dialect bytes undecided = at has.0 has.1
 
 -- where a fault is told behind bytes that decide nothing, no entry is left
 pub left-fault : (dialect : Dialect) (fault : Option ErrorKind) (kind : ErrorKind) (bytes : List ℕ)
-    (entries : List Entry) → fault ≡ Some kind → HasLeft dialect fault bytes entries →
+    (entries : List Entry) → fault ≡ Some kind → HasEntriesLeft dialect fault bytes entries →
     HasDecided dialect bytes [] → entries ≡ []
 left-fault dialect None kind bytes entries is has none = absurd (none-some kind is)
 left-fault dialect (Some told) kind bytes entries is has none = decided_once dialect bytes entries [] has none

@@ -65,9 +65,9 @@ input_code =
 abbrev pub IsTold : Option Ahead → Ahead → Type 0
 IsTold left a = (left ≡ Some a) × (a.fault ≢ Some Interrupted)
 
--- more than the calls that can still answer a line
-abbrev pub supply : InputState → ℕ
-supply s = s.reads * 8193 + s.unread
+-- the measure of loops over an input: it falls with each read, and with each byte that is used
+abbrev pub input_measure : InputState → ℕ
+input_measure s = s.reads * 8193 + s.unread
 
 -- 1 where the end was read
 abbrev pub end_reads : Bool → ℕ

@@ -28,7 +28,7 @@ use Rattle.dotenvy_base.specs.Source.{Ahead}
 use Rattle.dotenvy_base.specs.Calls.{Call}
 use Rattle.dotenvy_format.specs.PhysicalLines.{line_texts}
 use Rattle.dotenvy_format.specs.Decided.{up_to_last_line_feed}
-use Rattle.dotenvy_lines.specs.Input.{InputState, input_code, IsTold, IsFinal, supply}
+use Rattle.dotenvy_lines.specs.Input.{InputState, input_code, IsTold, IsFinal, input_measure}
 
 -- the bytes whose physical lines are whole: all, or before a fault those up to the last line feed
 abbrev pub whole_before : Option ErrorKind → List ℕ → List ℕ
@@ -60,15 +60,15 @@ lines_code =
 abbrev pub Counts : ℕ → ℕ → ℕ → Type 0
 Counts old more new = old + more < 2 ^ 64 → new ≡ old + more
 
--- one more than the supply while lines are open, and nothing once they are not
-abbrev pub stage_fuel : Stage → ℕ → ℕ
-stage_fuel stage_open n = n + 1
-stage_fuel Ended n = 0
-stage_fuel Failed n = 0
+-- one more than this while lines are open, and 0 once they have ended or failed
+abbrev pub stage_measure : Stage → ℕ → ℕ
+stage_measure stage_open n = n + 1
+stage_measure Ended n = 0
+stage_measure Failed n = 0
 
--- more than the answers that can still come
-abbrev pub fuel_of : LinesState → ℕ
-fuel_of s = stage_fuel s.stage (supply s.input)
+-- the measure of loops over logical lines: it falls with each line that is taken
+abbrev pub lines_measure : LinesState → ℕ
+lines_measure s = stage_measure s.stage (input_measure s.input)
 
 -- where they are open, this holds of what the source tells of what is left
 abbrev pub WhereOpen : LinesState → (Ahead → Type 0) → Type 0

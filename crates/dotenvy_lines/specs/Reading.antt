@@ -10,9 +10,9 @@ use Rattle.dotenvy_base.specs.Source.{Ahead}
 use Rattle.dotenvy_lines.specs.Input.{InputState, end_reads}
 
 -- the entries of what is left: those of the bytes, or before a fault those that they decide
-abbrev pub HasLeft : Dialect → Option ErrorKind → List ℕ → List Entry → Type 0
-HasLeft dialect None bytes entries = HasEntries dialect bytes entries
-HasLeft dialect (Some kind) bytes entries = HasDecided dialect bytes entries
+abbrev pub HasEntriesLeft : Dialect → Option ErrorKind → List ℕ → List Entry → Type 0
+HasEntriesLeft dialect None bytes entries = HasEntries dialect bytes entries
+HasEntriesLeft dialect (Some kind) bytes entries = HasDecided dialect bytes entries
 
 -- the entry of the fault that is told, if one is
 abbrev pub told_fault : Option ErrorKind → List Entry

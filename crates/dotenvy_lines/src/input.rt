@@ -2,7 +2,7 @@
 ghost use Rattle.std.specs.Prelude.{[], ◌≡◌, ◌≤◌, ◌<◌, ◌+◌, ◌==◌, ◌⊎◌, true, false, Some, None, IfOk, IfErr, IsOk, IsTrue, ◌↔◌, OnOk, MatchOption, MatchBool, position, nat_eq, length, take, drop, vec_len};
 ghost use Rattle.std.specs.IoError.{error_kind};
 ghost use Rattle.dotenvy_base.specs.Source.{Ahead};
-ghost use Rattle.dotenvy_lines.specs.Input.{supply, begins_mark, DropsMark, AsksReads};
+ghost use Rattle.dotenvy_lines.specs.Input.{input_measure, begins_mark, DropsMark, AsksReads};
 ghost use Rattle.dotenvy_lines.specs.inside.InputSteps.{WhereTold, ReadsOnce, IsAllRead, used_up, IsLinePiece, ReadsMore, FindsMore, MovesLine, SkipsLine, AsksOnce};
 ghost use Rattle.std.specs.List.{starts_with};
 ghost use Rattle.dotenvy_format.specs.PhysicalLines.{is_whole_line, no_line_feed};
@@ -182,7 +182,7 @@ impl<R: Source, A: Allocator> Input<R, A> {
     pub fn read_more(&mut self) -> Result<(), A>
         requires unread { self.old.unread < 8192 }
         requires unended { self.old.at_end ≡ false }
-        ensures falls { OnOk result (supply self.new < supply self.old) }
+        ensures falls { OnOk result (input_measure self.new < input_measure self.old) }
         ensures grows { self.old.unread ≤ self.new.unread }
         ensures told { WhereTold self.old.left (λ a. ReadsMore a self.old result self.new) }
         ensures asks { AsksReads (IsOk result) self.old self.new }
@@ -206,7 +206,7 @@ impl<R: Source, A: Allocator> Input<R, A> {
 
     // Whether there is something to use: reads until a byte is unread, or the end.
     pub fn has_more(&mut self) -> Result<bool, A>
-        ensures falls { OnOk result (supply self.new ≤ supply self.old) }
+        ensures falls { OnOk result (input_measure self.new ≤ input_measure self.old) }
         ensures some { IfOk result (λ more. more ≡ true → 0 < self.new.unread) }
         ensures ended { self.old.at_end ≡ true → self.new ≡ self.old }
         ensures told { WhereTold self.old.left (λ a. FindsMore a self.old result self.new) }
@@ -220,8 +220,8 @@ impl<R: Source, A: Allocator> Input<R, A> {
 
     // Uses the unread bytes of the physical line that stands next, and answers whether its LF is among them.
     fn use_piece(&mut self) -> bool
-        ensures supply { supply self.new ≤ supply self.old }
-        ensures some { 0 < self.old.unread → supply self.new < supply self.old }
+        ensures measure { input_measure self.new ≤ input_measure self.old }
+        ensures some { 0 < self.old.unread → input_measure self.new < input_measure self.old }
         ensures spent { result ≡ false → self.new.unread ≡ 0 }
         ensures told { (a : Ahead) → self.old.left ≡ Some a → MovesLine a self.old result self.new }
         ensures asks { AsksReads (Unit {0}) self.old self.new }
@@ -234,8 +234,9 @@ impl<R: Source, A: Allocator> Input<R, A> {
 
     // Passes by what is left of the physical line that stands next, and keeps none of it.
     pub fn skip_line(&mut self) -> Result<(), A>
-        ensures falls { OnOk result (supply self.new ≤ supply self.old) }
-        ensures some { 0 < self.old.unread → OnOk result (supply self.new < supply self.old) }
+        ensures falls { OnOk result (input_measure self.new ≤ input_measure self.old) }
+        ensures some { 0 < self.old.unread →
+            OnOk result (input_measure self.new < input_measure self.old) }
         ensures told { WhereTold self.old.left (λ a. SkipsLine a self.old result self.new) }
         ensures asks { AsksReads (IsOk result) self.old self.new }
     {
@@ -275,7 +276,7 @@ impl<R: Source, A: Allocator> Input<R, A> {
 
     // Drops a byte order mark, if the next bytes are one. Bytes that are no whole mark stay.
     pub fn drop_mark(&mut self) -> Result<(), A>
-        ensures falls { OnOk result (supply self.new ≤ supply self.old) }
+        ensures falls { OnOk result (input_measure self.new ≤ input_measure self.old) }
         ensures told { WhereTold self.old.left (λ a. DropsMark a self.old result self.new) }
         ensures asks { AsksReads (IsOk result) self.old self.new }
     {

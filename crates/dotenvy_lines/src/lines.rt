@@ -5,7 +5,7 @@ ghost use Rattle.std.specs.IoError.{error_kind};
 ghost use Rattle.dotenvy_base.specs.Errors.{IsIoOf, IsLineParseOf, IsMemory, IsMemoryErr};
 ghost use Rattle.dotenvy_lines.specs.Input.{AsksReads, DropsMark};
 ghost use Rattle.dotenvy_lines.specs.inside.InputSteps.{WhereTold};
-ghost use Rattle.dotenvy_lines.specs.Lines.{fuel_of, WhereOpen, fresh_lines};
+ghost use Rattle.dotenvy_lines.specs.Lines.{lines_measure, WhereOpen, fresh_lines};
 ghost use Rattle.dotenvy_lines.specs.inside.NextLine.{NextTextIs, AdvanceIs};
 ghost use Rattle.dotenvy_lines.specs.inside.JoinedLines.{joined_at_end, JoinsNext, UsesSome, stage_after, is_refused, IsOutcome};
 ghost use Rattle.dotenvy_lines.specs.inside.Splitter.{last_lines};
@@ -237,7 +237,8 @@ impl<R: Source, A: Allocator + Clone> Splitter<R, A> {
     // fault, and `None` at the end and after a final fault.
     pub fn advance(&mut self) -> Option<Result<(), A>>
         ensures shut { self.old.lines.stage ≢ Stage.Open → (result ≡ None) × (self.new ≡ self.old) }
-        ensures falls { IsSome result → fuel_of self.new.lines < fuel_of self.old.lines }
+        ensures falls { IsSome result →
+            lines_measure self.new.lines < lines_measure self.old.lines }
         ensures none { result ≡ None → self.new.lines.stage ≢ Stage.Open }
         ensures memory { IfSome result (λ r. IsMemoryErr r → self.new.lines.stage ≡ Stage.Failed) }
         ensures told { WhereOpen self.old.lines
@@ -265,7 +266,7 @@ impl<R: Source, A: Allocator + Clone> Splitter<R, A> {
     pub fn drop_mark(&mut self) -> Result<(), A>
         ensures shut { self.old.lines.stage ≢ Stage.Open →
             (result ≡ Ok tt) × (self.new ≡ self.old) }
-        ensures falls { fuel_of self.new.lines ≤ fuel_of self.old.lines }
+        ensures falls { lines_measure self.new.lines ≤ lines_measure self.old.lines }
         ensures ok { OnOk result (self.new.lines.stage ≡ self.old.lines.stage) }
         ensures err { OnErr result (self.new.lines.stage ≡ Stage.Failed) }
         ensures counts { (self.new.lines.lines_taken ≡ self.old.lines.lines_taken)
@@ -321,7 +322,7 @@ impl<R: Source, A: Allocator + Clone> QuotedLines<R, A> {
     // The text of the next logical line, or its fault: empty for a line that is skipped, and `None` at the end and after a final fault.
     pub fn next_line(&mut self) -> Option<Result<String<A>, A>>
         ensures shut { self.old.stage ≢ Stage.Open → (result ≡ None) × (self.new ≡ self.old) }
-        ensures falls { IsSome result → fuel_of self.new < fuel_of self.old }
+        ensures falls { IsSome result → lines_measure self.new < lines_measure self.old }
         ensures none { result ≡ None → self.new.stage ≢ Stage.Open }
         ensures memory { IfSome result (λ r. IsMemoryErr r → self.new.stage ≡ Stage.Failed) }
         ensures told { WhereOpen self.old (λ a. NextTextIs a self.old result self.new) }

@@ -7,7 +7,7 @@ ghost use Rattle.dotenvy_format.specs.PhysicalLines.{no_line_feed};
 ghost use Rattle.dotenvy_format.specs.LogicalLine.{without_carriage_return};
 ghost use Rattle.dotenvy_format.specs.inside.Walk.{kept_before};
 ghost use Rattle.dotenvy_base.specs.Errors.{IsMemory};
-ghost use Rattle.dotenvy_lines.specs.Input.{AsksReads, supply};
+ghost use Rattle.dotenvy_lines.specs.Input.{AsksReads, input_measure};
 ghost use Rattle.dotenvy_lines.specs.inside.InputSteps.{WhereTold};
 ghost use Rattle.dotenvy_lines.specs.inside.TakenLine.{IsTextFront, PieceFalls, TakesLineOn, TakesPiece, WalksFrom, WalksOn, after_text, at_line_end, starting, still_blank};
 
@@ -170,7 +170,7 @@ fn take_piece<R: Source, A: Allocator>(
     text: &mut String<A>,
     progress: Progress,
 ) -> Result<Step, A>
-    ensures supply { supply input.new ≤ supply input.old }
+    ensures measure { input_measure input.new ≤ input_measure input.old }
     ensures falls { IfOk result (λ step. PieceFalls input.old step.after input.new) }
     ensures told { IfOk result (λ step.
         (a : Ahead) → input.old.left ≡ Some a →
@@ -219,7 +219,7 @@ pub fn take_line<R: Source, A: Allocator>(
     mode: LineMode,
 ) -> Result<Taken, A>
     requires { 0 < input.old.unread }
-    ensures falls { OnOk result (supply input.new < supply input.old) }
+    ensures falls { OnOk result (input_measure input.new < input_measure input.old) }
     ensures told { WhereTold input.old.left
         (λ a. TakesLineOn mode (chars (string_bytes text.old)) a input.old result
         (chars (string_bytes text.new)) input.new) }

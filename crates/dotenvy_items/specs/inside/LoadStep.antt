@@ -11,7 +11,7 @@ use Rattle.dotenvy_format.specs.Run.{Mode, Keep, Replace, run}
 use Rattle.dotenvy_base.specs.Environment.{Texts}
 use Rattle.dotenvy_items.specs.Remembered.{Remembered}
 use Rattle.dotenvy_items.specs.Meaning.{values_of, recalled_of}
-use Rattle.dotenvy_items.specs.LoadsLeft.{Leaves}
+use Rattle.dotenvy_items.specs.LoadsRest.{Leaves}
 
 -- the mode that the code names
 abbrev pub mode_of : CodeMode → Mode

@@ -41,7 +41,7 @@ use Rattle.dotenvy_lines.specs.declared.lines.Stage.TheVariants.{Open as stage_o
 use Rattle.dotenvy_base.specs.Source.{Ahead}
 use Rattle.dotenvy_format.specs.LogicalLine.{Skip, Text, Open, Broken}
 use Rattle.dotenvy_base.specs.Errors.{IsIoOf, IsMemory, IsLineParseOf}
-use Rattle.dotenvy_lines.specs.Input.{InputState, IsFinal, supply}
+use Rattle.dotenvy_lines.specs.Input.{InputState, IsFinal, input_measure}
 use Rattle.dotenvy_lines.specs.Lines.{Counts}
 use Rattle.dotenvy_lines.specs.inside.NextLine.{TakesNext, IsUndecided}
 
@@ -76,10 +76,10 @@ JoinsNext a s before (Err e) text t after = IsFinal a s IsUndecided e t
 -- something was used up, but at the end
 abbrev pub UsesSome : InputState → Joined → InputState → Type 0
 UsesSome s Nothing t = Unit {0}
-UsesSome s Skipped t = supply t < supply s
-UsesSome s Whole t = supply t < supply s
-UsesSome s OpenEnd t = supply t < supply s
-UsesSome s BrokenLine t = supply t < supply s
+UsesSome s Skipped t = input_measure t < input_measure s
+UsesSome s Whole t = input_measure t < input_measure s
+UsesSome s OpenEnd t = input_measure t < input_measure s
+UsesSome s BrokenLine t = input_measure t < input_measure s
 
 -- where what was read is used up, nothing is left to open
 abbrev pub stage_if : Bool → Stage

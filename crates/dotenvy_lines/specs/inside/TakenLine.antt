@@ -44,7 +44,7 @@ use Rattle.dotenvy_format.specs.Characters.{begins_with, hash}
 use Rattle.dotenvy_format.specs.PhysicalLines.{no_line_feed, is_whole_line}
 use Rattle.dotenvy_format.specs.inside.Walk.{walk, going, ended}
 use Rattle.dotenvy_base.specs.Source.{Ahead}
-use Rattle.dotenvy_lines.specs.Input.{InputState, IsFinal, supply}
+use Rattle.dotenvy_lines.specs.Input.{InputState, IsFinal, input_measure}
 use Rattle.dotenvy_lines.specs.inside.InputSteps.{TakesLine}
 
 -- the longest front of the bytes that is text
@@ -133,10 +133,10 @@ pub record TakesPiece (a : Ahead) (s : InputState) (piece : List ℕ) (after : A
 
 -- what is left to use falls, or there is room to read more, or something is left that is no text
 abbrev pub PieceFalls : InputState → After → InputState → Type 0
-PieceFalls s LineEnd t = supply t < supply s
-PieceFalls s InputEnd t = 0 < s.unread → supply t < supply s
-PieceFalls s Broken t = (supply t ≤ supply s) × (0 < t.unread)
-PieceFalls s Unread t = (supply t ≤ supply s) × (t.unread < 4) × (t.at_end ≡ false)
+PieceFalls s LineEnd t = input_measure t < input_measure s
+PieceFalls s InputEnd t = 0 < s.unread → input_measure t < input_measure s
+PieceFalls s Broken t = (input_measure t ≤ input_measure s) × (0 < t.unread)
+PieceFalls s Unread t = (input_measure t ≤ input_measure s) × (t.unread < 4) × (t.at_end ≡ false)
 
 -- the first physical line of what was left was taken, and is text
 pub record TakesTextLine (a : Ahead) (s : InputState) (line : List ℕ) (t : InputState)

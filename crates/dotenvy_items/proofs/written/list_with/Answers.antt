@@ -3,7 +3,7 @@ use Rattle.dotenvy_base.specs.Output.{Sends, most_writes}
 use Rattle.std.proofs.lemmas.Result.{err_from_is_err_and}
 use Rattle.dotenvy_format.specs.Loads.{load_result}
 use Rattle.dotenvy_items.specs.Iter.{fresh}
-use Rattle.dotenvy_items.specs.LoadsLeft.{ChangesKeys}
+use Rattle.dotenvy_items.specs.LoadsRest.{ChangesKeys}
 use Rattle.dotenvy_items.proofs.ListedLoads.{first_load, refused_lists}
 use Rattle.dotenvy_items.proofs.written.list_with.Goals as goal
 

@@ -3,7 +3,7 @@ use Rattle.std.specs.Str.{chars}
 use Rattle.std.proofs.lemmas.Str.{IsUtf8-string_bytes}
 use Rattle.std.proofs.lemmas.Result.{err_from_is_err_and}
 use Rattle.dotenvy_base.specs.Source.{Ahead}
-use Rattle.dotenvy_lines.specs.Input.{supply}
+use Rattle.dotenvy_lines.specs.Input.{input_measure}
 use Rattle.dotenvy_lines.specs.declared.lines.Joined.{Joined}
 use Rattle.dotenvy_lines.specs.inside.JoinedLines.{TakesJoined, joined_at_end}
 use Rattle.dotenvy_lines.specs.declared.physical_line.Taken.TheVariants.{
@@ -32,7 +32,7 @@ use Rattle.dotenvy_lines.proofs.lines.join_lines.Goals as goal
 
 pub joining-init : goal.joining-init
 joining-init g c =
-    let same : supply c.args.input.now ≤ supply c.args.input.now = omega arith in (
+    let same : input_measure c.args.input.now ≤ input_measure c.args.input.now = omega arith in (
       same,
       λ some. absurd (some (search rules)),
       λ a told. joining_empty a c.args.input.now _ c.args.lines_taken.now (search rules) told,
@@ -110,7 +110,8 @@ joining-preserved g c =
     let falls = c.in_ok-taken.ensures.falls in
     let waits = c.in_ok-has_more.ensures.falls in
     let before = c.joining.invariant.0 in
-    let below : supply c.take_line.new.input < supply c.args.input.now = omega (arith, falls, waits, before) in (
+    let below : input_measure c.take_line.new.input < input_measure c.args.input.now =
+    omega (arith, falls, waits, before) in (
       omega (arith, below),
       λ some. below,
       λ a told.

@@ -73,7 +73,7 @@ returns-in-LineEnd-clause-falls g c =
           (let falls =
           subst (λ (after : After). PieceFalls c.pieces.input after c.take_piece.new.input) is
           c.in_ok-step.ensures.falls in
-          let still = c.take_piece.ensures.supply in
+          let still = c.take_piece.ensures.measure in
           elim c.pieces.invariant.1 [
             | inl less ↦ omega (arith, less, still)
             | inr some ↦ (let now = falls some in omega (arith, within, now))

@@ -3,7 +3,7 @@ use Rattle.std.specs.Str.{chars}
 use Rattle.std.proofs.lemmas.Result.{err_from_is_err_and}
 use Rattle.dotenvy_format.specs.Run.{run}
 use Rattle.dotenvy_items.specs.Iter.{IterState, state_of}
-use Rattle.dotenvy_items.specs.LoadsLeft.{LoadsLeft}
+use Rattle.dotenvy_items.specs.LoadsRest.{LoadsRest}
 use Rattle.dotenvy_items.specs.inside.LoadStep.{mode_of, LoadsLine}
 use Rattle.dotenvy_items.specs.Remembered.{remembered_of}
 use Rattle.dotenvy_items.proofs.LineLoads.{keeps_twice, changes_keys-twice}
@@ -28,7 +28,7 @@ returns-in_err-drop_mark-clause-told g c = λ opened.
     let inside =
     state_of c.self.inside.lines.lines (remembered_of c.self.inside.remembered.entries) c.self.inside.dialect
     c.self.inside.item_lines in
-    rw (p.1, p.2) (subst (λ s. LoadsLeft (run mode) s names (Err e) names) view
+    rw (p.1, p.2) (subst (λ s. LoadsRest (run mode) s names (Err e) names) view
     (loads_mark mode inside c.drop_mark.new.self.lines.input names e
     (λ a told. c.in_err-drop_mark.ensures.told a (ap (λ (s : IterState). s.lines.stage) view ∙ opened) told)))
 

@@ -1,9 +1,9 @@
 use Rattle.std.proofs.Common.{◌≡◌, ◌≢◌}
 use Rattle.dotenvy_base.specs.Environment.{KeepsNames}
 use Rattle.dotenvy_lines.specs.declared.lines.Stage.TheVariants.{Open}
-use Rattle.dotenvy_lines.specs.Lines.{fuel_of}
+use Rattle.dotenvy_lines.specs.Lines.{lines_measure}
 use Rattle.dotenvy_format.specs.Run.{Keep}
-use Rattle.dotenvy_items.specs.LoadsLeft.{ChangesKeys}
+use Rattle.dotenvy_items.specs.LoadsRest.{ChangesKeys}
 use Rattle.dotenvy_items.specs.inside.LoadStep.{mode_of}
 use Rattle.dotenvy_items.specs.Remembered.{remembered_of}
 use Rattle.dotenvy_items.specs.Iter.{state_of}
@@ -25,4 +25,4 @@ invariant-loading g l =
     }
 
 abbrev pub decreases-loading : goal.decreases-loading
-decreases-loading g l = fuel_of l.self-inside.lines.lines
+decreases-loading g l = lines_measure l.self-inside.lines.lines

@@ -40,10 +40,10 @@ returns-then-is_at_end-clause-told g c = λ a told.
 pub skipping-preserved : goal.skipping-preserved
 skipping-preserved g c = (
   let f = c.in_ok-read_more.ensures.falls in
-      let s = c.use_piece.ensures.supply in let i = c.skipping.invariant.0 in omega (arith, f, s, i),
+      let s = c.use_piece.ensures.measure in let i = c.skipping.invariant.0 in omega (arith, f, s, i),
   λ some.
       inl (let f = c.in_ok-read_more.ensures.falls in
-      let s = c.use_piece.ensures.supply in let i = c.skipping.invariant.0 in omega (arith, f, s, i)),
+      let s = c.use_piece.ensures.measure in let i = c.skipping.invariant.0 in omega (arith, f, s, i)),
   λ a told.
       let r = c.skipping.invariant.2 a told in
       let m =
@@ -90,12 +90,12 @@ returns-in_err-read_more-clause-asks g c =
 
 pub returns-then-use_piece-clause-some : goal.returns-then-use_piece-clause-some
 returns-then-use_piece-clause-some g c = λ some. elim (c.skipping.invariant.1 some) [
-  | inl less ↦ (let s = c.use_piece.ensures.supply in omega (arith, less, s))
+  | inl less ↦ (let s = c.use_piece.ensures.measure in omega (arith, less, s))
   | inr now ↦ (let i = c.skipping.invariant.0 in let s = c.use_piece.ensures.some now in omega (arith, i, s))
 ]
 
 pub returns-then-is_at_end-clause-some : goal.returns-then-is_at_end-clause-some
 returns-then-is_at_end-clause-some g c = λ some. elim (c.skipping.invariant.1 some) [
-  | inl less ↦ (let s = c.use_piece.ensures.supply in omega (arith, less, s))
+  | inl less ↦ (let s = c.use_piece.ensures.measure in omega (arith, less, s))
   | inr now ↦ (let i = c.skipping.invariant.0 in let s = c.use_piece.ensures.some now in omega (arith, i, s))
 ]

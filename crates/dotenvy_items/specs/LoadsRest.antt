@@ -10,7 +10,7 @@ use Rattle.dotenvy_base.specs.Environment.{Texts}
 use Rattle.dotenvy_items.specs.Meaning.{values_of, recalled_of}
 use Rattle.dotenvy_format.specs.Marks.{without_mark}
 use Rattle.dotenvy_base.specs.Source.{Ahead}
-use Rattle.dotenvy_lines.specs.Reading.{HasLeft, IsReading}
+use Rattle.dotenvy_lines.specs.Reading.{HasEntriesLeft, IsReading}
 use Rattle.dotenvy_items.specs.NextItem.{IsFailure}
 use Rattle.dotenvy_items.specs.Iter.{IterState, TellsLeft}
 
@@ -33,11 +33,11 @@ abbrev pub Rule : Type 0
 Rule = LookUp → LookUp → List Entry → Loaded
 
 -- a load by this rule of what s has left, without a byte order mark at its front
-abbrev pub LoadsLeft : {A : Type 0} → Rule → IterState → Texts → Result (Unit {0}) (Error A) →
+abbrev pub LoadsRest : {A : Type 0} → Rule → IterState → Texts → Result (Unit {0}) (Error A) →
     Texts → Type 0
-LoadsLeft rule s old answer new =
+LoadsRest rule s old answer new =
     (a : Ahead) → TellsLeft s a → (entries : List Entry) →
-    HasLeft s.dialect a.fault (without_mark a.bytes) entries →
+    HasEntriesLeft s.dialect a.fault (without_mark a.bytes) entries →
     (read : List Entry) × IsReading s.dialect a s.lines.input entries read
     × Leaves (rule (values_of old) (recalled_of s.remembered) read) new answer
 
