@@ -34,12 +34,11 @@ pub use Rattle.dotenvy_base.specs.declared.search.Look
 pub use Rattle.dotenvy_lines.specs.Input
 pub use Rattle.dotenvy_lines.specs.Lines
 pub use Rattle.dotenvy_lines.specs.Reading
-pub use Rattle.dotenvy_lines.specs.Splitter
 pub use Rattle.dotenvy_lines.specs.declared.lines.Stage
 pub use Rattle.dotenvy_items.specs.Remembered
 pub use Rattle.dotenvy_items.specs.Iter
 pub use Rattle.dotenvy_items.specs.Meaning
 pub use Rattle.dotenvy_items.specs.NextItem
-pub use Rattle.dotenvy_items.specs.LoadsLeft
+pub use Rattle.dotenvy_items.specs.LoadsRest
 pub use Rattle.dotenvy_items.specs.Listed
 pub use Rattle.dotenvy_items.specs.Iteration

@@ -5,7 +5,7 @@ ghost use Rattle.dotenvy_base.specs.Environment.{KeepsNames};
 ghost use Rattle.dotenvy_base.specs.Errors.{IsFileFault};
 ghost use Rattle.dotenvy_base.specs.Find.{IsPathOf};
 ghost use Rattle.dotenvy_items.specs.Iter.{fresh};
-ghost use Rattle.dotenvy_items.specs.LoadsLeft.{ChangesKeys};
+ghost use Rattle.dotenvy_items.specs.LoadsRest.{ChangesKeys};
 
 use crate::find::{Finder, open};
 use dotenvy_base::environment::Environment;

@@ -4,7 +4,7 @@ ghost use Rattle.std.specs.FinMap as fin;
 ghost use Rattle.dotenvy_base.specs.Environment.{KeepsNames};
 ghost use Rattle.dotenvy_base.specs.Errors.{IsMemory, IsMemoryErr};
 ghost use Rattle.dotenvy.specs.FirstUse.{AnswersVar};
-ghost use Rattle.dotenvy_items.specs.LoadsLeft.{ChangesKeys};
+ghost use Rattle.dotenvy_items.specs.LoadsRest.{ChangesKeys};
 
 use crate::files::dotenv;
 use dotenvy_base::environment::{Environment, Vars, mark_loaded, snapshot};

@@ -7,7 +7,7 @@ use Rattle.dotenvy.specs.Environment.{Texts}
 use Rattle.dotenvy.specs.Errors.{IsMemory}
 use Rattle.dotenvy.specs.Items.{LookUp}
 use Rattle.dotenvy.specs.Iter.{fresh}
-use Rattle.dotenvy.specs.LoadsLeft.{Rule, Leaves, LoadsLeft}
+use Rattle.dotenvy.specs.LoadsRest.{Rule, Leaves, LoadsRest}
 use Rattle.dotenvy.specs.Meaning.{values_of, recalled_of}
 use Rattle.dotenvy.specs.Source.{Ahead}
 use Rattle.std.specs.Option.{option_or}
@@ -18,11 +18,11 @@ use Rattle.env_layers.specs.Layers.{AddsLayer, after_load, rule_of}
 -- a load by the rule of the mode, whose answer decides what stands
 pub adds_by : {A : Type 0} (mode : Mode) (rule : Rule) (ahead : Option Ahead) (old loaded : Texts)
     (answer : Result (Unit {0}) (Error A)) → rule_of mode ≡ rule →
-    LoadsLeft rule (fresh ahead None V15) old answer loaded →
+    LoadsRest rule (fresh ahead None V15) old answer loaded →
     AddsLayer mode ahead old answer (after_load old loaded answer)
 adds_by mode rule ahead old loaded answer is loads = record {
   loaded = loaded;
-  loads = subst (λ r. LoadsLeft r (fresh ahead None V15) old answer loaded) (sym is) loads;
+  loads = subst (λ r. LoadsRest r (fresh ahead None V15) old answer loaded) (sym is) loads;
   stands = refl;
 }
 

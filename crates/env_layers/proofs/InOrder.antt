@@ -38,7 +38,7 @@ use Rattle.dotenvy.specs.Iteration.{CanRead}
 use Rattle.dotenvy.specs.Items.{no_values}
 use Rattle.dotenvy.specs.Iter.{fresh}
 use Rattle.dotenvy.specs.Laws.{HasOneReading}
-use Rattle.dotenvy.specs.LoadsLeft.{IsAnswer, Leaves}
+use Rattle.dotenvy.specs.LoadsRest.{IsAnswer, Leaves}
 use Rattle.dotenvy.specs.Marks.{without_mark}
 use Rattle.dotenvy.specs.Meaning.{values_of, recalled_of}
 use Rattle.env_layers.specs.declared.layers.Mode.{Mode}

@@ -5,7 +5,7 @@ use Rattle.dotenvy.specs.Error.{Error}
 use Rattle.dotenvy.specs.Environment.{Texts}
 use Rattle.dotenvy.specs.Iter.{fresh}
 use Rattle.dotenvy.specs.Loads.{load_result, override_result}
-use Rattle.dotenvy.specs.LoadsLeft.{Rule, LoadsLeft}
+use Rattle.dotenvy.specs.LoadsRest.{Rule, LoadsRest}
 use Rattle.dotenvy.specs.Source.{Ahead}
 use Rattle.env_layers.specs.declared.layers.Mode.{Mode}
 use Rattle.env_layers.specs.declared.layers.Mode.TheVariants.{Keep, Override}
@@ -25,5 +25,5 @@ after_load before loaded (Err error) = before
 pub record AddsLayer {A : Type 0} (mode : Mode) (ahead : Option Ahead) (old : Texts)
     (answer : Result (Unit {0}) (Error A)) (new : Texts) : Type 0 where
   pub loaded : Texts
-  pub loads : LoadsLeft (rule_of mode) (fresh ahead None V15) old answer loaded
+  pub loads : LoadsRest (rule_of mode) (fresh ahead None V15) old answer loaded
   pub stands : new ≡ after_load old loaded answer

@@ -5,7 +5,7 @@ ghost use Rattle.std.specs.List.{list_all};
 ghost use Rattle.std.specs.Path.{path_bytes, path_buf_bytes};
 ghost use Rattle.dotenvy.specs.Environment.{KeepsNames};
 ghost use Rattle.dotenvy.specs.Find.{IsPathOf};
-ghost use Rattle.dotenvy.specs.LoadsLeft.{ChangesKeys};
+ghost use Rattle.dotenvy.specs.LoadsRest.{ChangesKeys};
 ghost use Rattle.env_layers.specs.Layers.{AddsLayer};
 ghost use Rattle.env_layers.specs.Missing.{absent_names, lent_texts, AnswersRequire, HoldsTexts};
 

@@ -7,7 +7,7 @@ ghost use Rattle.std.specs.Path.{path_bytes, path_buf_bytes};
 ghost use Rattle.dotenvy.specs.Find.{Finds, IsPathOf};
 ghost use Rattle.dotenvy.specs.Iter.{IsOpen};
 ghost use Rattle.dotenvy.specs.Loads.{load_result};
-ghost use Rattle.dotenvy.specs.LoadsLeft.{LoadsLeft};
+ghost use Rattle.dotenvy.specs.LoadsRest.{LoadsRest};
 
 use dotenvy::search::{Look, find};
 use dotenvy::{Environment, Iter, Result, Source};
@@ -20,7 +20,7 @@ pub fn load_defaults<R: Source + Drop, A: Allocator + Clone>(
     settings: &mut Environment<A>,
 ) -> Result<(), A>
     ensures loads { IsOpen defaults →
-        LoadsLeft load_result defaults settings.old.names result settings.new.names }
+        LoadsRest load_result defaults settings.old.names result settings.new.names }
     ensures host { fin.contains_key settings.old.names (codes "HOST") ≡ true →
         fin.get settings.new.names (codes "HOST") ≡ fin.get settings.old.names (codes "HOST") }
 {

@@ -1,5 +1,5 @@
-use Rattle.dotenvy.specs.Iter.{item_fuel}
+use Rattle.dotenvy.specs.Iter.{items_measure}
 use Rattle.check_file.proofs.print_faults.Given as goal
 
 abbrev pub decreases-items : goal.decreases-items
-decreases-items l = item_fuel l.file
+decreases-items l = items_measure l.file

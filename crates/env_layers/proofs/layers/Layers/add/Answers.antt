@@ -3,7 +3,7 @@ use Rattle.std.proofs.lemmas.Result.{err_from_is_err_and}
 use Rattle.dotenvy.specs.Dialect.TheVariants.{V15}
 use Rattle.dotenvy.specs.Iter.{fresh}
 use Rattle.dotenvy.specs.Loads.{load_result, override_result}
-use Rattle.dotenvy.specs.LoadsLeft.{LoadsLeft}
+use Rattle.dotenvy.specs.LoadsRest.{LoadsRest}
 use Rattle.env_layers.specs.Layers.{rule_of}
 use Rattle.env_layers.proofs.Added.{adds_by, adds_none}
 use Rattle.env_layers.proofs.layers.Layers.add.Goals.{
@@ -25,7 +25,7 @@ returns-in_err-from_read-in-Keep-clause-told g c =
     c.from_residual-in_err-from_read-in-Keep.ensures.1 in
     let ahead = g.R.Source.ahead c.args.reader in
     let answer = Err c.in_err-from_read-in-Keep.field-0.0 in
-    let told = subst (λ e. LoadsLeft {A = g.row.A.Denot} load_result
+    let told = subst (λ e. LoadsRest {A = g.row.A.Denot} load_result
     (fresh ahead None V15) e.names answer c.from_read.new.env.names)
     (c.in_ok-layered.ensures.ok ∙ c.self.view_is) c.in_err-from_read-in-Keep.ensures.told in
     rw (p.1, p.2)
@@ -39,7 +39,7 @@ returns-in_err-from_read_override-in-Override-clause-told g c =
     c.from_residual-in_err-from_read_override-in-Override.ensures.1 in
     let ahead = g.R.Source.ahead c.args.reader in
     let answer = Err c.in_err-from_read_override-in-Override.field-0.0 in
-    let told = subst (λ e. LoadsLeft {A = g.row.A.Denot} override_result
+    let told = subst (λ e. LoadsRest {A = g.row.A.Denot} override_result
     (fresh ahead None V15) e.names answer c.from_read_override.new.env.names)
     (c.in_ok-layered.ensures.ok ∙ c.self.view_is) c.in_err-from_read_override-in-Override.ensures.told in
     rw (p.1, p.2)
@@ -52,13 +52,13 @@ returns-clause-told g c =
     let copied = c.in_ok-layered.ensures.ok ∙ c.self.view_is in
     elim c.match-mode.branch [
       | in-Keep+in_ok-from_read-in-Keep w ↦
-          let told = subst (λ e. LoadsLeft {A = g.row.A.Denot} load_result (fresh ahead None V15) e.names
+          let told = subst (λ e. LoadsRest {A = g.row.A.Denot} load_result (fresh ahead None V15) e.names
           (Ok tt) w.from_read.new.env.names) copied w.in_ok-from_read-in-Keep.ensures.told in
           rw w.layered-is
           (adds_by c.args.mode load_result ahead c.args.self.now.names w.from_read.new.env.names (Ok tt)
           (ap rule_of w.in-Keep.is) told)
       | in-Override+in_ok-from_read_override-in-Override w ↦
-          let told = subst (λ e. LoadsLeft {A = g.row.A.Denot} override_result (fresh ahead None V15) e.names
+          let told = subst (λ e. LoadsRest {A = g.row.A.Denot} override_result (fresh ahead None V15) e.names
           (Ok tt) w.from_read_override.new.env.names) copied w.in_ok-from_read_override-in-Override.ensures.told in
           rw w.layered-is
           (adds_by c.args.mode override_result ahead c.args.self.now.names w.from_read_override.new.env.names (Ok tt)
