@@ -97,7 +97,7 @@ pair_added : {A : Type 0} (dialect : Dialect) (names : Texts) (line key : List �
     (old new : Remembered) (pair : String A × String A) → Says dialect line (Pair key pieces) →
     IsLineAnswer (names_of names old) (Pair key pieces) (Ok (Some pair)) → Remembers line old new (Ok (Some pair)) →
     AddsEntries names old (outcome_entries (Pair key pieces)) (Some (Ok pair)) new
-pair_added dialect names line key pieces old new pair says (key_is, means) (rest, statement, inserted) =
+pair_added dialect names line key pieces old new pair says ((key_is, means), alone) (rest, statement, inserted) =
     let same : chars (string_bytes pair.0) ≡ string_bytes pair.0 =
     chars-key (string_bytes pair.0) (IsUtf8-string_bytes pair.0) statement.is_key in
     let stated : IsStatement (trimmed line) key rest =
@@ -121,10 +121,11 @@ answer_added dialect names line Nothing old new (Err e) says is remembers = absu
 answer_added dialect names line (Pair key pieces) old new (Ok None) says is remembers = absurd is
 answer_added dialect names line (Pair key pieces) old new (Ok (Some pair)) says is remembers =
     pair_added dialect names line key pieces old new pair says is remembers
-answer_added dialect names line (Pair key pieces) old new (Err e) says is remembers = absurd is
-answer_added dialect names line (Fault text index) old new (Ok said) says is remembers = absurd is
+answer_added dialect names line (Pair key pieces) old new (Err e) says is remembers = absurd is.0
+answer_added dialect names line (Fault text index) old new (Ok None) says is remembers = absurd is
+answer_added dialect names line (Fault text index) old new (Ok (Some pair)) says is remembers = absurd is.0
 answer_added dialect names line (Fault text index) old new (Err e) says is remembers =
-    (refl, is, λ name. ap (λ m. text_of (recalled_of m) name) remembers)
+    (refl, is.0, λ name. ap (λ m. text_of (recalled_of m) name) remembers)
 
 -- what an answer leaves of the logical lines
 abbrev pub lines_said : {T A : Type 0} → Result T (Error A) → LinesState → LinesState
@@ -157,12 +158,12 @@ answer_lines : {A : Type 0} (look_up : LookUp) (outcome : Outcome)
     IsLineAnswer look_up outcome said → t ≡ lines_said said s → t ≡ s
 answer_lines look_up outcome (Ok said) s t is h = h
 answer_lines look_up Nothing (Err e) s t is h = absurd is
-answer_lines look_up (Pair key pieces) (Err e) s t is h = absurd is
+answer_lines look_up (Pair key pieces) (Err e) s t is h = absurd is.0
 answer_lines look_up (Fault text index) (Err (LineParse found place)) s t is h = h
-answer_lines look_up (Fault text index) (Err (Io e)) s t is h = absurd is
-answer_lines look_up (Fault text index) (Err (EnvVar e)) s t is h = absurd is
-answer_lines look_up (Fault text index) (Err (Nul key)) s t is h = absurd is
-answer_lines look_up (Fault text index) (Err (Memory e)) s t is h = absurd is
+answer_lines look_up (Fault text index) (Err (Io e)) s t is h = absurd is.0
+answer_lines look_up (Fault text index) (Err (EnvVar e)) s t is h = absurd is.0
+answer_lines look_up (Fault text index) (Err (Nul key)) s t is h = absurd is.0
+answer_lines look_up (Fault text index) (Err (Memory e)) s t is h = absurd is.0
 
 -- refused memory fails the logical lines
 refused_added : {A : Type 0} (said : Result (Option (String A × String A)) (Error A)) (s t : LinesState) →

@@ -25,11 +25,10 @@ use Rattle.std.proofs.Common.{
   ⊎_elim,
   arith,
 }
-use Rattle.std.specs.Prelude.{unwrap_or, bytes_eq}
+use Rattle.std.specs.Prelude.{unwrap_or, bytes_eq, option_map}
 use Rattle.std.specs.Option.{option_flatten}
 use Rattle.std.proofs.lemmas.Option.{none-some}
 use Rattle.std.specs.Str.{chars, encode_utf8_all}
-use Rattle.std.specs.Prelude.{option_map}
 use Rattle.std.specs.Ordering.{nat_cmp}
 use Rattle.std.specs.Cmp.Lexicographic.{slice_cmp}
 use Rattle.std.specs.FinMap.{empty, get-empty}
@@ -51,8 +50,8 @@ use Rattle.dotenvy_lines.specs.Input.{InputState, BoundIsMet, IsFinal, end_reads
 use Rattle.dotenvy_lines.specs.Lines.{LinesState, FailsFor}
 use Rattle.dotenvy_lines.specs.Reading.{HasEntriesLeft, told_fault}
 use Rattle.dotenvy_items.specs.Iter.{IterState, fresh}
-use Rattle.dotenvy_items.specs.NextItem.{IsItem, RemembersEntry, TakesEntry}
-use Rattle.dotenvy_items.specs.Iteration.{Item, GivesItems, NoneRefused, IsReadable, CanRead, SayItems, SayTheSame}
+use Rattle.dotenvy_items.specs.NextItem.{Item, SaysItem, entry_item, RemembersEntry, TakesEntry}
+use Rattle.dotenvy_items.specs.Iteration.{GivesItems, NoneRefused, IsReadable, CanRead, SayItems, SayTheSame}
 use Rattle.dotenvy_format.proofs.loads.LoadRuns.{meaning-text, or_else-text, with_value-text}
 use Rattle.dotenvy_lines.proofs.Inputs.{the_bytes, the_fault}
 use Rattle.dotenvy_lines.proofs.LineEntries.{left_once, left-none, left-fault, left_exists}
@@ -72,7 +71,7 @@ items_from-texts env a b (Declares key pieces ∷ entries) same =
 
 -- an item that says an entry, before those of the later entries
 says_first : {A : Type 0} (env earlier now : LookUp) (entry : Entry) (item : Item A) (given : List (Item A))
-    (later : List Entry) → IsItem (or_else env earlier) entry item →
+    (later : List Entry) → SaysItem item (entry_item (or_else env earlier) entry) →
     RemembersEntry (or_else env earlier) earlier now entry → SayItems given (items_from env now later) →
     SayItems (item ∷ given) (items_from env earlier (entry ∷ later))
 says_first env earlier now (Declares key pieces) (Ok pair) given later is remembers say = (

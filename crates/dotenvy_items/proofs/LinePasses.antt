@@ -280,9 +280,12 @@ pair_answer dialect look_up line declaration copies is are = (
   Pair (chars (string_bytes copies.key)) is.pieces,
   says_declared dialect look_up line (chars (string_bytes copies.key)) declaration is (ap chars (sym are.key)),
   (
-    refl,
-    chars-spelled (string_bytes copies.value) (meaning look_up is.pieces) (IsUtf8-string_bytes copies.value)
-        are.value,
+    (
+      refl,
+      chars-spelled (string_bytes copies.value) (meaning look_up is.pieces) (IsUtf8-string_bytes copies.value)
+          are.value,
+    ),
+    tt,
   ),
 )
 
@@ -314,4 +317,4 @@ pub fault_answer : {A : Type 0} (dialect : Dialect) (look_up : LookUp) (line tex
     (e : Error A) → Says dialect line (SaysFault text index) → IsMemory e ⊎ IsLineParseOf text index e →
     IsMemory e ⊎ ((outcome : Outcome) × Says dialect line outcome × IsLineAnswer look_up outcome (Err e))
 fault_answer dialect look_up line text index e says (inl refused) = inl refused
-fault_answer dialect look_up line text index e says (inr is) = inr (SaysFault text index, says, is)
+fault_answer dialect look_up line text index e says (inr is) = inr (SaysFault text index, says, (is, tt))

@@ -1,24 +1,5 @@
 -- What calls of `next_item` give one after another, and when items and answers say the same.
-use Rattle.std.specs.Prelude.{
-  ℕ,
-  ◌≡◌,
-  ◌≢◌,
-  ◌^◌,
-  ◌+◌,
-  ◌<◌,
-  List,
-  [],
-  ◌∷◌,
-  length,
-  Some,
-  None,
-  Result,
-  Ok,
-  Err,
-  string_bytes,
-}
-use Rattle.std.specs.Str.{chars}
-use Rattle.std.specs.declared.string.String.{String}
+use Rattle.std.specs.Prelude.{ℕ, ◌≢◌, ◌^◌, ◌+◌, ◌<◌, List, [], ◌∷◌, length, Some, None, Result}
 use Rattle.std.specs.declared.io.ErrorKind.TheVariants.{Interrupted}
 use Rattle.dotenvy_base.specs.declared.errors.Error.{Error}
 use Rattle.dotenvy_base.specs.Errors.{IsMemoryErr}
@@ -27,12 +8,8 @@ use Rattle.dotenvy_base.specs.Environment.{Texts}
 use Rattle.dotenvy_base.specs.Source.{Ahead}
 use Rattle.dotenvy_lines.specs.Input.{end_reads}
 use Rattle.dotenvy_items.specs.Iter.{IterState, IsOpen, TellsLeft}
-use Rattle.dotenvy_items.specs.NextItem.{IsFailure, NextItem}
+use Rattle.dotenvy_items.specs.NextItem.{Item, SaysItem, NextItem}
 use Rattle.dotenvy_items.specs.LoadsRest.{IsAnswer}
-
--- what a call of `next_item` gives, if not `None`
-abbrev pub Item : Type 0 → Type 0
-Item A = Result (String A × String A) (Error A)
 
 -- calls from s on, under this environment, give these items one after another, and then `None`
 abbrev pub GivesItems : {A : Type 0} → Texts → IterState → List (Item A) → Type 0
@@ -56,14 +33,6 @@ pub record CanRead (s : IterState) (a : Ahead) : Type 0 where
   pub is_told : TellsLeft s a
   pub few :
       length a.bytes < s.lines.input.reads + s.lines.input.unread + end_reads s.lines.input.at_end
-
--- what was given says this item, by its characters
-abbrev pub SaysItem : {A : Type 0} → Item A → Result (List ℕ × List ℕ) Failure → Type 0
-SaysItem (Ok pair) (Ok (key, value)) =
-    (chars (string_bytes pair.0) ≡ key) × (chars (string_bytes pair.1) ≡ value)
-SaysItem (Ok pair) (Err failure) = ⊥
-SaysItem (Err e) (Ok pair) = ⊥
-SaysItem (Err e) (Err failure) = IsFailure failure e
 
 -- what was given says these items: all, and in order
 abbrev pub SayItems : {A : Type 0} → List (Item A) → List (Result (List ℕ × List ℕ) Failure) →

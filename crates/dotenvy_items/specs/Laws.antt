@@ -23,7 +23,6 @@ use Rattle.dotenvy_items.specs.Iter.{IterState, fresh}
 use Rattle.dotenvy_items.specs.Listed.{Lists, pairs_of}
 use Rattle.dotenvy_items.specs.LoadsRest.{IsAnswer, Rule, Leaves, LoadsRest}
 use Rattle.dotenvy_items.specs.Iteration.{
-  Item,
   GivesItems,
   NoneRefused,
   IsReadable,
@@ -32,6 +31,7 @@ use Rattle.dotenvy_items.specs.Iteration.{
   SayTheSame,
   AnswerTheSame,
 }
+use Rattle.dotenvy_items.specs.NextItem.{Item}
 
 -- a fresh iterator gives the items of what its source tells, and the fault that is told, if one is, as the last
 abbrev pub ItemsInOrder : Type 0 → Type 0

@@ -59,13 +59,22 @@ IsFailure (Io kind) e = IsIoOf (λ fault. error_kind fault ≡ kind) e
 IsFailure (Nul key) e = IsNulOf key e
 IsFailure Memory e = IsMemory e
 
--- the item is what the entry says, where names stand for these texts
-abbrev pub IsItem : {A : Type 0} → LookUp → Entry → Result (String A × String A) (Error A) → Type 0
-IsItem look_up (Declares key pieces) (Ok pair) =
-    (chars (string_bytes pair.0) ≡ key) × (chars (string_bytes pair.1) ≡ meaning look_up pieces)
-IsItem look_up (Declares key pieces) (Err e) = ⊥
-IsItem look_up (Fails failure) (Ok pair) = ⊥
-IsItem look_up (Fails failure) (Err e) = IsFailure failure e
+-- what a call of `next_item` gives, if not `None`: a pair or an error
+abbrev pub Item : Type 0 → Type 0
+Item A = Result (String A × String A) (Error A)
+
+-- the item is this pair, by its characters, or says this failure
+abbrev pub SaysItem : {A : Type 0} → Item A → Result (List ℕ × List ℕ) Failure → Type 0
+SaysItem (Ok pair) (Ok (key, value)) =
+    (chars (string_bytes pair.0) ≡ key) × (chars (string_bytes pair.1) ≡ value)
+SaysItem (Ok pair) (Err failure) = ⊥
+SaysItem (Err e) (Ok pair) = ⊥
+SaysItem (Err e) (Err failure) = IsFailure failure e
+
+-- what an entry says, where names stand for these texts: its key and value, or its error
+abbrev pub entry_item : LookUp → Entry → Result (List ℕ × List ℕ) Failure
+entry_item look_up (Declares key pieces) = Ok (key, meaning look_up pieces)
+entry_item look_up (Fails failure) = Err failure
 
 -- after a declaration its key stands for the value that it was given, and the other names for what they did; after a fault all do
 abbrev pub RemembersEntry : LookUp → LookUp → LookUp → Entry → Type 0
@@ -124,23 +133,23 @@ pub record TakesEntry (names : Texts) (a : Ahead) (s : IterState) (entries : Lis
 
 -- the item under this environment: the first of the entries left; none where there is none and no fault; or a fault of reading, which stands on no line, where the bytes before it decide no entry
 abbrev pub ItemIs : {A : Type 0} → Texts → Ahead → IterState → List Entry →
-    Option (Result (String A × String A) (Error A)) → IterState → Type 0
+    Option (Item A) → IterState → Type 0
 ItemIs names a s entries None t =
     (entries ≡ []) × (a.fault ≡ None) × (t.lines.stage ≡ Ended) × (t.item_lines ≡ s.item_lines)
 ItemIs names a s entries (Some item) t =
-    ((entry : Entry) × IsItem (names_of names s.remembered) entry item
+    ((entry : Entry) × SaysItem item (entry_item (names_of names s.remembered) entry)
     × TakesEntry names a s entries entry t)
     ⊎ (FailsFor a s.lines.input item (λ bytes. HasDecided s.dialect bytes []) t.lines
     × (t.item_lines ≡ no_line))
 
 -- the same of every iterator: one that has ended or failed gives none, and stays as it is
 abbrev pub NextItem : {A : Type 0} → Texts → IterState →
-    Option (Result (String A × String A) (Error A)) → IterState → Type 0
+    Option (Item A) → IterState → Type 0
 NextItem names s item t =
     (IsOpen s → (a : Ahead) → TellsLeft s a → (entries : List Entry) →
     HasEntriesLeft s.dialect a.fault a.bytes entries → ItemIs names a s entries item t)
     × (¬ (IsOpen s) → (item ≡ None) × (t ≡ s))
 
 -- a pair that is given has a name that an environment can hold
-abbrev pub GivesName : {A : Type 0} → Option (Result (String A × String A) (Error A)) → Type 0
+abbrev pub GivesName : {A : Type 0} → Option (Item A) → Type 0
 GivesName item = IfSome item (λ given. IfOk given (λ pair. IsTrue (name_ok (string_bytes pair.0))))

@@ -1,7 +1,6 @@
 -- What the answer to one logical line adds to the items.
 use Rattle.std.specs.Prelude.{ℕ, ◌≡◌, ◌⊎◌, List, [], ◌∷◌, Option, Some, None, Result, Ok, Err}
 use Rattle.std.specs.Str.{chars}
-use Rattle.std.specs.declared.string.String.{String}
 use Rattle.dotenvy_base.specs.declared.errors.Error.{Error}
 use Rattle.dotenvy_base.specs.declared.errors.Error.TheVariants.{LineParse, Io, EnvVar, Nul, Memory}
 use Rattle.dotenvy_format.specs.declared.dialect.Dialect.{Dialect}
@@ -15,7 +14,7 @@ use Rattle.dotenvy_base.specs.Environment.{Texts}
 use Rattle.dotenvy_items.specs.Remembered.{Remembered}
 use Rattle.dotenvy_items.specs.Meaning.{names_of, recalled_of}
 use Rattle.dotenvy_items.specs.Iter.{IterState, state_of}
-use Rattle.dotenvy_items.specs.NextItem.{IsItem, RemembersEntry}
+use Rattle.dotenvy_items.specs.NextItem.{Item, SaysItem, entry_item, RemembersEntry}
 
 -- refused memory fails the logical lines, and no other fault does
 abbrev pub lines_after : {A : Type 0} → Error A → LinesState → LinesState
@@ -26,18 +25,17 @@ lines_after (Nul key) s = s
 lines_after (Memory e) s = record s { stage = Failed }
 
 -- no entry adds no item, and one entry its own; what is remembered then
-abbrev pub AddsEntries : {A : Type 0} → Texts → Remembered → List Entry →
-    Option (Result (String A × String A) (Error A)) → Remembered → Type 0
+abbrev pub AddsEntries : {A : Type 0} → Texts → Remembered → List Entry → Option (Item A) →
+    Remembered → Type 0
 AddsEntries names old [] None new = new ≡ old
 AddsEntries names old [] (Some item) new = ⊥
 AddsEntries names old (entry ∷ later) None new = ⊥
 AddsEntries names old (entry ∷ later) (Some item) new =
-    (later ≡ []) × IsItem (names_of names old) entry item
+    (later ≡ []) × SaysItem item (entry_item (names_of names old) entry)
     × RemembersEntry (names_of names old) (recalled_of old) (recalled_of new) entry
 
 -- memory was refused, and the logical lines have failed
-abbrev pub IsRefused : {A : Type 0} → Option (Result (String A × String A) (Error A)) → LinesState →
-    Type 0
+abbrev pub IsRefused : {A : Type 0} → Option (Item A) → LinesState → Type 0
 IsRefused None t = ⊥
 IsRefused (Some item) t = IsMemoryErr item × (t.stage ≡ Failed)
 
@@ -52,7 +50,7 @@ item_lines_then (Some item) lines before = last_lines lines
 
 -- a text adds what it says, unless memory is refused; a fault adds itself
 abbrev pub AddsLine : {A : Type 0} → Texts → IterState → Result (Unit {0}) (Error A) → List ℕ →
-    Option (Result (String A × String A) (Error A)) → IterState → Type 0
+    Option (Item A) → IterState → Type 0
 AddsLine names s (Ok _) text item t =
     IsRefused item t.lines
     ⊎ ((outcome : Outcome) × Says s.dialect (chars text) outcome

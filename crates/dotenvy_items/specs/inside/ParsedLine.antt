@@ -1,29 +1,47 @@
 -- What the code answers for one logical line, and what it remembers.
-use Rattle.std.specs.Prelude.{ℕ, ◌≡◌, List, Option, Some, None, Result, Ok, Err, string_bytes, IsTrue, if◌then◌else◌}
+use Rattle.std.specs.Prelude.{
+  ℕ,
+  ◌≡◌,
+  List,
+  [],
+  ◌∷◌,
+  map,
+  Option,
+  Some,
+  None,
+  Result,
+  Ok,
+  Err,
+  string_bytes,
+  IsTrue,
+  if◌then◌else◌,
+}
 use Rattle.std.specs.Str.{chars}
 use Rattle.std.specs.FinMap as fin
 use Rattle.std.specs.declared.string.String.{String}
 use Rattle.dotenvy_base.specs.declared.errors.Error.{Error}
-use Rattle.dotenvy_base.specs.Errors.{IsLineParseOf}
 use Rattle.dotenvy_format.specs.Characters.{is_empty_or_comment}
 use Rattle.dotenvy_format.specs.Statement.{IsStatement}
 use Rattle.dotenvy_format.specs.Keys.{is_key}
-use Rattle.dotenvy_format.specs.Outcome.{Outcome, Nothing, Pair, Fault, trimmed}
-use Rattle.dotenvy_format.specs.Items.{LookUp, meaning}
+use Rattle.dotenvy_format.specs.Outcome.{Outcome, trimmed}
+use Rattle.dotenvy_format.specs.Items.{LookUp}
+use Rattle.dotenvy_format.specs.Entries.{outcome_entries}
+use Rattle.dotenvy_items.specs.NextItem.{Item, entry_item}
+use Rattle.dotenvy_items.specs.Iteration.{SayItems}
 use Rattle.dotenvy_items.specs.Remembered.{Remembered}
 
--- the answer is what the line says, where names stand for these texts
+-- what an answer for one line gives: no item, or one
+abbrev pub given_items : {A : Type 0} → Result (Option (String A × String A)) (Error A) →
+    List (Item A)
+given_items (Ok None) = []
+given_items (Ok (Some pair)) = Ok pair ∷ []
+given_items (Err e) = Err e ∷ []
+
+-- the answer gives what the line's entries say, where names stand for these texts
 abbrev pub IsLineAnswer : {A : Type 0} → LookUp → Outcome →
     Result (Option (String A × String A)) (Error A) → Type 0
-IsLineAnswer look_up Nothing (Ok None) = Unit {0}
-IsLineAnswer look_up Nothing (Ok (Some pair)) = ⊥
-IsLineAnswer look_up Nothing (Err e) = ⊥
-IsLineAnswer look_up (Pair key pieces) (Ok None) = ⊥
-IsLineAnswer look_up (Pair key pieces) (Ok (Some pair)) =
-    (chars (string_bytes pair.0) ≡ key) × (chars (string_bytes pair.1) ≡ meaning look_up pieces)
-IsLineAnswer look_up (Pair key pieces) (Err e) = ⊥
-IsLineAnswer look_up (Fault text index) (Ok pair) = ⊥
-IsLineAnswer look_up (Fault text index) (Err e) = IsLineParseOf text index e
+IsLineAnswer look_up outcome answer =
+    SayItems (given_items answer) (map (entry_item look_up) (outcome_entries outcome))
 
 -- a pair is remembered, with no value where nothing or a comment is assigned; else all stays
 abbrev pub Remembers : {A : Type 0} → List ℕ → Remembered → Remembered →
