@@ -34,11 +34,10 @@ use Rattle.std.proofs.Common.{
   inr,
   ◌⊎◌,
 }
-use Rattle.std.specs.Prelude.{◌==◌, ◌^◌, ◌-◌, min, IsUtf8, encode_utf8_all, string_bytes, Result, Ok, Err}
+use Rattle.std.specs.Prelude.{◌==◌, ◌^◌, ◌-◌, min, IsUtf8, encode_utf8_all, Result, Ok, Err}
 use Rattle.std.specs.List.{concat}
 use Rattle.std.specs.Str.{chars, is_utf8, skip_leading_whitespace}
 use Rattle.std.specs.declared.io.ErrorKind.{ErrorKind}
-use Rattle.std.specs.declared.string.String.{String}
 use Rattle.std.proofs.lemmas.Option.{none-some}
 use Rattle.std.proofs.lemmas.List.{append-nil}
 use Rattle.std.proofs.lemmas.Str.{chars-nil, encodes-chars, is_utf8-from_IsUtf8, IsUtf8-from_is_utf8}
@@ -84,14 +83,7 @@ use Rattle.dotenvy_base.specs.Source.{Ahead}
 use Rattle.dotenvy_lines.specs.Input.{InputState, IsTold, ReadsFit, IsFinal, Moves, end_reads}
 use Rattle.dotenvy_lines.specs.inside.InputSteps.{TakesLine}
 use Rattle.dotenvy_lines.specs.Lines.{LinesState, whole_before, whole_lines, IsAtEnd, Counts, GoesOn}
-use Rattle.dotenvy_lines.specs.inside.NextLine.{
-  lines_so_far,
-  IsNextAlways,
-  TakesNext,
-  IsUndecided,
-  NextTextIs,
-  AdvanceIs,
-}
+use Rattle.dotenvy_lines.specs.inside.NextLine.{lines_so_far, IsNextAlways, TakesNext, IsUndecided, AdvanceIs}
 use Rattle.dotenvy_lines.specs.inside.JoinedLines.{
   begun_at_end,
   joined_at_end,
@@ -110,7 +102,7 @@ use Rattle.dotenvy_lines.specs.declared.physical_line.Taken.TheVariants.{
 use Rattle.dotenvy_lines.proofs.NumberedLines.{counts_one, counts_none}
 use Rattle.dotenvy_lines.specs.inside.TakenLine.{LineMakes}
 use Rattle.dotenvy_format.proofs.lines.Scans as scans
-use Rattle.dotenvy_format.proofs.lines.Scans.{stops, scan, scan-reads, Reads, Read}
+use Rattle.dotenvy_format.proofs.lines.Scans.{scan-reads, Reads, Read}
 use Rattle.dotenvy_format.proofs.Basics.{and_left, and_right}
 use Rattle.dotenvy_format.proofs.lines.Cuts.{concat-lines}
 use Rattle.dotenvy_format.proofs.lines.NextLine.{whole_line, last_line, ends_line, whole_ends, ends_join, one_next}
@@ -969,19 +961,3 @@ advanced a s t BrokenLine text (Some (Err (Nul key))) stage used_up count taken 
     all = absurd outcome
 advanced a s t BrokenLine text (Some (Err (Memory m))) stage used_up count taken first k counts begins outcome e
     all = absurd outcome
-
--- a copy of the text that was left is the line
-pub copied : {A : Type 0} (a : Ahead) (s : LinesState) (u : Unit {0}) (line : List ℕ) (text : String A)
-    (t : LinesState) →
-    AdvanceIs {A = A} a s (Some (Ok u)) line t → string_bytes text ≡ line → NextTextIs {A = A} a s (Some (Ok text)) t
-copied a s u line text t (inl (count, inl (empty, k), counts, goes)) same =
-    inl (count, inl (same ∙ empty, k), counts, goes)
-copied a s u line text t (inl (count, inr k, counts, goes)) same =
-    inl (count, inr (subst (λ l. TakesNext a s.input (Text (chars l)) count t.input) (sym same) k), counts, goes)
-copied a s u line text t (inr fails) same = absurd fails
-
--- a fault that `advance` answers is that of the next line
-pub fault-stays : {A : Type 0} (a : Ahead) (s : LinesState) (e : Error A) (line : List ℕ) (t : LinesState) →
-    AdvanceIs a s (Some (Err e)) line t → NextTextIs a s (Some (Err e)) t
-fault-stays a s e line t (inl takes) = inl takes
-fault-stays a s e line t (inr fails) = inr fails

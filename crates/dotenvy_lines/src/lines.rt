@@ -6,7 +6,7 @@ ghost use Rattle.dotenvy_base.specs.Errors.{IsIoOf, IsLineParseOf, IsMemory, IsM
 ghost use Rattle.dotenvy_lines.specs.Input.{AsksReads, DropsMark};
 ghost use Rattle.dotenvy_lines.specs.inside.InputSteps.{WhereTold};
 ghost use Rattle.dotenvy_lines.specs.Lines.{lines_measure, WhereOpen, fresh_lines};
-ghost use Rattle.dotenvy_lines.specs.inside.NextLine.{NextTextIs, AdvanceIs};
+ghost use Rattle.dotenvy_lines.specs.inside.NextLine.{AdvanceIs, outcome_of, given_text};
 ghost use Rattle.dotenvy_lines.specs.inside.JoinedLines.{joined_at_end, JoinsNext, UsesSome, stage_after, is_refused, IsOutcome};
 ghost use Rattle.dotenvy_lines.specs.inside.Splitter.{last_lines};
 
@@ -325,7 +325,8 @@ impl<R: Source, A: Allocator + Clone> QuotedLines<R, A> {
         ensures falls { IsSome result → lines_measure self.new < lines_measure self.old }
         ensures none { result ≡ None → self.new.stage ≢ Stage.Open }
         ensures memory { IfSome result (λ r. IsMemoryErr r → self.new.stage ≡ Stage.Failed) }
-        ensures told { WhereOpen self.old (λ a. NextTextIs a self.old result self.new) }
+        ensures told { WhereOpen self.old
+            (λ a. AdvanceIs a self.old (outcome_of result) (given_text result) self.new) }
         ensures asks { AsksReads (self.new.stage ≡ Stage.Open) self.old.input self.new.input }
     {
         match self.splitter.advance()? {

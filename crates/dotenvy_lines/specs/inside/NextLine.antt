@@ -49,13 +49,7 @@ abbrev pub CountsLine : LinesState → ℕ → LinesState → Type 0
 CountsLine s count t =
     Counts s.lines_taken 1 t.first_line × Counts s.lines_taken count t.lines_taken
 
--- a logical line as an answer: a text, empty for a line that is skipped
-abbrev pub TakesLineText : {A : Type 0} → Ahead → InputState → String A → ℕ → InputState → Type 0
-TakesLineText a s text count t =
-    ((string_bytes text ≡ []) × TakesNext a s Skip count t)
-    ⊎ TakesNext a s (Text (chars (string_bytes text))) count t
-
--- and a fault: an open end with its whole text and length, or a broken line
+-- an error that stands in place of a line: an open end with its whole text and length, or a broken line
 abbrev pub TakesFault : {A : Type 0} → Ahead → InputState → Error A → ℕ → InputState → Type 0
 TakesFault a s (LineParse text index) count t =
     TakesNext a s (Open (chars (string_bytes text)) index) count t
@@ -64,31 +58,30 @@ TakesFault a s (EnvVar e) count t = ⊥
 TakesFault a s (Nul key) count t = ⊥
 TakesFault a s (Memory e) count t = ⊥
 
--- a text, or a fault that stands in place of one, taken so
-abbrev pub TakesAnswer : {A : Type 0} → Ahead → InputState → Result (String A) (Error A) → ℕ →
-    InputState → Type 0
-TakesAnswer a s (Ok text) count t = TakesLineText a s text count t
-TakesAnswer a s (Err e) count t = TakesFault a s e count t
-
--- an answer of an open iterator with a left
-abbrev pub NextTextIs : {A : Type 0} → Ahead → LinesState → Option (Result (String A) (Error A)) →
-    LinesState → Type 0
-NextTextIs a s None t = (a.bytes ≡ []) × (a.fault ≡ None) × (t.stage ≡ Ended)
-NextTextIs a s (Some r) t =
-    ((count : ℕ) × TakesAnswer a s.input r count t.input × CountsLine s count t × GoesOn t)
-    ⊎ FailsFor a s.input r IsUndecided t
-
--- an outcome and the text that it left: a line that is skipped leaves the empty one
+-- the next line was taken: it left its text, or the empty text where it is skipped; or it is an error
 abbrev pub TakesOutcome : {A : Type 0} → Ahead → InputState → Result (Unit {0}) (Error A) → List ℕ →
     ℕ → InputState → Type 0
 TakesOutcome a s (Ok _) line count t =
     ((line ≡ []) × TakesNext a s Skip count t) ⊎ TakesNext a s (Text (chars line)) count t
 TakesOutcome a s (Err e) line count t = TakesFault a s e count t
 
--- what an open splitter answers with a left, and the text that it leaves
+-- what an open splitter gives where a is left: the next line, whose text it leaves; the end; or a final error
 abbrev pub AdvanceIs : {A : Type 0} → Ahead → LinesState → Option (Result (Unit {0}) (Error A)) →
     List ℕ → LinesState → Type 0
 AdvanceIs a s None line t = (a.bytes ≡ []) × (a.fault ≡ None) × (t.stage ≡ Ended)
 AdvanceIs a s (Some r) line t =
     ((count : ℕ) × TakesOutcome a s.input r line count t.input × CountsLine s count t × GoesOn t)
     ⊎ FailsFor a s.input r IsUndecided t
+
+-- a line that is given as a text of its own, as the outcome of taking it
+abbrev pub outcome_of : {A : Type 0} → Option (Result (String A) (Error A)) →
+    Option (Result (Unit {0}) (Error A))
+outcome_of None = None
+outcome_of (Some (Ok text)) = Some (Ok tt)
+outcome_of (Some (Err e)) = Some (Err e)
+
+-- the text that is given, or the empty one
+abbrev pub given_text : {A : Type 0} → Option (Result (String A) (Error A)) → List ℕ
+given_text None = []
+given_text (Some (Ok text)) = string_bytes text
+given_text (Some (Err e)) = []
