@@ -148,13 +148,13 @@ nothing_left dialect a b entries same bytes fault has =
 -- after an entry was taken the iterator can be read on
 can_go_on : (names : Texts) (a : Ahead) (s t : IterState) (entries : List Entry) (entry : Entry) → CanRead s a →
     (k : TakesEntry names a s entries entry t) → t.lines.stage ≡ Open →
-    CanRead t (record { bytes = k.left; fault = a.fault })
+    CanRead t (record { bytes = k.uses.left; fault = a.fault })
 can_go_on names a s t entries entry can k is_open =
     let few = can.few in
-    let reads = k.moves.reads in
+    let reads = k.uses.moves.reads in
     record {
       is_open = is_open;
-      is_told = (k.moves.is_left, let told = can.is_told in told.1);
+      is_told = (k.uses.moves.is_left, let told = can.is_told in told.1);
       few = omega (arith, few, reads);
     }
 
@@ -183,21 +183,22 @@ items_go_on {A = A} s a names entries [] can has gives granted =
     (sym (ap (λ es. es ++ told_fault a.fault) none.0 ∙ ap told_fault none.1)) tt
 items_go_on s a names entries (item ∷ given) can has (t, next, gives) granted = ⊎_elim
     (λ (entry, is, k).
-    let left : Ahead = record { bytes = k.left; fault = a.fault } in
-    let has_left = subst (λ d. HasEntriesLeft d a.fault k.left k.later) (sym k.dialect) k.has_left in
+    let left : Ahead = record { bytes = k.uses.left; fault = a.fault } in
+    let has_left =
+    subst (λ d. HasEntriesLeft d a.fault k.uses.left k.is_first.later) (sym k.after.dialect) k.is_first.has_left in
     let later : SayItems given
-    (items_from (values_of names) (recalled_of t.remembered) (k.later ++ told_fault a.fault)) = ⊎_elim
+    (items_from (values_of names) (recalled_of t.remembered) (k.is_first.later ++ told_fault a.fault)) = ⊎_elim
     (λ is_open.
-    items_go_on t left names k.later given (can_go_on names a s t entries entry can k is_open) has_left gives
+    items_go_on t left names k.is_first.later given (can_go_on names a s t entries entry can k is_open) has_left gives
     granted.1)
-    (λ ended. ended_says names t left k.later given ended.0 ended.1 k.moves.is_left has_left gives)
-    k.goes_on in
+    (λ ended. ended_says names t left k.is_first.later given ended.0 ended.1 k.uses.moves.is_left has_left gives)
+    k.after.goes_on in
     subst
     (λ es.
     SayItems (item ∷ given)
-    (items_from (values_of names) (recalled_of s.remembered) (es ++ told_fault a.fault))) (sym k.first)
+    (items_from (values_of names) (recalled_of s.remembered) (es ++ told_fault a.fault))) (sym k.is_first.first)
     (says_first (values_of names) (recalled_of s.remembered) (recalled_of t.remembered) entry item given
-    (k.later ++ told_fault a.fault) is k.remembers later))
+    (k.is_first.later ++ told_fault a.fault) is k.after.remembers later))
     (λ fails.
     let last =
     fails_last (values_of names) (recalled_of s.remembered) s.dialect a s.lines.input entries item t.lines has

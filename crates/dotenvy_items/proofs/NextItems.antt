@@ -284,30 +284,36 @@ added names a s t v m entries (entry ∷ later) next (Some item) count p k count
       entry,
       is,
       record {
-        later = l.0;
-        first = l.2 ∙ ap (λ es. entry ∷ (es ++ l.0)) one;
-        used = p.used ++ k.used;
-        left = k.left;
-        moves = moved a s t v entries next m p k lines;
-        reaches = record {
-          silent = p.silent;
-          before = p.uses.count;
-          are_before = p.uses.are_first;
-          last = next;
-          give_none = p.give_none;
-          gives = subst (λ es. Gives s.dialect next (entry ∷ es)) one gives;
-          uses = used_more a s t entries next m.input p k;
+        uses = record {
+          used = p.used ++ k.used;
+          left = k.left;
+          moves = moved a s t v entries next m p k lines;
+          reaches = record {
+            silent = p.silent;
+            before = p.uses.count;
+            are_before = p.uses.are_first;
+            last = next;
+            give_none = p.give_none;
+            gives = subst (λ es. Gives s.dialect next (entry ∷ es)) one gives;
+            uses = used_more a s t entries next m.input p k;
+          };
+          stays =
+              subst (λ n. IsAtEnd a.fault k.left n.input ⊎ DecideFirst s.dialect (p.used ++ k.used) (entry ∷ []))
+              (sym lines) (subst
+              (λ es. IsAtEnd a.fault k.left m.input ⊎ DecideFirst s.dialect (p.used ++ k.used) (entry ∷ es)) one
+              (taken_stays a s t entries (entry ∷ later) next m.input p k gives));
+        };
+        is_first = record {
+          later = l.0;
+          first = l.2 ∙ ap (λ es. entry ∷ (es ++ l.0)) one;
+          has_left = l.1;
         };
         stands = stands_on a s t v entries p count m counts goes_on lines stands;
-        stays =
-            subst (λ n. IsAtEnd a.fault k.left n.input ⊎ DecideFirst s.dialect (p.used ++ k.used) (entry ∷ []))
-            (sym lines) (subst
-            (λ es. IsAtEnd a.fault k.left m.input ⊎ DecideFirst s.dialect (p.used ++ k.used) (entry ∷ es)) one
-            (taken_stays a s t entries (entry ∷ later) next m.input p k gives));
-        has_left = l.1;
-        goes_on = subst GoesOn (sym lines) goes_on;
-        remembers = remembers;
-        dialect = dialect;
+        after = record {
+          goes_on = subst GoesOn (sym lines) goes_on;
+          dialect = dialect;
+          remembers = remembers;
+        };
       },
     )
 

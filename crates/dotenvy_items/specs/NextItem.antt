@@ -22,6 +22,7 @@ use Rattle.std.specs.Prelude.{
 }
 use Rattle.std.specs.Str.{chars}
 use Rattle.std.specs.IoError.{error_kind}
+use Rattle.std.specs.declared.io.ErrorKind.{ErrorKind}
 use Rattle.std.specs.declared.string.String.{String}
 use Rattle.dotenvy_base.specs.declared.errors.Error.{Error}
 use Rattle.dotenvy_lines.specs.declared.lines.Stage.TheVariants.{Ended}
@@ -113,23 +114,39 @@ StandsOn s before used t =
     × Counts s.lines.lines_taken used t.item_lines.1
     × Counts s.lines.lines_taken used t.lines.lines_taken
 
--- of these entries, which are those of what s has left, the first was taken, and t has the later ones left; unless the end was read, the bytes that were used decide it whatever follows
-pub record TakesEntry (names : Texts) (a : Ahead) (s : IterState) (entries : List Entry)
-    (entry : Entry) (t : IterState) : Type 0 where
-  pub later : List Entry
-  pub first : entries ≡ entry ∷ later
+-- which bytes were used: those up to the end of the line that gives the entry; unless the end of
+-- input was read, they decide the entry whatever follows
+pub record UsesForEntry (a : Ahead) (s : IterState) (entry : Entry) (t : IterState) : Type 0 where
   pub used : List ℕ
   pub left : List ℕ
   pub moves : Moves a s.lines.input used left t.lines.input
   pub reaches : UsesUpTo s.dialect a entry left
-  pub stands : StandsOn s reaches.before reaches.uses.count t
   pub stays : IsAtEnd a.fault left t.lines.input ⊎ DecideFirst s.dialect used (entry ∷ [])
-  pub has_left : HasEntriesLeft s.dialect a.fault left later
+
+-- the entry is the first of these, and the bytes left have the later ones
+pub record IsFirstEntry (dialect : Dialect) (fault : Option ErrorKind) (entries : List Entry)
+    (entry : Entry) (left : List ℕ) : Type 0 where
+  pub later : List Entry
+  pub first : entries ≡ entry ∷ later
+  pub has_left : HasEntriesLeft dialect fault left later
+
+-- after the entry the iterator goes on in the same dialect, and remembers what the entry declares
+pub record GoesOnAfter (names : Texts) (s : IterState) (entry : Entry) (t : IterState)
+    : Type 0 where
   pub goes_on : GoesOn t.lines
+  pub dialect : t.dialect ≡ s.dialect
   pub remembers :
       RemembersEntry (names_of names s.remembered) (recalled_of s.remembered)
       (recalled_of t.remembered) entry
-  pub dialect : t.dialect ≡ s.dialect
+
+-- the entry was taken, the first of these, which are all that s has left: what it used, what it is,
+-- the lines that it stands on, and how t goes on
+pub record TakesEntry (names : Texts) (a : Ahead) (s : IterState) (entries : List Entry)
+    (entry : Entry) (t : IterState) : Type 0 where
+  pub uses : UsesForEntry a s entry t
+  pub is_first : IsFirstEntry s.dialect a.fault entries entry uses.left
+  pub stands : StandsOn s uses.reaches.before uses.reaches.uses.count t
+  pub after : GoesOnAfter names s entry t
 
 -- the item under this environment: the first of the entries left; none where there is none and no fault; or a fault of reading, which stands on no line, where the bytes before it decide no entry
 abbrev pub ItemIs : {A : Type 0} → Texts → Ahead → IterState → List Entry →
@@ -143,8 +160,7 @@ ItemIs names a s entries (Some item) t =
     × (t.item_lines ≡ no_line))
 
 -- the same of every iterator: one that has ended or failed gives none, and stays as it is
-abbrev pub NextItem : {A : Type 0} → Texts → IterState →
-    Option (Item A) → IterState → Type 0
+abbrev pub NextItem : {A : Type 0} → Texts → IterState → Option (Item A) → IterState → Type 0
 NextItem names s item t =
     (IsOpen s → (a : Ahead) → TellsLeft s a → (entries : List Entry) →
     HasEntriesLeft s.dialect a.fault a.bytes entries → ItemIs names a s entries item t)
