@@ -9,6 +9,7 @@ pub mod WholeLoads
 pub mod ItemSteps
 pub mod NextItems
 pub mod KeyLookUps
+pub mod EnvChanges
 pub mod LineLoads
 pub mod LoadSteps
 pub mod Nuls

@@ -21,7 +21,7 @@ use Rattle.std.proofs.Common.{
   subst,
   string_bytes,
 }
-use Rattle.std.specs.Prelude.{is_some, not, IsTrue, IfErr, MatchResult, OnOk, OnErr, if◌then◌else◌}
+use Rattle.std.specs.Prelude.{not, IsTrue, IfErr, MatchResult, OnOk, OnErr, if◌then◌else◌}
 use Rattle.std.specs.Str.{chars}
 use Rattle.std.specs.FinMap.{insert, get, contains_key}
 use Rattle.std.specs.declared.string.String.{String}
@@ -38,7 +38,8 @@ use Rattle.dotenvy_format.specs.Run.{Mode, Keep, Loaded, sets, run, has_nul}
 use Rattle.dotenvy_base.specs.Environment.{Texts, Env, value_ok, KeepsNames}
 use Rattle.dotenvy_items.specs.Remembered.{Remembered}
 use Rattle.dotenvy_items.specs.Meaning.{values_of, recalled_of, names_of}
-use Rattle.dotenvy_items.specs.LoadsRest.{Leaves, ChangesKeys}
+use Rattle.dotenvy_items.specs.LoadsRest.{Leaves, ChangesOnlyKeys}
+use Rattle.dotenvy_items.proofs.EnvChanges.{changes_none}
 use Rattle.dotenvy_items.specs.inside.LoadStep.{LoadsLine}
 use Rattle.dotenvy_items.specs.inside.FirstPass.{IsDeclared, IsPairOf}
 use Rattle.dotenvy_format.proofs.Basics.{not_is, not_false}
@@ -164,24 +165,18 @@ set_keeps mode old new key value (Ok done) set ok same keep =
     (not_is (contains_key old.names (string_bytes key)) absent))
 set_keeps mode old new key value (Err e) set ok same keep = λ k there. ap (λ (n : Env). get n.names k) same
 
--- where the key of a line is set, the names that are no keys have the values that they had
-pub set_changes_keys : {A : Type 0} (old new : Env) (key value : String A) (answer : Result (Unit {0}) (Error A)) →
+-- where the key of a line is set, only keys change
+pub set_changes : {A : Type 0} (old new : Env) (key value : String A) (answer : Result (Unit {0}) (Error A)) →
     is_key (chars (string_bytes key)) ≡ true →
     OnOk answer (new ≡ record old { names = insert old.names (string_bytes key) (string_bytes value) }) →
-    OnErr answer (new ≡ old) → ChangesKeys old.names new.names
-set_changes_keys old new key value (Ok done) is ok same =
-    subst (λ (e : Env). ChangesKeys old.names e.names) (sym ok)
-    (changes_keys-insert old.names old.names (string_bytes key) (string_bytes value) (λ n other. refl)
-    (IsUtf8-string_bytes key) is)
-set_changes_keys old new key value (Err e) is ok same = λ n other. ap (λ (m : Env). get m.names n) same
-
--- what keeps the names that are there, one time after another, keeps them
-pub keeps_twice : (old names new : Texts) → KeepsNames old names → KeepsNames names new → KeepsNames old new
-keeps_twice old names new first second key there =
-    let before = first key there in
-    second key (ap is_some before ∙ there) ∙ before
-
--- what changes only keys, one time after another, changes only keys
-pub changes_keys-twice : (old names new : Texts) → ChangesKeys old names → ChangesKeys names new →
-    ChangesKeys old new
-changes_keys-twice old names new first second name other = second name other ∙ first name other
+    OnErr answer (new ≡ old) → ChangesOnlyKeys old new
+set_changes old new key value (Ok done) is ok same =
+    subst (λ (e : Env). ChangesOnlyKeys old e) (sym ok)
+    (record {
+      keys =
+          changes_keys-insert old.names old.names (string_bytes key) (string_bytes value) (λ n other. refl)
+          (IsUtf8-string_bytes key) is;
+      mark = refl;
+    })
+set_changes old new key value (Err e) is ok same =
+    subst (λ (e : Env). ChangesOnlyKeys old e) (sym same) (changes_none old)

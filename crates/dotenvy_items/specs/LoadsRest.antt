@@ -6,7 +6,7 @@ use Rattle.dotenvy_format.specs.Keys.{is_key}
 use Rattle.dotenvy_format.specs.Entries.{Failure, Entry}
 use Rattle.dotenvy_format.specs.Items.{LookUp}
 use Rattle.dotenvy_format.specs.Run.{Loaded}
-use Rattle.dotenvy_base.specs.Environment.{Texts}
+use Rattle.dotenvy_base.specs.Environment.{Env, KeepsNames, Texts}
 use Rattle.dotenvy_items.specs.Meaning.{values_of, recalled_of}
 use Rattle.dotenvy_format.specs.Marks.{without_mark}
 use Rattle.dotenvy_base.specs.Source.{Ahead}
@@ -44,3 +44,13 @@ LoadsRest rule s old answer new =
 -- a name that is no key has the value that it had
 abbrev pub ChangesKeys : Texts → Texts → Type 0
 ChangesKeys old new = (name : List ℕ) → is_key name ≡ false → fin.get new name ≡ fin.get old name
+
+-- only keys change, and the `loaded` flag stays
+pub record ChangesOnlyKeys (old new : Env) : Type 0 where
+  pub keys : ChangesKeys old.names new.names
+  pub mark : new.loaded ≡ old.loaded
+
+-- only keys are added: names that are there keep their values, and the `loaded` flag stays
+pub record OnlyAdds (old new : Env) : Type 0 where
+  pub keeps : KeepsNames old.names new.names
+  pub changes : ChangesOnlyKeys old new

@@ -18,7 +18,7 @@ ghost use Rattle.dotenvy_items.specs.Remembered.{remembered_of};
 ghost use Rattle.dotenvy_items.specs.inside.ItemStep.{AddsLine, item_lines_then, reading_of};
 ghost use Rattle.dotenvy_items.specs.Iter.{state_of};
 ghost use Rattle.dotenvy_items.specs.NextItem.{GivesName, NextItem};
-ghost use Rattle.dotenvy_items.specs.LoadsRest.{ChangesKeys, LoadsRest};
+ghost use Rattle.dotenvy_items.specs.LoadsRest.{ChangesOnlyKeys, LoadsRest, OnlyAdds};
 ghost use Rattle.dotenvy_items.specs.inside.LoadStep.{mode_of};
 
 use crate::loads::{Mode, load_line};
@@ -283,9 +283,7 @@ impl<R: Source + Drop, A: Allocator + Clone> Iter<R, A> {
         ensures shut { ¬ (IsOpen self) → (result ≡ Ok tt) × (env.new ≡ env.old) }
         ensures told { IsOpen self →
             LoadsRest load_result self env.old.names result env.new.names }
-        ensures keeps { KeepsNames env.old.names env.new.names }
-        ensures keys { ChangesKeys env.old.names env.new.names }
-        ensures mark { env.new.loaded ≡ env.old.loaded }
+        ensures adds { OnlyAdds env.old env.new }
     {
         self.load_lines(Mode::Keep, env)
     }
@@ -299,8 +297,7 @@ impl<R: Source + Drop, A: Allocator + Clone> Iter<R, A> {
         ensures shut { ¬ (IsOpen self) → (result ≡ Ok tt) × (env.new ≡ env.old) }
         ensures told { IsOpen self →
             LoadsRest override_result self env.old.names result env.new.names }
-        ensures keys { ChangesKeys env.old.names env.new.names }
-        ensures mark { env.new.loaded ≡ env.old.loaded }
+        ensures changes { ChangesOnlyKeys env.old env.new }
     {
         self.load_lines(Mode::Replace, env)
     }
@@ -312,8 +309,7 @@ impl<R: Source + Drop, A: Allocator + Clone> Iter<R, A> {
         ensures told { IsOpen self →
             LoadsRest (run (mode_of mode)) self env.old.names result env.new.names }
         ensures keeps { mode_of mode ≡ Keep → KeepsNames env.old.names env.new.names }
-        ensures keys { ChangesKeys env.old.names env.new.names }
-        ensures mark { env.new.loaded ≡ env.old.loaded }
+        ensures changes { ChangesOnlyKeys env.old env.new }
     {
         self.lines.drop_mark()?;
         'loading: while let Some(outcome) = self.lines.advance() {
@@ -362,9 +358,7 @@ pub fn from_read<R: Source + Drop, A: Allocator + Clone>(
         env.old.names result env.new.names }
     ensures in_turn { LoadsRest (run Keep) (fresh (R.ahead reader) (R.calls reader) Dialect.V15)
         env.old.names result env.new.names }
-    ensures keeps { KeepsNames env.old.names env.new.names }
-    ensures keys { ChangesKeys env.old.names env.new.names }
-    ensures mark { env.new.loaded ≡ env.old.loaded }
+    ensures adds { OnlyAdds env.old env.new }
 {
     Iter::new(alloc, reader)?.load(env)
 }
@@ -379,8 +373,7 @@ pub fn from_read_override<R: Source + Drop, A: Allocator + Clone>(
         env.old.names result env.new.names }
     ensures in_turn { LoadsRest (run Replace)
         (fresh (R.ahead reader) (R.calls reader) Dialect.V15) env.old.names result env.new.names }
-    ensures keys { ChangesKeys env.old.names env.new.names }
-    ensures mark { env.new.loaded ≡ env.old.loaded }
+    ensures changes { ChangesOnlyKeys env.old env.new }
 {
     Iter::new(alloc, reader)?.load_override(env)
 }

@@ -5,7 +5,7 @@ ghost use Rattle.dotenvy_items.specs.Remembered.{remembered_of};
 ghost use Rattle.dotenvy_items.specs.Meaning.{values_of};
 ghost use Rattle.dotenvy_base.specs.Environment.{KeepsNames};
 ghost use Rattle.dotenvy_format.specs.Run.{Keep, sets};
-ghost use Rattle.dotenvy_items.specs.LoadsRest.{ChangesKeys};
+ghost use Rattle.dotenvy_items.specs.LoadsRest.{ChangesOnlyKeys};
 ghost use Rattle.dotenvy_items.specs.inside.LoadStep.{mode_of, LoadsLine};
 
 use crate::meaning::Names;
@@ -51,8 +51,7 @@ pub(crate) fn load_line<A: Allocator + Clone>(
         (chars line.now) env.old.names result env.new.names }
     ensures keeps { mode_of mode ≡ Keep →
         KeepsNames env.old.names env.new.names }
-    ensures keys { ChangesKeys env.old.names env.new.names }
-    ensures mark { env.new.loaded ≡ env.old.loaded }
+    ensures changes { ChangesOnlyKeys env.old env.new }
 {
     let names = Names {
         env: &*env,

@@ -1,4 +1,4 @@
-use Rattle.std.proofs.Common.{rules, ◌≡◌, Ok, ap, subst, sym, ◌∙◌, true}
+use Rattle.std.proofs.Common.{◌≡◌, Ok, ap, subst, sym, ◌∙◌, true}
 use Rattle.std.specs.Str.{chars}
 use Rattle.std.proofs.lemmas.Str.{IsUtf8-string_bytes}
 use Rattle.dotenvy_format.specs.Keys.{is_key}
@@ -8,7 +8,7 @@ use Rattle.dotenvy_format.specs.Run.{sets}
 use Rattle.dotenvy_items.specs.inside.LoadStep.{mode_of}
 use Rattle.dotenvy_items.specs.inside.FirstPass.{IsDeclared, Scans}
 use Rattle.dotenvy_items.proofs.KeyBytes.{name_ok-key}
-use Rattle.dotenvy_items.proofs.LineLoads.{fault_loaded, passed_loaded, set_loaded, set_keeps, set_changes_keys}
+use Rattle.dotenvy_items.proofs.LineLoads.{fault_loaded, passed_loaded, set_loaded, set_keeps, set_changes}
 use Rattle.dotenvy_items.proofs.loads.load_line.Goals as goal
 
 pub returns-in-Err-clause-loads : goal.returns-in-Err-clause-loads
@@ -69,15 +69,12 @@ returns-clause-keeps g c =
     c.set.result (ap (λ k. sets (mode_of c.args.mode) (values_of c.args.env.now.names) (chars k)) pair.key
     ∙ sym c.sets.ensures ∙ c.if-not-sets.false) c.set.ensures.ok c.set.ensures.same
 
-pub returns-clause-keys : goal.returns-clause-keys
-returns-clause-keys g c =
+pub returns-clause-changes : goal.returns-clause-changes
+returns-clause-changes g c =
     let look_up = names_of c.args.env.now.names (remembered_of c.args.remembered.now.entries) in
     let declared : IsDeclared c.args.dialect look_up (chars c.args.line.now) c.in-Ok-Some.declaration =
     subst (λ o. Scans c.args.dialect look_up (chars c.args.line.now) (Ok o)) c.in-Ok-Some.field-0-is
     c.in-Ok-Some.ensures in
     let pair = c.in_ok-key.ensures.pair declared.rest declared.pieces declared.is_assigned in
-    set_changes_keys c.args.env.now c.set.new.self c.in_ok-key.key c.in_ok-key.value c.set.result
+    set_changes c.args.env.now c.set.new.self c.in_ok-key.key c.in_ok-key.value c.set.result
     (subst (λ k. is_key (chars k) ≡ true) (sym pair.key) declared.statement.is_key) c.set.ensures.ok c.set.ensures.same
-
-pub returns-clause-mark : goal.returns-clause-mark
-returns-clause-mark g c = search rules

@@ -47,7 +47,7 @@ returns-in_err-text g c = (
       c.in_ok-with_dialect.field-0 c.new-env.result.names c.load.new.env.names _ c.in_ok-with_dialect.ensures.ok
       c.new-env.ensures.empty c.in_ok-load.ensures.told,
   (
-    subst (λ old. ChangesKeys old c.load.new.env.names) c.new-env.ensures.empty c.in_ok-load.ensures.keys,
+    subst (λ old. ChangesKeys old c.load.new.env.names) c.new-env.ensures.empty c.in_ok-load.ensures.adds.changes.keys,
     c.in_err-text.ensures.texts,
     inl (c.from_residual-in_err-text.ensures.1, refl),
   ),
@@ -61,7 +61,7 @@ returns g c = (
       c.in_ok-with_dialect.field-0 c.new-env.result.names c.load.new.env.names _ c.in_ok-with_dialect.ensures.ok
       c.new-env.ensures.empty c.in_ok-load.ensures.told,
   (
-    subst (λ old. ChangesKeys old c.load.new.env.names) c.new-env.ensures.empty c.in_ok-load.ensures.keys,
+    subst (λ old. ChangesKeys old c.load.new.env.names) c.new-env.ensures.empty c.in_ok-load.ensures.adds.changes.keys,
     c.in_ok-text.ensures.texts,
     inr (subst (λ (bytes : List ℕ). Sends g.W.Sink.held g.W.Sink.last_fault g.W.Sink.calls most_writes
         c.args.writer.now c.write_all.new.writer bytes c.write_all.result) (c.as_bytes.ensures.value

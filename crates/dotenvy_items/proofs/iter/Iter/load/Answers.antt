@@ -13,11 +13,8 @@ returns-clause-told g c = λ opened.
 pub returns-clause-shut : goal.returns-clause-shut
 returns-clause-shut g c = c.load_lines.ensures.shut
 
-pub returns-clause-keeps : goal.returns-clause-keeps
-returns-clause-keeps g c = c.load_lines.ensures.keeps refl
-
-pub returns-clause-keys : goal.returns-clause-keys
-returns-clause-keys g c = c.load_lines.ensures.keys
-
-pub returns-clause-mark : goal.returns-clause-mark
-returns-clause-mark g c = c.load_lines.ensures.mark
+pub returns-clause-adds : goal.returns-clause-adds
+returns-clause-adds g c = record {
+  keeps = c.load_lines.ensures.keeps refl;
+  changes = c.load_lines.ensures.changes;
+}

@@ -6,7 +6,7 @@ use Rattle.dotenvy_items.specs.Iter.{IterState, state_of}
 use Rattle.dotenvy_items.specs.LoadsRest.{LoadsRest}
 use Rattle.dotenvy_items.specs.inside.LoadStep.{mode_of, LoadsLine}
 use Rattle.dotenvy_items.specs.Remembered.{remembered_of}
-use Rattle.dotenvy_items.proofs.LineLoads.{keeps_twice, changes_keys-twice}
+use Rattle.dotenvy_items.proofs.EnvChanges.{changes_none, changes_twice, keeps_twice}
 use Rattle.dotenvy_items.proofs.LoadSteps.{
   CameTo,
   came_start,
@@ -46,8 +46,7 @@ loading-init g c =
           (came_start g.row.A.Denot mode inside start names c.in_ok-drop_mark.ensures.ok refl refl
           c.in_ok-drop_mark.ensures.told);
       keeps = λ keep k there. refl;
-      keys = λ n other. refl;
-      mark = refl;
+      changes = changes_none c.args.env.now;
     }
 
 pub loading-preserved : goal.loading-preserved
@@ -67,8 +66,9 @@ loading-preserved g c =
           c.line.ensures c.in_ok-load_line.ensures.loads) refl refl;
       keeps = λ keep.
           keeps_twice c.args.env.now.names names new (c.loading.invariant.keeps keep) (c.load_line.ensures.keeps keep);
-      keys = changes_keys-twice c.args.env.now.names names new c.loading.invariant.keys c.load_line.ensures.keys;
-      mark = c.load_line.ensures.mark ∙ c.loading.invariant.mark;
+      changes =
+          changes_twice c.args.env.now c.loading.env c.load_line.new.env c.loading.invariant.changes
+          c.load_line.ensures.changes;
     }
 
 pub returns-in_err-outcome-clause-told : goal.returns-in_err-outcome-clause-told
@@ -107,26 +107,11 @@ returns-clause-told g c = λ opened.
 pub returns-clause-shut : goal.returns-clause-shut
 returns-clause-shut g c = λ shut. (refl, (c.loading.invariant.shut shut).1)
 
-pub returns-clause-keeps : goal.returns-clause-keeps
-returns-clause-keeps g c = c.loading.invariant.keeps
-
-pub returns-clause-keys : goal.returns-clause-keys
-returns-clause-keys g c = c.loading.invariant.keys
-
-pub returns-clause-mark : goal.returns-clause-mark
-returns-clause-mark g c = c.loading.invariant.mark
-
 pub returns-in_err-drop_mark-clause-shut : goal.returns-in_err-drop_mark-clause-shut
 returns-in_err-drop_mark-clause-shut g c = search rules
 
 pub returns-in_err-drop_mark-clause-keeps : goal.returns-in_err-drop_mark-clause-keeps
 returns-in_err-drop_mark-clause-keeps g c = λ keep k there. refl
-
-pub returns-in_err-drop_mark-clause-keys : goal.returns-in_err-drop_mark-clause-keys
-returns-in_err-drop_mark-clause-keys g c = λ n other. refl
-
-pub returns-in_err-drop_mark-clause-mark : goal.returns-in_err-drop_mark-clause-mark
-returns-in_err-drop_mark-clause-mark g c = refl
 
 pub returns-in_err-load_line-clause-shut : goal.returns-in_err-load_line-clause-shut
 returns-in_err-load_line-clause-shut g c = λ shut. absurd (search rules)
@@ -136,25 +121,13 @@ returns-in_err-load_line-clause-keeps g c = λ keep.
     keeps_twice c.args.env.now.names c.loading.env.names c.load_line.new.env.names (c.loading.invariant.keeps keep)
     (c.load_line.ensures.keeps keep)
 
-pub returns-in_err-load_line-clause-keys : goal.returns-in_err-load_line-clause-keys
-returns-in_err-load_line-clause-keys g c =
-    changes_keys-twice c.args.env.now.names c.loading.env.names c.load_line.new.env.names c.loading.invariant.keys
-    c.load_line.ensures.keys
-
-pub returns-in_err-load_line-clause-mark : goal.returns-in_err-load_line-clause-mark
-returns-in_err-load_line-clause-mark g c = c.load_line.ensures.mark ∙ c.loading.invariant.mark
+pub returns-in_err-load_line-clause-changes : goal.returns-in_err-load_line-clause-changes
+returns-in_err-load_line-clause-changes g c =
+    changes_twice c.args.env.now c.loading.env c.load_line.new.env c.loading.invariant.changes
+    c.load_line.ensures.changes
 
 pub returns-in_err-outcome-clause-shut : goal.returns-in_err-outcome-clause-shut
 returns-in_err-outcome-clause-shut g c = λ shut. absurd (search rules)
-
-pub returns-in_err-outcome-clause-keeps : goal.returns-in_err-outcome-clause-keeps
-returns-in_err-outcome-clause-keeps g c = c.loading.invariant.keeps
-
-pub returns-in_err-outcome-clause-keys : goal.returns-in_err-outcome-clause-keys
-returns-in_err-outcome-clause-keys g c = c.loading.invariant.keys
-
-pub returns-in_err-outcome-clause-mark : goal.returns-in_err-outcome-clause-mark
-returns-in_err-outcome-clause-mark g c = c.loading.invariant.mark
 
 pub loading-smaller : goal.loading-smaller
 loading-smaller g c = search rules

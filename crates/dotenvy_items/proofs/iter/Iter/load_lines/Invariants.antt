@@ -3,7 +3,7 @@ use Rattle.dotenvy_base.specs.Environment.{KeepsNames}
 use Rattle.dotenvy_lines.specs.declared.lines.Stage.TheVariants.{Open}
 use Rattle.dotenvy_lines.specs.Lines.{lines_measure}
 use Rattle.dotenvy_format.specs.Run.{Keep}
-use Rattle.dotenvy_items.specs.LoadsRest.{ChangesKeys}
+use Rattle.dotenvy_items.specs.LoadsRest.{ChangesOnlyKeys}
 use Rattle.dotenvy_items.specs.inside.LoadStep.{mode_of}
 use Rattle.dotenvy_items.specs.Remembered.{remembered_of}
 use Rattle.dotenvy_items.specs.Iter.{state_of}
@@ -20,8 +20,7 @@ invariant-loading g l =
       shut : l.fn.self.lines.stage ≢ Open → (now.lines.stage ≢ Open) × (l.env ≡ l.fn.env);
       came : CameTo (mode_of l.mode) l.fn.self l.fn.env.names l.env.names now;
       keeps : mode_of l.mode ≡ Keep → KeepsNames l.fn.env.names l.env.names;
-      keys : ChangesKeys l.fn.env.names l.env.names;
-      mark : l.env.loaded ≡ l.fn.env.loaded;
+      changes : ChangesOnlyKeys l.fn.env l.env;
     }
 
 abbrev pub decreases-loading : goal.decreases-loading
