@@ -1,11 +1,10 @@
 // Loads and iterators of files, by their path or by a name that is searched for.
 ghost use Rattle.std.specs.Prelude.{◌≡◌, IfErr, IfOk, None, codes};
 ghost use Rattle.std.specs.Path.{path_bytes, path_buf_bytes};
-ghost use Rattle.dotenvy_base.specs.Environment.{KeepsNames};
 ghost use Rattle.dotenvy_base.specs.Errors.{IsFileFault};
 ghost use Rattle.dotenvy_base.specs.Find.{IsPathOf};
 ghost use Rattle.dotenvy_items.specs.Iter.{fresh};
-ghost use Rattle.dotenvy_items.specs.LoadsRest.{ChangesKeys};
+ghost use Rattle.dotenvy_items.specs.LoadsRest.{ChangesOnlyKeys, OnlyAdds};
 
 use crate::find::{Finder, open};
 use dotenvy_base::environment::Environment;
@@ -30,9 +29,7 @@ pub fn from_path<A: Allocator + Clone, R: Files + Alloc<A = A>>(
     path: Path<'_>,
     env: &mut Environment<A>,
 ) -> Result<(), A>
-    ensures keeps { KeepsNames env.old.names env.new.names }
-    ensures keys { ChangesKeys env.old.names env.new.names }
-    ensures mark { env.new.loaded ≡ env.old.loaded }
+    ensures adds { OnlyAdds env.old env.new }
 {
     from_read(rt.alloc(), open(rt, path)?, env)
 }
@@ -47,8 +44,7 @@ pub fn from_path_override<A: Allocator + Clone, R: Files + Alloc<A = A>>(
     path: Path<'_>,
     env: &mut Environment<A>,
 ) -> Result<(), A>
-    ensures keys { ChangesKeys env.old.names env.new.names }
-    ensures mark { env.new.loaded ≡ env.old.loaded }
+    ensures changes { ChangesOnlyKeys env.old env.new }
 {
     from_read_override(rt.alloc(), open(rt, path)?, env)
 }
@@ -85,9 +81,7 @@ pub fn from_filename<A: Allocator + Clone, R: Files + Env + Alloc<A = A>>(
     env: &mut Environment<A>,
 ) -> Result<PathBuf<A>, A>
     ensures path { IfOk result (λ p. IsPathOf (path_bytes filename.entry) (path_buf_bytes p)) }
-    ensures keeps { KeepsNames env.old.names env.new.names }
-    ensures keys { ChangesKeys env.old.names env.new.names }
-    ensures mark { env.new.loaded ≡ env.old.loaded }
+    ensures adds { OnlyAdds env.old env.new }
 {
     from_filename_with(rt, filename, Dialect::V15, env)
 }
@@ -104,9 +98,7 @@ pub fn from_filename_with<A: Allocator + Clone, R: Files + Env + Alloc<A = A>>(
     env: &mut Environment<A>,
 ) -> Result<PathBuf<A>, A>
     ensures path { IfOk result (λ p. IsPathOf (path_bytes filename.entry) (path_buf_bytes p)) }
-    ensures keeps { KeepsNames env.old.names env.new.names }
-    ensures keys { ChangesKeys env.old.names env.new.names }
-    ensures mark { env.new.loaded ≡ env.old.loaded }
+    ensures adds { OnlyAdds env.old env.new }
 {
     let (path, file) = Finder::new().filename(filename).find(rt, dialect)?;
     file.load(env)?;
@@ -124,8 +116,7 @@ pub fn from_filename_override<A: Allocator + Clone, R: Files + Env + Alloc<A = A
     env: &mut Environment<A>,
 ) -> Result<PathBuf<A>, A>
     ensures path { IfOk result (λ p. IsPathOf (path_bytes filename.entry) (path_buf_bytes p)) }
-    ensures keys { ChangesKeys env.old.names env.new.names }
-    ensures mark { env.new.loaded ≡ env.old.loaded }
+    ensures changes { ChangesOnlyKeys env.old env.new }
 {
     let (path, file) = Finder::new().filename(filename).find(rt, Dialect::V15)?;
     file.load_override(env)?;
@@ -160,9 +151,7 @@ pub fn dotenv<A: Allocator + Clone, R: Files + Env + Alloc<A = A>>(
     env: &mut Environment<A>,
 ) -> Result<PathBuf<A>, A>
     ensures path { IfOk result (λ p. IsPathOf (codes ".env") (path_buf_bytes p)) }
-    ensures keeps { KeepsNames env.old.names env.new.names }
-    ensures keys { ChangesKeys env.old.names env.new.names }
-    ensures mark { env.new.loaded ≡ env.old.loaded }
+    ensures adds { OnlyAdds env.old env.new }
 {
     let (path, file) = Finder::new().find(rt, Dialect::V15)?;
     file.load(env)?;
@@ -179,8 +168,7 @@ pub fn dotenv_override<A: Allocator + Clone, R: Files + Env + Alloc<A = A>>(
     env: &mut Environment<A>,
 ) -> Result<PathBuf<A>, A>
     ensures path { IfOk result (λ p. IsPathOf (codes ".env") (path_buf_bytes p)) }
-    ensures keys { ChangesKeys env.old.names env.new.names }
-    ensures mark { env.new.loaded ≡ env.old.loaded }
+    ensures changes { ChangesOnlyKeys env.old env.new }
 {
     let (path, file) = Finder::new().find(rt, Dialect::V15)?;
     file.load_override(env)?;

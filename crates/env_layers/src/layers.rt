@@ -5,7 +5,7 @@ ghost use Rattle.std.specs.List.{list_all};
 ghost use Rattle.std.specs.Path.{path_bytes, path_buf_bytes};
 ghost use Rattle.dotenvy.specs.Environment.{KeepsNames};
 ghost use Rattle.dotenvy.specs.Find.{IsPathOf};
-ghost use Rattle.dotenvy.specs.LoadsRest.{ChangesKeys};
+ghost use Rattle.dotenvy.specs.LoadsRest.{ChangesOnlyKeys, OnlyAdds};
 ghost use Rattle.env_layers.specs.Layers.{AddsLayer};
 ghost use Rattle.env_layers.specs.Missing.{absent_names, lent_texts, AnswersRequire, HoldsTexts};
 
@@ -93,8 +93,7 @@ impl<A: Allocator + Clone> Layers<A> {
         ensures told { AddsLayer mode (R.ahead reader) self.old.names result self.new.names }
         ensures refused { OnErr result (self.new ≡ self.old) }
         ensures keeps { mode ≡ Mode.Keep → KeepsNames self.old.names self.new.names }
-        ensures keys { ChangesKeys self.old.names self.new.names }
-        ensures mark { self.new.loaded ≡ self.old.loaded }
+        ensures changes { ChangesOnlyKeys self.old self.new }
     {
         let mut layered = self.env.try_clone()?;
         match mode {
@@ -121,9 +120,7 @@ impl<A: Allocator + Clone> Layers<A> {
     ) -> Result<PathBuf<A>, A>
         ensures path { IfOk result (λ p. IsPathOf (path_bytes filename.entry) (path_buf_bytes p)) }
         ensures refused { OnErr result (self.new ≡ self.old) }
-        ensures keeps { KeepsNames self.old.names self.new.names }
-        ensures keys { ChangesKeys self.old.names self.new.names }
-        ensures mark { self.new.loaded ≡ self.old.loaded }
+        ensures adds { OnlyAdds self.old self.new }
     {
         let mut copy = self.env.try_clone()?;
         let path = from_filename_with(rt, filename, dialect, &mut copy)?;
