@@ -1,4 +1,5 @@
-// The bytes that were read and are not used yet, in one buffer.
+//! A buffer of bytes that were read and are not used yet.
+
 ghost use Rattle.std.specs.Prelude.{◌≡◌, ◌≤◌, ◌<◌, ◌==◌, IfErr, IfOk, [], length, drop};
 ghost use Rattle.dotenvy_base.specs.Errors.{IsMemory};
 ghost use Rattle.dotenvy_lines.specs.inside.Buffer.{Fills};
@@ -12,6 +13,7 @@ use std::marker::Model;
 // How many bytes the buffer has room for, and so the most that one read asks for.
 const BUFFER_SIZE: usize = 8192;
 
+/// Bytes that were read and are not used yet. There is room for 8,192, and it never grows.
 #[derive(Drop)]
 pub struct Buffer<A: Allocator> {
     bytes: Vec<u8, A>,
@@ -30,7 +32,7 @@ impl<A: Allocator> Model for Buffer<A> {
 }
 
 impl<A: Allocator> Buffer<A> {
-    // An empty buffer, for which all its memory is taken.
+    /// An empty buffer. All its memory is allocated here.
     pub fn new(alloc: A) -> Result<Buffer<A>, A>
         ensures empty { IfOk result (λ s. s ≡ []) }
         ensures memory { IfErr result IsMemory }
@@ -44,16 +46,19 @@ impl<A: Allocator> Buffer<A> {
         })
     }
 
+    /// The allocator of the buffer.
     pub fn allocator(&self) -> &A {
         self.bytes.allocator()
     }
 
+    /// Whether no byte is unread.
     pub fn is_empty(&self) -> bool
         ensures { result ≡ (length self.now == 0) }
     {
         self.used == self.filled
     }
 
+    /// The bytes that were read and are not used yet.
     pub fn unread(&self) -> &[u8]
         ensures bytes { result.now ≡ self.now }
         ensures bound { length self.now ≤ 8192 }
@@ -61,6 +66,7 @@ impl<A: Allocator> Buffer<A> {
         &self.bytes[self.used..self.filled]
     }
 
+    /// Uses up the first `n` unread bytes.
     pub fn use_up(&mut self, n: usize)
         requires { n ≤ length self.old }
         ensures { self.new ≡ drop n self.old }
@@ -68,7 +74,9 @@ impl<A: Allocator> Buffer<A> {
         self.used += n;
     }
 
-    // One read. The unread bytes move to the front, and it asks for as many as there is room for behind them.
+    /// Reads once, and appends what the source gives.
+    ///
+    /// The unread bytes move to the start of the buffer first, and the read asks for as many bytes as fit after them.
     pub fn read_from<R: Source>(&mut self, reader: &mut R) -> io::Result<usize>
         requires { length self.old < 8192 }
         ensures { Fills (R.ahead reader.old) (R.calls reader.old) self.old result

@@ -1,4 +1,5 @@
-// The bytes of a source, as they are read: a physical line at a time.
+//! The bytes of a source, one physical line at a time.
+
 ghost use Rattle.std.specs.Prelude.{[], ◌≡◌, ◌≤◌, ◌<◌, ◌+◌, ◌==◌, ◌⊎◌, true, false, Some, None, IfOk, IfErr, IsOk, IsTrue, ◌↔◌, OnOk, MatchOption, MatchBool, position, nat_eq, length, take, drop, vec_len};
 ghost use Rattle.std.specs.IoError.{error_kind};
 ghost use Rattle.dotenvy_base.specs.Source.{Ahead};
@@ -20,7 +21,9 @@ use std::marker::Model;
 
 const BYTE_ORDER_MARK: [u8; 3] = [0xEF, 0xBB, 0xBF];
 
-// A source and the bytes that were read from it and not used. The end is remembered, and no read follows it.
+/// A source, and the bytes that were read from it and are not used yet.
+///
+/// The number of reads is bounded, and none is made after the end.
 #[derive(Drop)]
 pub struct Input<R: Source, A: Allocator> {
     reader: R,
@@ -29,10 +32,12 @@ pub struct Input<R: Source, A: Allocator> {
     at_end: bool,
 }
 
-// A part of a physical line, from its front, and whether its LF is the last byte of it.
+/// The unread bytes of a physical line, as far as they were read.
 #[derive(Clone, Copy)]
 pub struct LinePiece<'a> {
+    /// The bytes, from the first unread one of the line.
     pub bytes: &'a [u8],
+    /// Whether the last of them is the LF that ends the line.
     pub is_whole: bool,
 }
 
@@ -56,7 +61,7 @@ impl<R: Source, A: Allocator> Model for Input<R, A> {
 }
 
 impl<R: Source, A: Allocator> Input<R, A> {
-    // Nothing is read. The memory of the buffer is taken.
+    /// An input of which nothing is read yet, and that makes at most `reads_left` reads. It allocates its buffer.
     pub fn new(alloc: A, reader: R, reads_left: u64) -> Result<Input<R, A>, A>
     where
         R: Drop,
@@ -79,11 +84,12 @@ impl<R: Source, A: Allocator> Input<R, A> {
         })
     }
 
+    /// The allocator of the buffer.
     pub fn allocator(&self) -> &A {
         self.buffer.allocator()
     }
 
-    // Nothing is left, and the end was read.
+    /// Whether nothing is left: the end was read, and each byte is used.
     pub fn is_used_up(&self) -> bool
         ensures value { IsTrue result ↔ ((self.now.at_end ≡ true) × (self.now.unread ≡ 0)) }
         ensures told { (a : Ahead) → self.now.left ≡ Some a → result ≡ true →
@@ -92,6 +98,7 @@ impl<R: Source, A: Allocator> Input<R, A> {
         self.at_end && self.buffer.is_empty()
     }
 
+    /// Whether the end was read. Some bytes may still be unread.
     pub fn is_at_end(&self) -> bool
         ensures value { result ≡ self.now.at_end }
         ensures told { (a : Ahead) → self.now.left ≡ Some a → result ≡ true →
@@ -108,6 +115,7 @@ impl<R: Source, A: Allocator> Input<R, A> {
         self.buffer.unread()
     }
 
+    /// Uses up the first `n` unread bytes.
     pub fn use_up(&mut self, n: usize)
         requires { n ≤ self.old.unread }
         ensures { self.new ≡ used_up n self.old }
@@ -115,7 +123,7 @@ impl<R: Source, A: Allocator> Input<R, A> {
         self.buffer.use_up(n);
     }
 
-    // The unread bytes of the physical line that stands next: up to its LF, or all where it has none.
+    /// The unread bytes of the next physical line: up to its LF, or all of them where its LF was not read yet.
     pub fn line_piece(&self) -> LinePiece<'_>
         ensures { IsLinePiece self.now result.bytes.now result.is_whole }
     {
@@ -178,7 +186,7 @@ fn read_once<R: Source, A: Allocator>(reader: &mut R, buffer: &mut Buffer<A>) ->
 }
 
 impl<R: Source, A: Allocator> Input<R, A> {
-    // One read, which counts as one where it is interrupted too.
+    /// Reads once. A read that is interrupted counts too. Past the bound on reads the error is `Io` of kind Other.
     pub fn read_more(&mut self) -> Result<(), A>
         requires unread { self.old.unread < 8192 }
         requires unended { self.old.at_end ≡ false }
@@ -204,7 +212,7 @@ impl<R: Source, A: Allocator> Input<R, A> {
         self.buffer.is_empty() && !self.at_end
     }
 
-    // Whether there is something to use: reads until a byte is unread, or the end.
+    /// Whether there is a byte to use. Reads until one is unread, or the end is read.
     pub fn has_more(&mut self) -> Result<bool, A>
         ensures falls { OnOk result (input_measure self.new ≤ input_measure self.old) }
         ensures some { IfOk result (λ more. more ≡ true → 0 < self.new.unread) }
@@ -232,7 +240,7 @@ impl<R: Source, A: Allocator> Input<R, A> {
         is_whole
     }
 
-    // Passes by what is left of the physical line that stands next, and keeps none of it.
+    /// Skips what is left of the next physical line, and keeps none of it.
     pub fn skip_line(&mut self) -> Result<(), A>
         ensures falls { OnOk result (input_measure self.new ≤ input_measure self.old) }
         ensures some { 0 < self.old.unread →
@@ -274,7 +282,7 @@ impl<R: Source, A: Allocator> Input<R, A> {
         self.unread().starts_with(&BYTE_ORDER_MARK)
     }
 
-    // Drops a byte order mark, if the next bytes are one. Bytes that are no whole mark stay.
+    /// Drops a byte order mark, if the next bytes are one. A part of a mark stays.
     pub fn drop_mark(&mut self) -> Result<(), A>
         ensures falls { OnOk result (input_measure self.new ≤ input_measure self.old) }
         ensures told { WhereTold self.old.left (λ a. DropsMark a self.old result self.new) }

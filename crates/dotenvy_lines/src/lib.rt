@@ -1,6 +1,6 @@
-//! The logical lines of what a reader gives, over bytes, however they are cut and whatever the reader does.
+//! The logical lines of what a reader gives, over bytes, in whatever pieces they come and whatever the reader does.
 //!
-//! The library is `dotenvy`, which stands on this crate.
+//! The library is `dotenvy`, which depends on this crate.
 #![tactic(auto)]
 
 mod buffer;

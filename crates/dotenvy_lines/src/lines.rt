@@ -1,4 +1,5 @@
-// The logical lines of a source: physical lines, joined where quotes stand open.
+//! The logical lines of a source: physical lines, joined where a quote stays open.
+
 ghost use Rattle.std.specs.Prelude.{◌≡◌, ◌≢◌, ◌≤◌, ◌<◌, ◌^◌, ◌⊎◌, None, Ok, IfOk, IfErr, IsOk, OnOk, OnErr, IfSome, IsSome, IsTrue, ◌↔◌, length, string_bytes};
 ghost use Rattle.std.specs.Str.{chars};
 ghost use Rattle.std.specs.IoError.{error_kind};
@@ -23,13 +24,18 @@ use std::marker::Model;
 // The most reads that an iterator makes.
 const READ_LIMIT: u64 = 4_294_967_296;
 
-// What the next physical lines make; the text is in the line buffer.
+/// What the next physical lines make. The text is in the line buffer.
 #[derive(Clone, Copy, Drop)]
 pub enum Joined {
+    /// Nothing: no line is left.
     Nothing,
+    /// A comment, which is skipped.
     Skipped,
+    /// A logical line.
     Whole,
+    /// A logical line that is still open at the end of input.
     OpenEnd,
+    /// A line that isn't UTF-8.
     BrokenLine,
 }
 
@@ -78,14 +84,18 @@ fn join_lines<R: Source, A: Allocator>(
     }
 }
 
+/// Whether more lines may come.
 #[derive(Clone, Copy, Drop)]
 pub enum Stage {
+    /// More lines may come.
     Open,
+    /// No line is left.
     Ended,
+    /// A final fault came, and no line is given after it.
     Failed,
 }
 
-// Reads logical lines into one line buffer, until the end or a fault that is final.
+/// Reads logical lines into one line buffer, until the end or a final fault.
 #[derive(Drop)]
 pub struct Splitter<R: Source, A: Allocator> {
     input: Input<R, A>,
@@ -116,7 +126,9 @@ impl<R: Source, A: Allocator> Model for Splitter<R, A> {
 }
 
 impl<R: Source, A: Allocator + Clone> Splitter<R, A> {
-    // Nothing is read. The memory for reading is taken; that of the line grows with the lines.
+    /// A splitter of which nothing is read yet, and that makes at most 2^32 reads.
+    ///
+    /// The memory for reading is allocated here; the line buffer grows with the lines.
     pub fn new(alloc: A, reader: R) -> Result<Splitter<R, A>, A>
     where
         R: Drop,
@@ -127,6 +139,7 @@ impl<R: Source, A: Allocator + Clone> Splitter<R, A> {
         Splitter::with_limit(alloc, reader, READ_LIMIT)
     }
 
+    /// As `new`, with at most `reads` reads.
     pub fn with_limit(alloc: A, reader: R, reads: u64) -> Result<Splitter<R, A>, A>
     where
         R: Drop,
@@ -144,11 +157,12 @@ impl<R: Source, A: Allocator + Clone> Splitter<R, A> {
         })
     }
 
+    /// The allocator of the buffers.
     pub fn allocator(&self) -> &A {
         self.input.allocator()
     }
 
-    // From now on `None` is the answer.
+    /// Ends the iteration by a final fault: `advance` returns `None` from now on.
     pub fn fail(&mut self)
         ensures lines { self.new.lines ≡ record self.old.lines { stage = Stage.Failed } }
         ensures line { self.new.line ≡ self.old.line }
@@ -162,15 +176,16 @@ impl<R: Source, A: Allocator + Clone> Splitter<R, A> {
         matches!(self.stage, Stage::Open)
     }
 
-    // The text that `advance` left: that of the last logical line, and the empty one for a line that is skipped.
+    /// The text that `advance` left: that of the last logical line, or the empty text for a line that was skipped.
     pub fn line(&self) -> &str
         ensures { result.now ≡ self.now.line }
     {
         self.line.as_str()
     }
 
-    // The first and the last physical line of the last logical line, counted from 1. Zeros before the first, and after
-    // a final fault, which stands on no line.
+    /// The first and the last physical line of the last logical line, counted from 1.
+    ///
+    /// Both are 0 before the first logical line, and after a final fault, which is on no line.
     pub fn last_lines(&self) -> (u64, u64)
         ensures { result ≡ last_lines self.now.lines }
     {
@@ -233,8 +248,9 @@ fn is_refused<A: Allocator>(outcome: &Option<Result<(), A>>) -> bool
 }
 
 impl<R: Source, A: Allocator + Clone> Splitter<R, A> {
-    // Takes the next logical line: its text is left in the line buffer, empty for a line that is skipped. Answers its
-    // fault, and `None` at the end and after a final fault.
+    /// Takes the next logical line, and leaves its text in the line buffer: the empty text for a line that is skipped.
+    ///
+    /// Returns the line's fault if it has one, and `None` at the end and after a final fault.
     pub fn advance(&mut self) -> Option<Result<(), A>>
         ensures shut { self.old.lines.stage ≢ Stage.Open → (result ≡ None) × (self.new ≡ self.old) }
         ensures falls { IsSome result →
@@ -262,7 +278,7 @@ impl<R: Source, A: Allocator + Clone> Splitter<R, A> {
         outcome
     }
 
-    // Drops a byte order mark that stands next. Does nothing after the end or a final fault.
+    /// Drops a byte order mark, if the next bytes are one. Does nothing after the end or a final fault.
     pub fn drop_mark(&mut self) -> Result<(), A>
         ensures shut { self.old.lines.stage ≢ Stage.Open →
             (result ≡ Ok tt) × (self.new ≡ self.old) }
@@ -296,7 +312,7 @@ fn copy_of<A: Allocator + Clone>(alloc: &A, line: &str) -> Result<String<A>, A>
     Ok(String::from_str(alloc.clone()?, line)?)
 }
 
-// The logical lines as texts of their own.
+/// The logical lines, each as a separate text.
 #[derive(Drop)]
 pub struct QuotedLines<R: Source, A: Allocator> {
     splitter: Splitter<R, A>,
@@ -313,13 +329,16 @@ impl<R: Source, A: Allocator> Model for QuotedLines<R, A> {
 }
 
 impl<R: Source, A: Allocator + Clone> QuotedLines<R, A> {
+    /// The lines that the splitter has left.
     pub fn new(splitter: Splitter<R, A>) -> QuotedLines<R, A>
         ensures { result ≡ splitter.lines }
     {
         QuotedLines { splitter }
     }
 
-    // The text of the next logical line, or its fault: empty for a line that is skipped, and `None` at the end and after a final fault.
+    /// The text of the next logical line, or its fault.
+    ///
+    /// The text is empty for a line that is skipped. `None` comes at the end and after a final fault.
     pub fn next_line(&mut self) -> Option<Result<String<A>, A>>
         ensures shut { self.old.stage ≢ Stage.Open → (result ≡ None) × (self.new ≡ self.old) }
         ensures falls { IsSome result → lines_measure self.new < lines_measure self.old }

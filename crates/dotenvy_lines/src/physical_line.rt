@@ -1,4 +1,5 @@
-// One physical line, in the pieces in which it is read, as a part of a logical line.
+//! One physical line, in the pieces in which it is read, as a part of a logical line.
+
 ghost use Rattle.std.specs.Prelude.{◌≡◌, ◌≤◌, ◌<◌, ◌++◌, true, ℕ, List, [], IfOk, IfErr, IsOk, OnOk, length, string_bytes};
 ghost use Rattle.std.specs.Str.{chars, skip_leading_whitespace};
 ghost use Rattle.dotenvy_base.specs.Source.{Ahead};
@@ -17,25 +18,29 @@ use dotenvy_base::source::Source;
 use dotenvy_format::walk::{LineMode, Walked, walk_text};
 use std::alloc::Allocator;
 
-// How far a physical line was walked.
+/// How far the walk over a physical line came.
 #[derive(Clone, Copy, Drop)]
 pub enum Progress {
-    // All of it is white space so far, and it is the first of its logical line, so that it may be a comment.
+    /// So far all of it is white space, and it is the first line of its logical line: it may be a comment.
     Blank(LineMode),
+    /// The logical line goes on, in this mode.
     Going(LineMode),
-    // The logical line has ended, and what is left of the physical line isn't kept.
+    /// The logical line has ended. The rest of the physical line isn't kept.
     Ended,
+    /// The line is a comment.
     Comment,
 }
 
-// What stands behind a text that was read.
+/// What follows a text that was read.
 #[derive(Clone, Copy, Drop)]
 pub enum After {
+    /// The next line: the text ends with an LF.
     LineEnd,
+    /// Nothing: the end was read.
     InputEnd,
-    // A byte that begins no character, so that the physical line is broken.
+    /// Bytes that are no character, so the line isn't UTF-8.
     Broken,
-    // More has to be read, for the rest of the line or of a character.
+    /// The rest of the line, or of a character, which is still to be read.
     Unread,
 }
 
@@ -46,12 +51,16 @@ struct Step {
     after: After,
 }
 
-// What a physical line makes of the logical line that it goes on.
+/// What a physical line makes of the logical line that it continues.
 #[derive(Clone, Copy, Drop)]
 pub enum Taken {
+    /// It goes on in the next physical line, in this mode.
     Going(LineMode),
+    /// It has ended.
     Ended,
+    /// The physical line is a comment.
     Comment,
+    /// The physical line isn't UTF-8.
     Broken,
 }
 
@@ -211,8 +220,9 @@ fn at_line_end(progress: Progress) -> Taken
     }
 }
 
-// Takes the physical line that stands next, in as many pieces as it is read in. The text is what the logical line
-// keeps so far; it is empty before the first line.
+/// Takes the next physical line, in as many pieces as it is read in.
+///
+/// `text` is what the logical line keeps so far, and is empty before its first line.
 pub fn take_line<R: Source, A: Allocator>(
     input: &mut Input<R, A>,
     text: &mut String<A>,
