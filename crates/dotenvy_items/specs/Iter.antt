@@ -31,7 +31,7 @@ iter_code =
     (λ p. record { lines = p.0; remembered = p.1.0; dialect = p.1.1.0; item_lines = p.1.1.1 })
     (λ _. refl)
 
--- an iterator's state, from its parts
+-- the state of an iterator, from its parts
 abbrev pub state_of : LinesState → Remembered → Dialect → ℕ × ℕ → IterState
 state_of lines remembered dialect item_lines = record {
   lines = lines;

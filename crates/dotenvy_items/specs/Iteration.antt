@@ -1,4 +1,4 @@
--- What calls of `next_item` give one after another, and when items and answers say the same.
+-- What calls of `next_item` give one after another, and when items or results say the same.
 use Rattle.std.specs.Prelude.{ℕ, ◌≢◌, ◌^◌, ◌+◌, ◌<◌, List, [], ◌∷◌, length, Some, None, Result}
 use Rattle.std.specs.declared.io.ErrorKind.TheVariants.{Interrupted}
 use Rattle.dotenvy_base.specs.declared.errors.Error.{Error}
@@ -42,12 +42,12 @@ SayItems [] (item ∷ items) = ⊥
 SayItems (given ∷ others) [] = ⊥
 SayItems (given ∷ others) (item ∷ items) = SaysItem given item × SayItems others items
 
--- both say the same items
+-- two lists of items say the same items
 abbrev pub SayTheSame : {A : Type 0} → List (Item A) → List (Item A) → Type 0
 SayTheSame given others =
     (items : List (Result (List ℕ × List ℕ) Failure)) × SayItems given items × SayItems others items
 
--- both answers say the same
+-- the results of two loads say the same
 abbrev pub AnswerTheSame : {A : Type 0} → Result (Unit {0}) (Error A) →
     Result (Unit {0}) (Error A) → Type 0
 AnswerTheSame answer other =

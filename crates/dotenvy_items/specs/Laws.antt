@@ -1,4 +1,4 @@
--- Laws of iteration and of loads over bytes: what a source tells alone decides.
+-- The laws of items, loads and listings: the bytes of a source, and the fault after them, decide what comes.
 use Rattle.std.specs.Prelude.{ℕ, ◌≡◌, ◌≤◌, List, ◌++◌, length, Option, Some, option_map, Result, Ok, Err}
 use Rattle.std.specs.Str.{encode_utf8_all}
 use Rattle.std.specs.FinMap as fin
@@ -33,7 +33,8 @@ use Rattle.dotenvy_items.specs.Iteration.{
 }
 use Rattle.dotenvy_items.specs.NextItem.{Item}
 
--- a fresh iterator gives the items of what its source tells, and the fault that is told, if one is, as the last
+-- a fresh iterator gives the items of its source's bytes, all and in order, and last the fault that
+-- is told, if one is
 abbrev pub ItemsInOrder : Type 0 → Type 0
 ItemsInOrder A =
     (dialect : Dialect) (a : Ahead) (calls : Option (List Call)) (names : Texts)
@@ -42,7 +43,7 @@ ItemsInOrder A =
     GivesItems names (fresh (Some a) calls dialect) given → NoneRefused given →
     SayItems given (items (values_of names) (entries ++ told_fault a.fault))
 
--- an iterator that was used gives the items of what is left, where a name may also mean what is remembered
+-- a used iterator gives the items of what is left; there a name may also mean a remembered value
 abbrev pub ItemsGoOn : Type 0 → Type 0
 ItemsGoOn A =
     (s : IterState) (a : Ahead) (names : Texts) (entries : List Entry) (given : List (Item A)) →
@@ -51,7 +52,7 @@ ItemsGoOn A =
     SayItems given
     (items_from (values_of names) (recalled_of s.remembered) (entries ++ told_fault a.fault))
 
--- two fresh iterators over what a source tells give the same items
+-- two fresh iterators over the same bytes, with the same fault after them, give the same items
 abbrev pub GiveTheSame : Type 0 → Type 0
 GiveTheSame A =
     (dialect : Dialect) (a : Ahead) (calls other_calls : Option (List Call)) (names : Texts)
@@ -60,18 +61,18 @@ GiveTheSame A =
     GivesItems names (fresh (Some a) other_calls dialect) others → NoneRefused others →
     SayTheSame given others
 
--- a load by this rule of what a source tells, by a fresh iterator, which was not refused memory
+-- a load by this rule, with a fresh iterator over what a source tells, that was not refused memory
 pub record LoadsFresh {A : Type 0} (rule : Rule) (dialect : Dialect) (a : Ahead) (old : Texts)
     (answer : Result (Unit {0}) (Error A)) (new : Texts) : Type 0 where
   pub calls : Option (List Call)
   pub loads : LoadsRest rule (fresh (Some a) calls dialect) old answer new
   pub not_refused : ¬ (IsMemoryErr answer)
 
--- both environments have the same values
+-- in both environments each name has the same value
 abbrev pub HaveSameValues : Texts → Texts → Type 0
 HaveSameValues names others = (name : List ℕ) → values_of others name ≡ values_of names name
 
--- two such loads from one environment leave the same values and answer the same
+-- two loads of the same bytes into the same environment leave the same values and return the same
 abbrev pub LoadTheSame : Rule → Type 0 → Type 0
 LoadTheSame rule A =
     (dialect : Dialect) (a : Ahead) (old new other : Texts)
@@ -80,11 +81,11 @@ LoadTheSame rule A =
     LoadsFresh rule dialect a old answer new → LoadsFresh rule dialect a old another other →
     HaveSameValues new other × AnswerTheSame answer another
 
--- what a source tells decides items and loads
+-- the bytes, and the fault after them, decide items and loads, however reads cut the bytes
 abbrev pub CutsDoNotMatter : Type 0 → Type 0
 CutsDoNotMatter A = GiveTheSame A × LoadTheSame load_result A × LoadTheSame override_result A
 
--- a load that was not refused memory is the load of all the entries left, and of the fault that is told
+-- a load that was not refused memory loads all entries left, and then the fault that is told
 abbrev pub LoadsAllLeft : Rule → Type 0 → Type 0
 LoadsAllLeft rule A =
     (s : IterState) (a : Ahead) (old new : Texts) (answer : Result (Unit {0}) (Error A))
@@ -94,11 +95,11 @@ LoadsAllLeft rule A =
     Leaves (rule (values_of old) (recalled_of s.remembered) (entries ++ told_fault a.fault)) new
     answer
 
--- of both loads
+-- `load` and `load_override`, where not refused memory, load all entries left
 abbrev pub LoadsTakeAll : Type 0 → Type 0
 LoadsTakeAll A = LoadsAllLeft load_result A × LoadsAllLeft override_result A
 
--- to `load` what a source tells a second time leaves the values as they are, and answers the same
+-- a second `load` of the same bytes changes no value, and returns what the first did
 abbrev pub LoadsAgain : Type 0 → Type 0
 LoadsAgain A =
     (dialect : Dialect) (a : Ahead) (old new newer : Texts)
@@ -108,13 +109,13 @@ LoadsAgain A =
     LoadsFresh load_result dialect a new another newer →
     HaveSameValues new newer × AnswerTheSame answer another
 
--- a map holds the values of this look-up, by their bytes, and no others
+-- the map has the values of this look-up, by their bytes, and no others
 abbrev pub HoldsLoaded : Texts → LookUp → Type 0
 HoldsLoaded names look_up = (name : List ℕ) →
     fin.get names name ≡ option_map encode_utf8_all (look_up name)
 
--- after a load that leaves these values: its failure is answered, and the sink is as it was; else
--- the written form of the pairs is sent
+-- a listing of what a load leaves: the load's error is returned, and the sink is as it was; or the
+-- pairs are sent in their written form
 abbrev pub ListsValues : {A W : Type 0} → (W → Option (List ℕ)) → (W → Option ErrorKind) →
     (W → Option (List Call)) → W → W → LookUp → Result (Unit {0}) Failure →
     Result (Unit {0}) (Error A) → Type 0
@@ -124,14 +125,13 @@ ListsValues held last_fault calls old new look_up (Ok done) answer =
     (names : Texts) × HoldsLoaded names look_up
     × Writes held last_fault calls old new (written_bytes (pairs_of names)) answer
 
--- what a load leaves and answers is listed
+-- a listing of the values that this load leaves, or of its error
 abbrev pub ListsLoaded : {A W : Type 0} → (W → Option (List ℕ)) → (W → Option ErrorKind) →
     (W → Option (List Call)) → W → W → Loaded → Result (Unit {0}) (Error A) → Type 0
 ListsLoaded held last_fault calls old new loaded answer =
     ListsValues held last_fault calls old new loaded.env loaded.answer answer
 
--- a listing by a fresh iterator, which was not refused memory, is that of what the rule leaves where
--- no name has a value, of all that is told
+-- a listing that was not refused memory writes what `load` leaves in an empty environment
 abbrev pub ListsByRule : Type 0 → Type 0 → Type 0
 ListsByRule A W =
     (dialect : Dialect) (a : Ahead) (reads : Option (List Call)) (held : W → Option (List ℕ))

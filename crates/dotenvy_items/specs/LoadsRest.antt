@@ -1,4 +1,4 @@
--- What a load leaves and answers.
+-- What a load leaves in the environment, and what it returns.
 use Rattle.std.specs.Prelude.{ℕ, ◌≡◌, false, List, Result, Ok, Err}
 use Rattle.std.specs.FinMap as fin
 use Rattle.dotenvy_base.specs.declared.errors.Error.{Error}
@@ -14,7 +14,7 @@ use Rattle.dotenvy_lines.specs.Reading.{HasEntriesLeft, IsReading}
 use Rattle.dotenvy_items.specs.NextItem.{IsFailure}
 use Rattle.dotenvy_items.specs.Iter.{IterState, TellsLeft}
 
--- the answer says the same
+-- the result of a load says this answer
 abbrev pub IsAnswer : {A : Type 0} → Result (Unit {0}) Failure → Result (Unit {0}) (Error A) →
     Type 0
 IsAnswer (Ok done) (Ok r) = Unit {0}
@@ -22,17 +22,17 @@ IsAnswer (Ok done) (Err e) = ⊥
 IsAnswer (Err failure) (Ok r) = ⊥
 IsAnswer (Err failure) (Err e) = IsFailure failure e
 
--- the environment has the values that the load leaves, and the answer is its answer
+-- the environment has the values that the load leaves, and the result is the load's
 pub record Leaves {A : Type 0} (loaded : Loaded) (new : Texts)
     (answer : Result (Unit {0}) (Error A)) : Type 0 where
   pub values : (name : List ℕ) → values_of new name ≡ loaded.env name
   pub is_answer : IsAnswer loaded.answer answer
 
--- a rule of loads, which is given the environment before, what is remembered, and the entries that are read
+-- a rule of loads: from the environment before, what is remembered, and the entries that are read
 abbrev pub Rule : Type 0
 Rule = LookUp → LookUp → List Entry → Loaded
 
--- a load by this rule of what s has left, without a byte order mark at its front
+-- a load by this rule of what s has left, without the byte order mark at the start
 abbrev pub LoadsRest : {A : Type 0} → Rule → IterState → Texts → Result (Unit {0}) (Error A) →
     Texts → Type 0
 LoadsRest rule s old answer new =

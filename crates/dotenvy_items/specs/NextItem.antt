@@ -64,7 +64,7 @@ IsFailure Memory e = IsMemory e
 abbrev pub Item : Type 0 → Type 0
 Item A = Result (String A × String A) (Error A)
 
--- the item is this pair, by its characters, or says this failure
+-- an item that is given says this pair, by its characters, or this failure
 abbrev pub SaysItem : {A : Type 0} → Item A → Result (List ℕ × List ℕ) Failure → Type 0
 SaysItem (Ok pair) (Ok (key, value)) =
     (chars (string_bytes pair.0) ≡ key) × (chars (string_bytes pair.1) ≡ value)
@@ -77,7 +77,8 @@ abbrev pub entry_item : LookUp → Entry → Result (List ℕ × List ℕ) Failu
 entry_item look_up (Declares key pieces) = Ok (key, meaning look_up pieces)
 entry_item look_up (Fails failure) = Err failure
 
--- after a declaration its key stands for the value that it was given, and the other names for what they did; after a fault all do
+-- after a declaration its key stands for its value, and each other name for what it did; after a
+-- failure each name stands for what it did
 abbrev pub RemembersEntry : LookUp → LookUp → LookUp → Entry → Type 0
 RemembersEntry look_up old new (Declares key pieces) =
     (name : List ℕ) → text_of new name ≡ text_of (with_value old key (meaning look_up pieces)) name
@@ -90,13 +91,13 @@ DecideFirst dialect bytes entries =
     (more : List ℕ) (decided : List Entry) → HasDecided dialect more decided →
     HasDecided dialect (bytes ++ more) (entries ++ decided)
 
--- of what is told these logical lines were used, and no more; this is left
+-- of what is told exactly these logical lines were used, and this is left
 pub record UsesLines (a : Ahead) (lines : List Logical) (left : List ℕ) : Type 0 where
   pub count : ℕ
   pub are_first : AreFirstLines (whole_lines a) count lines
   pub rest : physical_lines left ≡ drop count (physical_lines a.bytes)
 
--- lines that give no entry were used, then the one that gives this entry, and nothing behind it
+-- lines that give no entry were used, then the one that gives this entry, and nothing after it
 pub record UsesUpTo (dialect : Dialect) (a : Ahead) (entry : Entry) (left : List ℕ) : Type 0 where
   pub silent : List Logical
   pub before : ℕ
@@ -106,16 +107,16 @@ pub record UsesUpTo (dialect : Dialect) (a : Ahead) (entry : Entry) (left : List
   pub gives : Gives dialect last (entry ∷ [])
   pub uses : UsesLines a (silent ++ last ∷ []) left
 
--- behind so many physical lines that give no entry an item took those up to the last one used, as
--- they are counted from s to t
+-- after so many physical lines that give no entry, an item takes the lines up to the last one used,
+-- as they are counted from s to t
 abbrev pub StandsOn : IterState → ℕ → ℕ → IterState → Type 0
 StandsOn s before used t =
     Counts s.lines.lines_taken (before + 1) t.item_lines.0
     × Counts s.lines.lines_taken used t.item_lines.1
     × Counts s.lines.lines_taken used t.lines.lines_taken
 
--- which bytes were used: those up to the end of the line that gives the entry; unless the end of
--- input was read, they decide the entry whatever follows
+-- which bytes were used for an entry: those up to the end of the line that gives it; unless the end
+-- of input was read, they decide the entry whatever follows
 pub record UsesForEntry (a : Ahead) (s : IterState) (entry : Entry) (t : IterState) : Type 0 where
   pub used : List ℕ
   pub left : List ℕ
@@ -123,14 +124,14 @@ pub record UsesForEntry (a : Ahead) (s : IterState) (entry : Entry) (t : IterSta
   pub reaches : UsesUpTo s.dialect a entry left
   pub stays : IsAtEnd a.fault left t.lines.input ⊎ DecideFirst s.dialect used (entry ∷ [])
 
--- the entry is the first of these, and the bytes left have the later ones
+-- the entry is the first of these entries, and the bytes left have the later ones
 pub record IsFirstEntry (dialect : Dialect) (fault : Option ErrorKind) (entries : List Entry)
     (entry : Entry) (left : List ℕ) : Type 0 where
   pub later : List Entry
   pub first : entries ≡ entry ∷ later
   pub has_left : HasEntriesLeft dialect fault left later
 
--- after the entry the iterator goes on in the same dialect, and remembers what the entry declares
+-- after an entry the iterator goes on in the same dialect, and remembers what the entry declares
 pub record GoesOnAfter (names : Texts) (s : IterState) (entry : Entry) (t : IterState)
     : Type 0 where
   pub goes_on : GoesOn t.lines
@@ -139,8 +140,8 @@ pub record GoesOnAfter (names : Texts) (s : IterState) (entry : Entry) (t : Iter
       RemembersEntry (names_of names s.remembered) (recalled_of s.remembered)
       (recalled_of t.remembered) entry
 
--- the entry was taken, the first of these, which are all that s has left: what it used, what it is,
--- the lines that it stands on, and how t goes on
+-- the entry was taken, the first of these, which are all that s has left: what was used for it,
+-- that it is the first, the lines that it is on, and how t goes on
 pub record TakesEntry (names : Texts) (a : Ahead) (s : IterState) (entries : List Entry)
     (entry : Entry) (t : IterState) : Type 0 where
   pub uses : UsesForEntry a s entry t
@@ -148,7 +149,8 @@ pub record TakesEntry (names : Texts) (a : Ahead) (s : IterState) (entries : Lis
   pub stands : StandsOn s uses.reaches.before uses.reaches.uses.count t
   pub after : GoesOnAfter names s entry t
 
--- the item under this environment: the first of the entries left; none where there is none and no fault; or a fault of reading, which stands on no line, where the bytes before it decide no entry
+-- the next item says the first of the entries left; it is none where there is none and no fault; or
+-- it is a fault of reading, on no line, before which no entry is decided
 abbrev pub ItemIs : {A : Type 0} → Texts → Ahead → IterState → List Entry →
     Option (Item A) → IterState → Type 0
 ItemIs names a s entries None t =
@@ -159,7 +161,8 @@ ItemIs names a s entries (Some item) t =
     ⊎ (FailsFor a s.lines.input item (λ bytes. HasDecided s.dialect bytes []) t.lines
     × (t.item_lines ≡ no_line))
 
--- the same of every iterator: one that has ended or failed gives none, and stays as it is
+-- what a call of `next_item` gives and leaves; an iterator that has ended or failed gives none, and
+-- stays as it is
 abbrev pub NextItem : {A : Type 0} → Texts → IterState → Option (Item A) → IterState → Type 0
 NextItem names s item t =
     (IsOpen s → (a : Ahead) → TellsLeft s a → (entries : List Entry) →

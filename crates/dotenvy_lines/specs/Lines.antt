@@ -1,4 +1,4 @@
--- What the splitter answers, and what it leaves.
+-- The state of an iterator over logical lines, and when it goes on, ends or fails.
 use Rattle.std.specs.Prelude.{
   ℕ,
   true,
@@ -30,24 +30,25 @@ use Rattle.dotenvy_format.specs.PhysicalLines.{line_texts}
 use Rattle.dotenvy_format.specs.Decided.{up_to_last_line_feed}
 use Rattle.dotenvy_lines.specs.Input.{InputState, input_code, IsTold, IsFinal, input_measure}
 
--- the bytes whose physical lines are whole: all, or before a fault those up to the last line feed
+-- the bytes of the complete lines: all, or those up to the last line feed where a fault follows
 abbrev pub whole_before : Option ErrorKind → List ℕ → List ℕ
 whole_before None bytes = bytes
 whole_before (Some kind) bytes = up_to_last_line_feed bytes
 
--- the physical lines that are whole
+-- the physical lines that are complete in what a source tells
 abbrev pub whole_lines : Ahead → List (Option (List ℕ))
 whole_lines a = line_texts (whole_before a.fault a.bytes)
 
--- an iterator over logical lines: its input; whether it is open, has ended or has failed; how many
--- physical lines were taken; and which of these, counted from 1, is the first of the last logical line
+-- an iterator over logical lines: what it has left; whether it is open, has ended or has failed;
+-- how many physical lines were taken; and the number, counted from 1, of the first physical line of
+-- the last logical line
 pub record LinesState : Type 0 where
   pub input : InputState
   pub stage : Stage
   pub lines_taken : ℕ
   pub first_line : ℕ
 
--- the state of lines as a tuple
+-- the state of logical lines, as a tuple
 abbrev pub lines_code : Coded LinesState
 lines_code =
     code_by (InputState × (Stage × (ℕ × ℕ)))
@@ -56,7 +57,7 @@ lines_code =
     (λ p. record { input = p.0; stage = p.1.0; lines_taken = p.1.1.0; first_line = p.1.1.1 })
     (λ _. refl)
 
--- counting so many more leads from one number to the other, as long as 64 bits hold it
+-- the new number is so many more than the old one, as long as 64 bits hold it
 abbrev pub Counts : ℕ → ℕ → ℕ → Type 0
 Counts old more new = old + more < 2 ^ 64 → new ≡ old + more
 
@@ -70,31 +71,31 @@ stage_measure Failed n = 0
 abbrev pub lines_measure : LinesState → ℕ
 lines_measure s = stage_measure s.stage (input_measure s.input)
 
--- where they are open, this holds of what the source tells of what is left
+-- if the iterator is open, this holds of what its source tells is left
 abbrev pub WhereOpen : LinesState → (Ahead → Type 0) → Type 0
 WhereOpen s P = (a : Ahead) → s.stage ≡ stage_open → IsTold s.input.left a → P a
 
--- the end was read, no fault stands there, and nothing is left
+-- the end of input was read without a fault, and no byte is left
 abbrev pub IsAtEnd : Option ErrorKind → List ℕ → InputState → Type 0
 IsAtEnd fault left t = (fault ≡ None) × (left ≡ []) × (t.at_end ≡ true)
 
--- the iterator goes on, or has ended with nothing left
+-- the iterator is open, or has ended with nothing left
 abbrev pub GoesOn : LinesState → Type 0
 GoesOn t =
     (t.stage ≡ stage_open)
     ⊎ ((t.stage ≡ Ended) × (t.input.left ≡ Some (record { bytes = []; fault = None })))
 
--- the iterator has failed by a fault that is final: in what is told, no logical line comes whole before it
+-- the result is a final fault: the iterator has failed, and P holds of the bytes before the fault
 abbrev pub FailsFor : {T A : Type 0} → Ahead → InputState → Result T (Error A) → (List ℕ → Type 0) →
     LinesState → Type 0
 FailsFor a s (Ok x) P t = ⊥
 FailsFor a s (Err e) P t = (t.stage ≡ Failed) × IsFinal a s P e t.input
 
--- what stands on no line is said to stand on line 0
+-- the first and the last line of what is on no line, as a final fault
 abbrev pub no_line : ℕ × ℕ
 no_line = (0, 0)
 
--- nothing was read of what a source tells
+-- an iterator before its first read: all that its source tells is left, with so many reads to make
 abbrev pub fresh_lines : Option Ahead → Option (List Call) → ℕ → LinesState
 fresh_lines ahead calls reads = record {
   input = record { left = ahead; unread = 0; reads = reads; at_end = false; calls = calls };

@@ -1,4 +1,4 @@
--- What the answer to one logical line adds to the items.
+-- What one logical line adds to the items.
 use Rattle.std.specs.Prelude.{ℕ, ◌≡◌, ◌⊎◌, List, [], ◌∷◌, Option, Some, None, Result, Ok, Err}
 use Rattle.std.specs.Str.{chars}
 use Rattle.dotenvy_base.specs.declared.errors.Error.{Error}
@@ -24,7 +24,7 @@ lines_after (EnvVar e) s = s
 lines_after (Nul key) s = s
 lines_after (Memory e) s = record s { stage = Failed }
 
--- no entry adds no item, and one entry its own; what is remembered then
+-- no entry adds no item, and one entry its own, after which its declaration is remembered
 abbrev pub AddsEntries : {A : Type 0} → Texts → Remembered → List Entry → Option (Item A) →
     Remembered → Type 0
 AddsEntries names old [] None new = new ≡ old
@@ -39,7 +39,7 @@ abbrev pub IsRefused : {A : Type 0} → Option (Item A) → LinesState → Type 
 IsRefused None t = ⊥
 IsRefused (Some item) t = IsMemoryErr item × (t.stage ≡ Failed)
 
--- the same, where it is no matter on which lines an item stands
+-- the state of an iterator, where the lines of the last item do not matter
 abbrev pub reading_of : LinesState → Remembered → Dialect → IterState
 reading_of lines remembered dialect = state_of lines remembered dialect no_line
 
@@ -48,7 +48,7 @@ abbrev pub item_lines_then : {T : Type 0} → Option T → LinesState → ℕ ×
 item_lines_then None lines before = before
 item_lines_then (Some item) lines before = last_lines lines
 
--- a text adds what it says, unless memory is refused; a fault adds itself
+-- a line's text adds what it says, unless memory is refused; a fault in its place adds itself
 abbrev pub AddsLine : {A : Type 0} → Texts → IterState → Result (Unit {0}) (Error A) → List ℕ →
     Option (Item A) → IterState → Type 0
 AddsLine names s (Ok _) text item t =

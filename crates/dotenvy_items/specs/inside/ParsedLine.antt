@@ -1,4 +1,4 @@
--- What the code answers for one logical line, and what it remembers.
+-- What the code returns for one logical line, and what it remembers.
 use Rattle.std.specs.Prelude.{
   ℕ,
   ◌≡◌,
@@ -30,20 +30,20 @@ use Rattle.dotenvy_items.specs.NextItem.{Item, entry_item}
 use Rattle.dotenvy_items.specs.Iteration.{SayItems}
 use Rattle.dotenvy_items.specs.Remembered.{Remembered}
 
--- what an answer for one line gives: no item, or one
+-- the items that the result for a line gives: none, or one
 abbrev pub given_items : {A : Type 0} → Result (Option (String A × String A)) (Error A) →
     List (Item A)
 given_items (Ok None) = []
 given_items (Ok (Some pair)) = Ok pair ∷ []
 given_items (Err e) = Err e ∷ []
 
--- the answer gives what the line's entries say, where names stand for these texts
+-- the result for a line gives what the line's entries say, where names stand for these texts
 abbrev pub IsLineAnswer : {A : Type 0} → LookUp → Outcome →
     Result (Option (String A × String A)) (Error A) → Type 0
 IsLineAnswer look_up outcome answer =
     SayItems (given_items answer) (map (entry_item look_up) (outcome_entries outcome))
 
--- a pair is remembered, with no value where nothing or a comment is assigned; else all stays
+-- a pair is remembered, without a value where nothing or a comment is assigned; else all stays
 abbrev pub Remembers : {A : Type 0} → List ℕ → Remembered → Remembered →
     Result (Option (String A × String A)) (Error A) → Type 0
 Remembers line old new (Ok None) = new ≡ old

@@ -34,13 +34,13 @@ use Rattle.dotenvy_base.specs.Source.{Ahead}
 use Rattle.dotenvy_base.specs.declared.errors.Error.{Error}
 use Rattle.dotenvy_base.specs.Errors.{IsMemory, IsIoOf}
 
--- the bytes that were read and not used, before those that the source tells, if its end was not read
+-- what is left to use: the unread bytes, and until the end was read those that the source tells
 abbrev pub left_of : Bool → Option Ahead → List ℕ → Option Ahead
 left_of true ahead unread = Some (record { bytes = unread; fault = None })
 left_of false None unread = None
 left_of false (Some a) unread = Some (record { bytes = unread ++ a.bytes; fault = a.fault })
 
--- where this is left, this holds of what the source tells of it, with no interrupted read
+-- if the source tells what is left, and no interrupted read, this holds of it
 abbrev pub WhereTold : Option Ahead → (Ahead → Type 0) → Type 0
 WhereTold left P = (a : Ahead) → IsTold left a → P a
 
@@ -48,20 +48,20 @@ WhereTold left P = (a : Ahead) → IsTold left a → P a
 abbrev pub IsAllRead : Ahead → ℕ → Type 0
 IsAllRead a unread = (length a.bytes ≡ unread) × (a.fault ≡ None)
 
--- the first n bytes are used up
+-- what is left after the first n bytes
 abbrev pub drop_left : ℕ → Option Ahead → Option Ahead
 drop_left n None = None
 drop_left n (Some a) = Some (record { bytes = drop n a.bytes; fault = a.fault })
 
--- the same input with so many bytes used
+-- the input after its first n unread bytes were used
 abbrev pub used_up : ℕ → InputState → InputState
 used_up n s = record s { left = drop_left n s.left; unread = s.unread - n }
 
--- the source answers this fault next
+-- the source has no bytes left, and gives this fault next
 abbrev pub FaultIsNext : Ahead → IoError → Type 0
 FaultIsNext a e = (a.bytes ≡ []) × (a.fault ≡ Some (error_kind e))
 
--- some of the bytes that are told were taken, and more than none but at the end
+-- a read took some of the bytes that the source tells: at least one, unless it met the end
 pub record Takes (a : Ahead) (old : List ℕ) (at_end : Bool) (after : Option Ahead) (new : List ℕ) :
     Type 0 where
   pub some : List ℕ
@@ -72,19 +72,19 @@ pub record Takes (a : Ahead) (old : List ℕ) (at_end : Bool) (after : Option Ah
   pub goes_on : 1 ≤ length some + end_reads at_end
   pub ends : at_end ≡ true → (later ≡ []) × (a.fault ≡ None)
 
--- one read of a source that tells
+-- one read of a source that tells its bytes: it took some of them, or it failed
 abbrev pub ReadsOnce : {A : Type 0} → Ahead → List ℕ → Result Bool (Error A) → Option Ahead →
     List ℕ → Type 0
 ReadsOnce a old (Ok at_end) after new = Takes a old at_end after new
 ReadsOnce a old (Err e) after new = IsMemory e ⊎ IsIoOf (FaultIsNext a) e
 
--- one read: something more was read, or the end
+-- one read: what is left to use stays as it is, or a fault comes right after the bytes read
 abbrev pub ReadsMore : {A : Type 0} → Ahead → InputState → Result (Unit {0}) (Error A) →
     InputState → Type 0
 ReadsMore a s (Ok _) t = (t.left ≡ Some a) × ReadsFit a s a t
 ReadsMore a s (Err e) t = IsFinal a s (λ bytes. length bytes ≡ s.unread) e t
 
--- of the unread bytes those up to the first line feed, and that one, or all where there is none
+-- the unread bytes up to the first line feed, with it, or all of them where there is none
 pub record IsLinePiece (s : InputState) (piece : List ℕ) (whole : Bool) : Type 0 where
   pub within : length piece ≤ s.unread
   pub is_line :
@@ -92,7 +92,8 @@ pub record IsLinePiece (s : InputState) (piece : List ℕ) (whole : Bool) : Type
       ((no_line_feed piece ≡ true) × (length piece ≡ s.unread))
   pub told : (a : Ahead) → s.left ≡ Some a → piece ≡ take (length piece) a.bytes
 
--- something is left to use, and some of it was read; or nothing, and the end was read; or a fault came before a byte
+-- whether something is left: a byte is unread; or the end was read, and nothing is left; or a fault
+-- came before any byte
 abbrev pub FindsMore : {A : Type 0} → Ahead → InputState → Result Bool (Error A) → InputState →
     Type 0
 FindsMore a s (Ok more) t =
@@ -100,7 +101,7 @@ FindsMore a s (Ok more) t =
     × MatchBool more (0 < t.unread) ((a.bytes ≡ []) × (a.fault ≡ None) × (t.at_end ≡ true))
 FindsMore a s (Err e) t = IsFinal a s (λ bytes. bytes ≡ []) e t
 
--- the first bytes of what is left were used: up to a line feed, or all that were read
+-- the unread bytes of the next line were used: up to its line feed, or all that were read
 pub record MovesLine (a : Ahead) (s : InputState) (whole : Bool) (t : InputState) : Type 0 where
   pub some : List ℕ
   pub left : List ℕ
@@ -112,7 +113,7 @@ pub record MovesLine (a : Ahead) (s : InputState) (whole : Bool) (t : InputState
   pub reads : t.reads ≡ s.reads
   pub at_end : t.at_end ≡ s.at_end
 
--- the line is the first physical line of what was left, and all of it where no line feed ends it
+-- the next physical line was used: the bytes up to its line feed, or all that was left
 pub record TakesLine (a : Ahead) (s : InputState) (line : List ℕ) (t : InputState) : Type 0 where
   pub left : List ℕ
   pub moves : Moves a s line left t
@@ -120,13 +121,13 @@ pub record TakesLine (a : Ahead) (s : InputState) (line : List ℕ) (t : InputSt
       (is_whole_line line ≡ true)
       ⊎ ((no_line_feed line ≡ true) × (left ≡ []) × (a.fault ≡ None) × (t.at_end ≡ true))
 
--- a physical line was passed by, or a fault that is told came before a line feed
+-- the next physical line was skipped, or a fault came before its line feed
 abbrev pub SkipsLine : {A : Type 0} → Ahead → InputState → Result (Unit {0}) (Error A) →
     InputState → Type 0
 SkipsLine a s (Ok _) t = (line : List ℕ) × TakesLine a s line t
 SkipsLine a s (Err e) t = IsFinal a s (λ bytes. no_line_feed bytes ≡ true) e t
 
--- one read of the source, which answers whether it met the end
+-- one read of the source, for at most 8,192 bytes; more may follow, unless it met the end or failed
 abbrev pub AsksOnce : {A : Type 0} → Option (List Call) → Result Bool (Error A) →
     Option (List Call) → Type 0
 AsksOnce before answer after =

@@ -1,4 +1,4 @@
--- What private functions of the splitter say of one another.
+-- How physical lines are joined to one logical line, and what `advance` makes of it.
 use Rattle.std.specs.Prelude.{
   ℕ,
   ◌≡◌,
@@ -45,7 +45,7 @@ use Rattle.dotenvy_lines.specs.Input.{InputState, IsFinal, input_measure}
 use Rattle.dotenvy_lines.specs.Lines.{Counts}
 use Rattle.dotenvy_lines.specs.inside.NextLine.{TakesNext, IsUndecided}
 
--- what a text that was begun is at the end of input
+-- what a logical line that was begun is at the end of input: whole, or still open, by its mode
 abbrev pub begun_at_end : LineMode → Joined
 begun_at_end Outside = Whole
 begun_at_end Escaping = OpenEnd
@@ -53,12 +53,12 @@ begun_at_end (Inside quote) = OpenEnd
 begun_at_end (InsideEscaping quote) = OpenEnd
 begun_at_end AfterBlank = OpenEnd
 
--- and nothing where none was
+-- what is joined at the end of input: nothing where the text is empty, else the line that was begun
 abbrev pub joined_at_end : List ℕ → LineMode → Joined
 joined_at_end [] m = Nothing
 joined_at_end (b ∷ text) m = begun_at_end m
 
--- what was joined is the next logical line, with this text, and so many physical lines
+-- what was joined is the next logical line, with this text, of so many physical lines
 abbrev pub TakesJoined : Ahead → InputState → Joined → List ℕ → ℕ → InputState → Type 0
 TakesJoined a s Nothing text count t = (a.bytes ≡ []) × (a.fault ≡ None)
 TakesJoined a s Skipped text count t = (text ≡ []) × TakesNext a s Skip count t
@@ -66,14 +66,14 @@ TakesJoined a s Whole text count t = TakesNext a s (Text (chars text)) count t
 TakesJoined a s OpenEnd text count t = TakesNext a s (Open (chars text) (length text)) count t
 TakesJoined a s BrokenLine text count t = TakesNext a s Broken count t
 
--- and those are counted, from one number to the other
+-- the next logical line was joined, and its physical lines were counted; or reading failed
 abbrev pub JoinsNext : {A : Type 0} → Ahead → InputState → ℕ → Result Joined (Error A) → List ℕ →
     InputState → ℕ → Type 0
 JoinsNext a s before (Ok joined) text t after =
     (count : ℕ) × TakesJoined a s joined text count t × Counts before count after
 JoinsNext a s before (Err e) text t after = IsFinal a s IsUndecided e t
 
--- something was used up, but at the end
+-- the measure of the input falls, unless there was no line
 abbrev pub UsesSome : InputState → Joined → InputState → Type 0
 UsesSome s Nothing t = Unit {0}
 UsesSome s Skipped t = input_measure t < input_measure s
@@ -81,11 +81,11 @@ UsesSome s Whole t = input_measure t < input_measure s
 UsesSome s OpenEnd t = input_measure t < input_measure s
 UsesSome s BrokenLine t = input_measure t < input_measure s
 
--- where what was read is used up, nothing is left to open
+-- ended where the input is used up, else open
 abbrev pub stage_if : Bool → Stage
 stage_if used_up = if used_up then Ended else stage_open
 
--- the stage behind what was joined, if it was not refused
+-- the stage after a line was joined: ended where there was none, or where the input is used up
 abbrev pub stage_joined : Joined → Bool → Stage
 stage_joined Nothing used_up = Ended
 stage_joined Skipped used_up = stage_if used_up
@@ -93,11 +93,12 @@ stage_joined Whole used_up = stage_if used_up
 stage_joined OpenEnd used_up = stage_if used_up
 stage_joined BrokenLine used_up = stage_if used_up
 
--- refused memory is final
+-- failed where memory was refused, else the stage after what was joined
 abbrev pub stage_after : Joined → Bool → Bool → Stage
 stage_after joined used_up refused = if refused then Failed else stage_joined joined used_up
 
--- what was joined, as an outcome
+-- what was joined, as the result of `advance`: none, a line, or the error of a line that is open or
+-- isn't UTF-8
 abbrev pub IsOutcome : {A : Type 0} → Joined → List ℕ → Option (Result (Unit {0}) (Error A)) →
     Type 0
 IsOutcome Nothing text r = r ≡ None
@@ -108,7 +109,7 @@ IsOutcome OpenEnd text r =
 IsOutcome BrokenLine text r =
     IsSomeAnd r (λ q. IsErrAnd q (IsIoOf (λ e. error_kind e ≡ InvalidData)))
 
--- the outcome says that memory was refused
+-- the result is the error that memory was refused
 abbrev pub is_refused : {A : Type 0} → Option (Result (Unit {0}) (Error A)) → Bool
 is_refused None = false
 is_refused (Some (Ok _)) = false

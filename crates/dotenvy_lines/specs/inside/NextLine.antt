@@ -1,4 +1,4 @@
--- How the next logical line is taken, and what the splitter answers for it.
+-- How the next logical line is taken, and what the splitter gives for it.
 use Rattle.dotenvy_lines.specs.Input.{InputState, Moves}
 use Rattle.dotenvy_lines.specs.Lines.{whole_lines, LinesState, Counts, IsAtEnd, GoesOn, FailsFor}
 use Rattle.std.specs.Prelude.{ℕ, ◌≡◌, ◌≢◌, ◌⊎◌, ◌++◌, List, [], drop, Option, Some, None, Result, Ok, Err, string_bytes}
@@ -14,18 +14,21 @@ use Rattle.dotenvy_format.specs.PhysicalLines.{physical_lines, line_texts}
 use Rattle.dotenvy_format.specs.Decided.{up_to_last_line_feed}
 use Rattle.dotenvy_format.specs.LogicalLine.{Logical, Skip, Text, Open, Broken, IsNext, IsOpenEnd}
 
--- the physical lines of bytes whose end was not reached: those up to the last line feed
+-- the physical lines that are complete in the bytes read so far: those up to the last line feed
 abbrev pub lines_so_far : List ℕ → List (Option (List ℕ))
 lines_so_far bytes = line_texts (up_to_last_line_feed bytes)
 
--- whatever follows the bytes, their first physical lines, so many, are this logical line
+-- whatever follows the bytes, the next logical line is this one, and they are its physical lines,
+-- so many
 abbrev pub IsNextAlways : List ℕ → ℕ → Logical → Type 0
 IsNextAlways bytes count next =
     (more : List ℕ) →
     (lines_so_far (bytes ++ more) ≢ []) × IsNext (lines_so_far (bytes ++ more)) count next
     × (drop count (lines_so_far (bytes ++ more)) ≡ lines_so_far more)
 
--- from s with a left the next logical line was taken, which is so many physical lines; an open end is one at the end of input alone. What follows these is left, and unless the end was read they are that line whatever follows
+-- the next logical line was taken, which is so many physical lines, and the bytes after these are
+-- left. Unless the end of input was read, the used bytes are that line whatever follows; a line
+-- that stays open is one at the end of input alone
 pub record TakesNext (a : Ahead) (s : InputState) (next : Logical) (count : ℕ) (t : InputState) :
     Type 0 where
   pub some : whole_lines a ≢ []
@@ -38,18 +41,20 @@ pub record TakesNext (a : Ahead) (s : InputState) (next : Logical) (count : ℕ)
   pub later : whole_lines (record { bytes = left; fault = a.fault }) ≡ drop count (whole_lines a)
   pub stays : IsAtEnd a.fault left t ⊎ ((IsOpenEnd next → ⊥) × IsNextAlways used count next)
 
--- of bytes whose end was not reached no logical line is whole
+-- in the bytes read so far no logical line is complete: the first one would stay open
 abbrev pub IsUndecided : List ℕ → Type 0
 IsUndecided bytes =
     (count : ℕ) (next : Logical) → lines_so_far bytes ≢ [] →
     IsNext (lines_so_far bytes) count next → IsOpenEnd next
 
--- a logical line of so many physical lines is counted: it begins behind those taken before
+-- a logical line of so many physical lines is counted; its first one is that after those taken
+-- before
 abbrev pub CountsLine : LinesState → ℕ → LinesState → Type 0
 CountsLine s count t =
     Counts s.lines_taken 1 t.first_line × Counts s.lines_taken count t.lines_taken
 
--- an error that stands in place of a line: an open end with its whole text and length, or a broken line
+-- the next logical line was taken, and is an error: it stays open, with its text and length, or it
+-- isn't UTF-8
 abbrev pub TakesFault : {A : Type 0} → Ahead → InputState → Error A → ℕ → InputState → Type 0
 TakesFault a s (LineParse text index) count t =
     TakesNext a s (Open (chars (string_bytes text)) index) count t
@@ -58,14 +63,16 @@ TakesFault a s (EnvVar e) count t = ⊥
 TakesFault a s (Nul key) count t = ⊥
 TakesFault a s (Memory e) count t = ⊥
 
--- the next line was taken: it left its text, or the empty text where it is skipped; or it is an error
+-- the next logical line was taken, and left its text: the empty text where the line is skipped; or
+-- it is an error
 abbrev pub TakesOutcome : {A : Type 0} → Ahead → InputState → Result (Unit {0}) (Error A) → List ℕ →
     ℕ → InputState → Type 0
 TakesOutcome a s (Ok _) line count t =
     ((line ≡ []) × TakesNext a s Skip count t) ⊎ TakesNext a s (Text (chars line)) count t
 TakesOutcome a s (Err e) line count t = TakesFault a s e count t
 
--- what an open splitter gives where a is left: the next line, whose text it leaves; the end; or a final error
+-- what an open splitter gives where a is left: the end, the next line and its text, or a final
+-- fault
 abbrev pub AdvanceIs : {A : Type 0} → Ahead → LinesState → Option (Result (Unit {0}) (Error A)) →
     List ℕ → LinesState → Type 0
 AdvanceIs a s None line t = (a.bytes ≡ []) × (a.fault ≡ None) × (t.stage ≡ Ended)
@@ -73,7 +80,7 @@ AdvanceIs a s (Some r) line t =
     ((count : ℕ) × TakesOutcome a s.input r line count t.input × CountsLine s count t × GoesOn t)
     ⊎ FailsFor a s.input r IsUndecided t
 
--- a line that is given as a text of its own, as the outcome of taking it
+-- a line that is given as a separate text, as the result of `advance`
 abbrev pub outcome_of : {A : Type 0} → Option (Result (String A) (Error A)) →
     Option (Result (Unit {0}) (Error A))
 outcome_of None = None
