@@ -1,29 +1,6 @@
 -- Facts on tests, options and lists that many proofs use.
-use Rattle.std.proofs.Common.{
-  ◌≡◌,
-  ◌≢◌,
-  ℕ,
-  ◌<◌,
-  List,
-  [],
-  ◌∷◌,
-  ◌++◌,
-  length,
-  ap,
-  sym,
-  ◌∙◌,
-  Bool,
-  true,
-  false,
-  cond,
-  ◌&&◌,
-  not,
-  Option,
-  Some,
-  T,
-  refl,
-  arith,
-}
+use Rattle.std.proofs.Common.{◌≡◌, ◌≢◌, ℕ, ◌<◌, List, [], ◌∷◌, ◌++◌, length, ap, sym, ◌∙◌, Bool}
+use Rattle.std.proofs.Common.{true, false, cond, ◌&&◌, not, Option, Some, T, refl, arith}
 use Rattle.std.specs.Prelude.{◌==◌, IfOk, Result, Ok, Err}
 use Rattle.std.proofs.lemmas.Bool.Decides.{nat_tests}
 

@@ -6,15 +6,8 @@ use Rattle.std.specs.Prelude.{Some, None, ◌&&◌, IsTrue}
 use Rattle.std.specs.List.{list_all}
 use Rattle.std.specs.Ordering.{is_eq, is_lt, nat_cmp, ordering_reverse}
 use Rattle.std.specs.Cmp.Lexicographic.{slice_cmp}
-use Rattle.std.specs.FinMap.{
-  find,
-  entries,
-  is_sorted,
-  entries_sorted,
-  get-entries,
-  nat_cmp-IsAntisymmetric,
-  slice_cmp-IsAntisymmetric,
-}
+use Rattle.std.specs.FinMap.{find, entries, is_sorted, entries_sorted, get-entries}
+use Rattle.std.specs.FinMap.{nat_cmp-IsAntisymmetric, slice_cmp-IsAntisymmetric}
 use Rattle.std.specs.FinMap.Entries.{below_all}
 use Rattle.std.specs.declared.cmp.Ordering.TheVariants.{Less, Equal, Greater}
 use Rattle.dotenvy_base.specs.Environment.{Env, IsEnvironment, AreGood, name_ok, value_ok, pair_ok}

@@ -1,36 +1,7 @@
 -- Paths as texts: the path of a name in a directory, and the directory above.
-use Rattle.std.proofs.Common.{
-  ◌≡◌,
-  ◌≢◌,
-  ℕ,
-  suc,
-  ◌+◌,
-  ◌-◌,
-  ◌<◌,
-  arith,
-  Bool,
-  true,
-  false,
-  not,
-  cond,
-  List,
-  [],
-  ◌∷◌,
-  ◌++◌,
-  Option,
-  Some,
-  None,
-  refl,
-  sym,
-  ◌∙◌,
-  ap,
-  length,
-  get_or,
-  take,
-  append_assoc,
-  ne_eqb,
-  length-take-le,
-}
+use Rattle.std.proofs.Common.{◌≡◌, ◌≢◌, ℕ, suc, ◌+◌, ◌-◌, ◌<◌, arith, Bool, true, false, not, cond}
+use Rattle.std.proofs.Common.{List, [], ◌∷◌, ◌++◌, Option, Some, None, refl, sym, ◌∙◌, ap, length}
+use Rattle.std.proofs.Common.{get_or, take, append_assoc, ne_eqb, length-take-le}
 use Rattle.std.specs.Prelude.{◌==◌, ◌||◌, slice_index}
 use Rattle.std.specs.List.{list_any, before_last, suffix_len}
 use Rattle.std.specs.Path.{path_join}

@@ -1,52 +1,13 @@
 -- A search asks one list of candidates, and has one answer.
-use Rattle.std.proofs.Common.{
-  ◌≡◌,
-  ℕ,
-  zero,
-  suc,
-  ◌+◌,
-  ◌<◌,
-  Bool,
-  true,
-  false,
-  not,
-  cond,
-  List,
-  [],
-  ◌∷◌,
-  map,
-  Option,
-  Some,
-  None,
-  refl,
-  sym,
-  ◌∙◌,
-  ap,
-  arith,
-  subst,
-  length,
-  min,
-  inl,
-  inr,
-}
+use Rattle.std.proofs.Common.{◌≡◌, ℕ, zero, suc, ◌+◌, ◌<◌, Bool, true, false, not, cond, List, []}
+use Rattle.std.proofs.Common.{◌∷◌, map, Option, Some, None, refl, sym, ◌∙◌, ap, arith, subst}
+use Rattle.std.proofs.Common.{length, min, inl, inr}
 use Rattle.std.specs.Prelude.{◌==◌, ◌-◌, ◌⊎◌, IsTrue}
 use Rattle.std.specs.List.{list_any, before_last, suffix_len}
 use Rattle.dotenvy_base.specs.declared.search.Look.{Look}
 use Rattle.std.proofs.lemmas.List.{length-take}
-use Rattle.dotenvy_base.specs.Search.{
-  slash,
-  is_slash,
-  path_in,
-  parent_part,
-  parent_of,
-  Ascends,
-  Answer,
-  ends_search,
-  AreAsked,
-  search_answer,
-  Searches,
-  Sees,
-}
+use Rattle.dotenvy_base.specs.Search.{slash, is_slash, path_in, parent_part, parent_of, Ascends}
+use Rattle.dotenvy_base.specs.Search.{Answer, ends_search, AreAsked, search_answer, Searches, Sees}
 use Rattle.dotenvy_base.proofs.Basics.{some_same}
 
 -- a length of 2 or more, less any number and 1, is less than it was

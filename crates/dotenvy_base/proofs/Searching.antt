@@ -1,37 +1,9 @@
 -- A search under way: what was asked so far, and each way out.
 use denote.Enum.Bare.{sameb}
 use Rattle.std.specs.contracts.io.ErrorKind.{the_type}
-use Rattle.std.proofs.Common.{
-  ◌≡◌,
-  ℕ,
-  suc,
-  ◌<◌,
-  Bool,
-  true,
-  false,
-  not,
-  cond,
-  List,
-  [],
-  ◌∷◌,
-  ◌++◌,
-  map,
-  Option,
-  Some,
-  None,
-  Result,
-  Ok,
-  Err,
-  refl,
-  sym,
-  ◌∙◌,
-  ap,
-  subst,
-  inl,
-  inr,
-  arith,
-  length,
-}
+use Rattle.std.proofs.Common.{◌≡◌, ℕ, suc, ◌<◌, Bool, true, false, not, cond, List, [], ◌∷◌, ◌++◌}
+use Rattle.std.proofs.Common.{map, Option, Some, None, Result, Ok, Err, refl, sym, ◌∙◌, ap, subst}
+use Rattle.std.proofs.Common.{inl, inr, arith, length}
 use Rattle.std.specs.Prelude.{◌⊎◌, IsTrue}
 use Rattle.std.specs.Option.{option_map}
 use Rattle.std.specs.IoError.{error_kind}
@@ -46,20 +18,9 @@ use Rattle.dotenvy_base.specs.declared.errors.Error.TheVariants.{Io}
 use Rattle.dotenvy_base.specs.declared.search.Look.{Look}
 use Rattle.dotenvy_base.specs.declared.search.Look.TheVariants.{File, Other, Fault}
 use Rattle.dotenvy_base.specs.Errors.{IsMemoryErr}
-use Rattle.dotenvy_base.specs.Search.{
-  path_in,
-  parent_of,
-  Ascends,
-  is_not_found,
-  ends_search,
-  AreAsked,
-  Answer,
-  FoundAt,
-  FoundNowhere,
-  EndedBy,
-  search_answer,
-  Searches,
-}
+use Rattle.dotenvy_base.specs.Search.{path_in, parent_of, Ascends, is_not_found, ends_search}
+use Rattle.dotenvy_base.specs.Search.{AreAsked, Answer, FoundAt, FoundNowhere, EndedBy}
+use Rattle.dotenvy_base.specs.Search.{search_answer, Searches}
 use Rattle.dotenvy_base.specs.Find.{LookStep, AsksInTurn, AnswersSearch, Finds, IsPathOf}
 use Rattle.dotenvy_base.proofs.Basics.{if_true, not_false}
 use Rattle.dotenvy_base.proofs.SearchOnce.{ascent_exists, search_exists, parent_shorter}

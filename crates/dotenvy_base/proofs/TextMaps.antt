@@ -1,41 +1,12 @@
 -- A map of strings, and the map of their bytes.
-use Rattle.std.proofs.Common.{
-  ◌≡◌,
-  ℕ,
-  Bool,
-  true,
-  false,
-  cond,
-  List,
-  [],
-  ◌∷◌,
-  ◌++◌,
-  filter,
-  T,
-  refl,
-  sym,
-  ◌∙◌,
-  ap,
-  subst,
-}
+use Rattle.std.proofs.Common.{◌≡◌, ℕ, Bool, true, false, cond, List, [], ◌∷◌, ◌++◌, filter, T, refl}
+use Rattle.std.proofs.Common.{sym, ◌∙◌, ap, subst}
 use Rattle.std.proofs.lemmas.List.{map-append, append-nil}
 use Rattle.std.proofs.lemmas.List.Elements.{filter-append}
 use Rattle.std.specs.Option.{option_or}
 use Rattle.std.proofs.lemmas.Option.{none-some}
-use Rattle.std.specs.Prelude.{
-  unwrap_or,
-  string_bytes,
-  Option,
-  Some,
-  None,
-  option_map,
-  IsTrue,
-  is_some,
-  Result,
-  Ok,
-  Err,
-  IfOk,
-}
+use Rattle.std.specs.Prelude.{unwrap_or, string_bytes, Option, Some, None, option_map, IsTrue}
+use Rattle.std.specs.Prelude.{is_some, Result, Ok, Err, IfOk}
 use Rattle.std.specs.List.{AllByRecursion, AllZip}
 use Rattle.std.specs.List.Sorted.{IsStrictlySortedBy}
 use Rattle.std.specs.Map.{lookup, keys_of}
@@ -44,41 +15,17 @@ use Rattle.std.specs.String.{string_cmp}
 use Rattle.std.specs.Ordering.{is_eq, is_lt, nat_cmp, match_ordering}
 use Rattle.std.proofs.lemmas.Cmp.{nat_list_cmp_total}
 use Rattle.std.specs.Cmp.Lexicographic.{slice_cmp}
-use Rattle.std.specs.FinMap.{
-  get-empty,
-  get,
-  insert,
-  entries,
-  from_entries,
-  from_sorted,
-  find,
-  put,
-  is_sorted,
-  get-from_entries,
-  get-from_sorted,
-  entries-from_sorted,
-  get-insert,
-  same_map,
-  from_entries_push,
-  contains_key,
-  slice_cmp-IsAntisymmetric,
-  nat_cmp-IsAntisymmetric,
-}
+use Rattle.std.specs.FinMap.{get-empty, get, insert, entries, from_entries, from_sorted, find, put}
+use Rattle.std.specs.FinMap.{is_sorted, get-from_entries, get-from_sorted, entries-from_sorted}
+use Rattle.std.specs.FinMap.{get-insert, same_map, from_entries_push, contains_key}
+use Rattle.std.specs.FinMap.{slice_cmp-IsAntisymmetric, nat_cmp-IsAntisymmetric}
 use Rattle.std.specs.FinMap.Entries.{by_order, below_all, find-put}
 use Rattle.std.specs.declared.string.String.{String}
 use Rattle.std.specs.declared.cmp.Ordering.{Ordering}
 use Rattle.std.specs.declared.cmp.Ordering.TheVariants.{Less, Equal, Greater}
 use Rattle.dotenvy_base.proofs.Basics.{and_left, and_right, both_hold}
-use Rattle.dotenvy_base.specs.Environment.{
-  text_entries,
-  Texts,
-  Env,
-  IsEnvironment,
-  KeepsNames,
-  name_ok,
-  value_ok,
-  pair_ok,
-}
+use Rattle.dotenvy_base.specs.Environment.{text_entries, Texts, Env, IsEnvironment, KeepsNames}
+use Rattle.dotenvy_base.specs.Environment.{name_ok, value_ok, pair_ok}
 
 -- the byte order of names
 abbrev pub bytes_cmp : List ℕ → List ℕ → Ordering

@@ -1,45 +1,8 @@
 -- One write after another: what was appended, the calls that were made, and the last fault.
-use Rattle.std.proofs.Common.{
-  ◌≡◌,
-  ◌≢◌,
-  ℕ,
-  zero,
-  suc,
-  ◌+◌,
-  ◌-◌,
-  ◌<◌,
-  ◌≤◌,
-  Bool,
-  true,
-  false,
-  cond,
-  not,
-  List,
-  [],
-  ◌∷◌,
-  ◌++◌,
-  length,
-  take,
-  drop,
-  length-drop,
-  length-append,
-  append_assoc,
-  append-nil,
-  Option,
-  Some,
-  None,
-  Ok,
-  Err,
-  inl,
-  inr,
-  ◌⊎◌,
-  refl,
-  sym,
-  ◌∙◌,
-  ap,
-  subst,
-  arith,
-}
+use Rattle.std.proofs.Common.{◌≡◌, ◌≢◌, ℕ, zero, suc, ◌+◌, ◌-◌, ◌<◌, ◌≤◌, Bool, true, false, cond}
+use Rattle.std.proofs.Common.{not, List, [], ◌∷◌, ◌++◌, length, take, drop, length-drop}
+use Rattle.std.proofs.Common.{length-append, append_assoc, append-nil, Option, Some, None, Ok, Err}
+use Rattle.std.proofs.Common.{inl, inr, ◌⊎◌, refl, sym, ◌∙◌, ap, subst, arith}
 use Rattle.std.specs.Prelude.{◌==◌}
 use Rattle.std.specs.IoError.{error_kind}
 use Rattle.std.specs.declared.io.Error.{Error}

@@ -1,25 +1,6 @@
 -- What an environment is: a finite map from names to values, as bytes, and a `loaded` flag.
-use Rattle.std.specs.Prelude.{
-  ℕ,
-  ◌≡◌,
-  Bool,
-  true,
-  false,
-  not,
-  ◌&&◌,
-  ◌==◌,
-  List,
-  [],
-  ◌∷◌,
-  map,
-  Some,
-  is_some,
-  string_bytes,
-  bytes_eq,
-  IsUtf8,
-  IsTrue,
-  refl,
-}
+use Rattle.std.specs.Prelude.{ℕ, ◌≡◌, Bool, true, false, not, ◌&&◌, ◌==◌, List, [], ◌∷◌, map, Some}
+use Rattle.std.specs.Prelude.{is_some, string_bytes, bytes_eq, IsUtf8, IsTrue, refl}
 use Rattle.std.specs.List.{list_all, list_any}
 use Rattle.std.specs.Ordering.{nat_cmp}
 use Rattle.std.specs.Bool.{beq}

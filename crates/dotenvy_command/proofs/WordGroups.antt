@@ -1,27 +1,6 @@
 -- Words that are groups and what follows them: one group more, and the ways to end.
-use Rattle.std.proofs.Common.{
-  ◌≡◌,
-  ℕ,
-  Bool,
-  true,
-  false,
-  ◌||◌,
-  List,
-  [],
-  ◌∷◌,
-  ◌++◌,
-  append_assoc,
-  append-nil,
-  length,
-  Result,
-  Ok,
-  Err,
-  refl,
-  sym,
-  ◌∙◌,
-  ap,
-  subst,
-}
+use Rattle.std.proofs.Common.{◌≡◌, ℕ, Bool, true, false, ◌||◌, List, [], ◌∷◌, ◌++◌, append_assoc}
+use Rattle.std.proofs.Common.{append-nil, length, Result, Ok, Err, refl, sym, ◌∙◌, ap, subst}
 use Rattle.std.specs.Prelude.{string_bytes, if◌then◌else◌}
 use Rattle.std.specs.List.{AllZip, flat_map, list_any}
 use Rattle.std.proofs.lemmas.List.{nil_from_length}
@@ -37,37 +16,12 @@ use Rattle.dotenvy_command.specs.Failures.{IsMemoryFailure}
 use Rattle.dotenvy_command.specs.Words as definition
 use Rattle.dotenvy_command.proofs.WordsOnce.{usage_exists}
 use Rattle.dotenvy_command.specs.inside.FirstGroup.{AreCommand, GroupBeginsWith, IsUnknown}
-use Rattle.dotenvy_command.specs.Words.{
-  Form,
-  Group,
-  file,
-  joined_file,
-  assigned_file,
-  list,
-  next,
-  WordsEnd,
-  nothing,
-  missing_file,
-  unknown,
-  command,
-  file_word,
-  AreGroups,
-  IsGroup,
-  IsWordsEnd,
-  group_words,
-  ending_words,
-  group_files,
-  is_list,
-  is_next,
-  CommandLine,
-  MissingCommand,
-  MissingFile,
-  UnknownOption,
-  command_line,
-  with_group,
-  answer_to,
-  HasUsage,
-}
+use Rattle.dotenvy_command.specs.Words.{Form, Group, file, joined_file, assigned_file, list, next}
+use Rattle.dotenvy_command.specs.Words.{WordsEnd, nothing, missing_file, unknown, command}
+use Rattle.dotenvy_command.specs.Words.{file_word, AreGroups, IsGroup, IsWordsEnd, group_words}
+use Rattle.dotenvy_command.specs.Words.{ending_words, group_files, is_list, is_next, CommandLine}
+use Rattle.dotenvy_command.specs.Words.{MissingCommand, MissingFile, UnknownOption, command_line}
+use Rattle.dotenvy_command.specs.Words.{with_group, answer_to, HasUsage}
 
 -- these words are groups and what is left, and the line is that of the groups
 abbrev pub SoFar : List (List ℕ) → List (List ℕ) → CommandLine → Type 0

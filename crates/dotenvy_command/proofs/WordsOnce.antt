@@ -1,61 +1,15 @@
 -- Words have one reading as groups and an ending.
-use Rattle.std.proofs.Common.{
-  ◌≡◌,
-  ℕ,
-  Bool,
-  true,
-  false,
-  ◌&&◌,
-  ◌||◌,
-  not,
-  List,
-  [],
-  ◌∷◌,
-  ◌++◌,
-  refl,
-  sym,
-  ◌∙◌,
-  ap,
-  append_assoc,
-  subst,
-  drop,
-  take,
-  length,
-  Result,
-}
+use Rattle.std.proofs.Common.{◌≡◌, ℕ, Bool, true, false, ◌&&◌, ◌||◌, not, List, [], ◌∷◌, ◌++◌, refl}
+use Rattle.std.proofs.Common.{sym, ◌∙◌, ap, append_assoc, subst, drop, take, length, Result}
 use Rattle.std.specs.Prelude.{IsTrue, codes, nat_eq, bytes_eq}
 use Rattle.std.specs.List.{flat_map, starts_with}
 use Rattle.std.specs.Cmp.Lexicographic.{same_text}
 use Rattle.std.proofs.lemmas.List.{take-append-drop}
-use Rattle.dotenvy_command.specs.Words.{
-  Form,
-  short,
-  long,
-  Group,
-  file,
-  joined_file,
-  assigned_file,
-  list,
-  next,
-  WordsEnd,
-  nothing,
-  missing_file,
-  unknown,
-  command,
-  file_word,
-  group_words,
-  ending_words,
-  is_option,
-  begins_group,
-  IsGroup,
-  AreGroups,
-  IsWordsEnd,
-  AreWords,
-  CommandLine,
-  Usage,
-  answer_to,
-  HasUsage,
-}
+use Rattle.dotenvy_command.specs.Words.{Form, short, long, Group, file, joined_file, assigned_file}
+use Rattle.dotenvy_command.specs.Words.{list, next, WordsEnd, nothing, missing_file, unknown}
+use Rattle.dotenvy_command.specs.Words.{command, file_word, group_words, ending_words, is_option}
+use Rattle.dotenvy_command.specs.Words.{begins_group, IsGroup, AreGroups, IsWordsEnd, AreWords}
+use Rattle.dotenvy_command.specs.Words.{CommandLine, Usage, answer_to, HasUsage}
 
 -- what a word is by itself
 pub data Kind : Type 0 where

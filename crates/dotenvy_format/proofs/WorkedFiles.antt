@@ -11,28 +11,14 @@ use Rattle.dotenvy_format.specs.declared.dialect.Dialect.TheVariants.{V15, Next}
 use Rattle.dotenvy_format.specs.Characters.{is_name_character}
 use Rattle.dotenvy_format.specs.PhysicalLines.{line_texts}
 use Rattle.dotenvy_format.specs.Entries.{Entry, GiveAll, HasEntries}
-use Rattle.dotenvy_format.specs.WorkedFiles.{
-  HaveLines,
-  HaveStatements,
-  HaveValues,
-  HaveOpenQuotes,
-  HaveDialects,
-  HaveMarks,
-  HaveWritten,
-  HaveDecisions,
-}
+use Rattle.dotenvy_format.specs.WorkedFiles.{HaveLines, HaveStatements, HaveValues, HaveOpenQuotes}
+use Rattle.dotenvy_format.specs.WorkedFiles.{HaveDialects, HaveMarks, HaveWritten, HaveDecisions}
 use Rattle.dotenvy_format.specs.WorkedLoads.{HaveRepeats, HaveNuls}
 use Rattle.dotenvy_format.specs.Decided.{up_to_last_line_feed, without_open_end, HasDecided}
 use Rattle.dotenvy_format.proofs.statements.Outcomes.{outcome_of-is}
 use Rattle.dotenvy_format.proofs.lines.EntriesOnce.{cut_line_texts}
-use Rattle.dotenvy_format.proofs.lines.NextEntries.{
-  lines_of,
-  logical_entries,
-  all_give,
-  are_lines_of,
-  entries_of_lines,
-  entries_of-are,
-}
+use Rattle.dotenvy_format.proofs.lines.NextEntries.{lines_of, logical_entries, all_give}
+use Rattle.dotenvy_format.proofs.lines.NextEntries.{are_lines_of, entries_of_lines, entries_of-are}
 
 -- the bytes have the entries that are computed
 computed : (dialect : Dialect) (bytes : List ℕ) (entries : List Entry) →

@@ -1,20 +1,6 @@
 -- What pieces mean, and the items of entries: keys with their values, under one environment.
-use Rattle.std.specs.Prelude.{
-  ℕ,
-  List,
-  [],
-  ◌∷◌,
-  ◌++◌,
-  Option,
-  Some,
-  None,
-  Result,
-  Ok,
-  Err,
-  unwrap_or,
-  bytes_eq,
-  if◌then◌else◌,
-}
+use Rattle.std.specs.Prelude.{ℕ, List, [], ◌∷◌, ◌++◌, Option, Some, None, Result, Ok, Err}
+use Rattle.std.specs.Prelude.{unwrap_or, bytes_eq, if◌then◌else◌}
 use Rattle.std.specs.Option.{option_or}
 use Rattle.dotenvy_format.specs.Value.{Piece, Text, Name}
 use Rattle.dotenvy_format.specs.Entries.{Failure, Entry, Declares, Fails}

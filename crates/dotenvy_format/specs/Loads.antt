@@ -1,23 +1,6 @@
 -- What both loads result in, said without a changing environment: by the environment before, and all declarations.
-use Rattle.std.specs.Prelude.{
-  ◌≡◌,
-  ℕ,
-  Bool,
-  true,
-  ◌&&◌,
-  List,
-  [],
-  ◌∷◌,
-  ◌++◌,
-  Some,
-  None,
-  Result,
-  Ok,
-  Err,
-  is_none,
-  bytes_eq,
-  if◌then◌else◌,
-}
+use Rattle.std.specs.Prelude.{◌≡◌, ℕ, Bool, true, ◌&&◌, List, [], ◌∷◌, ◌++◌, Some, None, Result, Ok}
+use Rattle.std.specs.Prelude.{Err, is_none, bytes_eq, if◌then◌else◌}
 use Rattle.std.specs.Option.{option_or}
 use Rattle.dotenvy_format.specs.Entries.{Failure, Entry, Declares, Fails, Nul}
 use Rattle.dotenvy_format.specs.Items.{LookUp, meaning, or_else, first_value}

@@ -1,24 +1,6 @@
 -- Logical lines: how many physical lines make the next one, and what it is.
-use Rattle.std.specs.Prelude.{
-  ◌≡◌,
-  ℕ,
-  suc,
-  ◌≤◌,
-  ◌<◌,
-  not,
-  ◌==◌,
-  List,
-  [],
-  ◌∷◌,
-  ◌++◌,
-  length,
-  take,
-  Option,
-  Some,
-  None,
-  IsTrue,
-  if◌then◌else◌,
-}
+use Rattle.std.specs.Prelude.{◌≡◌, ℕ, suc, ◌≤◌, ◌<◌, not, ◌==◌, List, [], ◌∷◌, ◌++◌, length, take}
+use Rattle.std.specs.Prelude.{Option, Some, None, IsTrue, if◌then◌else◌}
 use Rattle.std.specs.Str.{skip_leading_whitespace}
 use Rattle.dotenvy_format.specs.Characters.{is_blank, line_feed, carriage_return, backslash, hash, byte_len, begins_with}
 use Rattle.dotenvy_format.specs.Tokens.{Token, tokens_text, AreTokens}

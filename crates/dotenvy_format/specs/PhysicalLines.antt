@@ -1,22 +1,6 @@
 -- Physical lines: the bytes of a file, cut after each line feed. Characters are cut in the same way.
-use Rattle.std.specs.Prelude.{
-  ℕ,
-  Bool,
-  true,
-  false,
-  not,
-  ◌&&◌,
-  IsTrue,
-  List,
-  [],
-  ◌∷◌,
-  map,
-  Option,
-  Some,
-  None,
-  ◌==◌,
-  if◌then◌else◌,
-}
+use Rattle.std.specs.Prelude.{ℕ, Bool, true, false, not, ◌&&◌, IsTrue, List, [], ◌∷◌, map, Option}
+use Rattle.std.specs.Prelude.{Some, None, ◌==◌, if◌then◌else◌}
 use Rattle.std.specs.List.{list_all}
 use Rattle.std.specs.Str.{is_utf8, chars}
 use Rattle.dotenvy_format.specs.Characters.{line_feed}

@@ -1,39 +1,13 @@
 -- Values: what may be assigned to a key, and the pieces that it means.
-use Rattle.std.specs.Prelude.{
-  ◌≡◌,
-  ℕ,
-  Bool,
-  true,
-  false,
-  not,
-  ◌&&◌,
-  ◌||◌,
-  ◌==◌,
-  List,
-  [],
-  ◌∷◌,
-  ◌++◌,
-  IsTrue,
-  if◌then◌else◌,
-}
+use Rattle.std.specs.Prelude.{◌≡◌, ℕ, Bool, true, false, not, ◌&&◌, ◌||◌, ◌==◌, List, [], ◌∷◌, ◌++◌}
+use Rattle.std.specs.Prelude.{IsTrue, if◌then◌else◌}
 use Rattle.std.specs.List.{flat_map, list_all}
 use Rattle.dotenvy_format.specs.declared.dialect.Dialect.{Dialect}
 use Rattle.dotenvy_format.specs.declared.dialect.Dialect.TheVariants.{V15, Next}
-use Rattle.dotenvy_format.specs.Characters.{
-  is_space_or_tab,
-  is_name_character,
-  is_empty_or_comment,
-  begins_passing,
-  line_feed,
-  letter_n,
-  space,
-  single_quote,
-  double_quote,
-  dollar,
-  backslash,
-  left_brace,
-  right_brace,
-}
+use Rattle.dotenvy_format.specs.Characters.{is_space_or_tab, is_name_character, is_empty_or_comment}
+use Rattle.dotenvy_format.specs.Characters.{begins_passing, line_feed, letter_n, space}
+use Rattle.dotenvy_format.specs.Characters.{single_quote, double_quote, dollar, backslash}
+use Rattle.dotenvy_format.specs.Characters.{left_brace, right_brace}
 
 -- a piece of what a value means: a text, or a name, which is replaced by what it stands for
 pub data Piece : Type 0 where

@@ -1,30 +1,7 @@
 -- What a logical line says, as the item that it adds.
-use Rattle.std.proofs.Common.{
-  ◌≡◌,
-  ℕ,
-  Bool,
-  true,
-  false,
-  cond,
-  List,
-  [],
-  Option,
-  Some,
-  None,
-  Result,
-  Ok,
-  Err,
-  ◌⊎◌,
-  inl,
-  inr,
-  refl,
-  sym,
-  ◌∙◌,
-  ap,
-  subst,
-  unwrap_or,
-  string_bytes,
-}
+use Rattle.std.proofs.Common.{◌≡◌, ℕ, Bool, true, false, cond, List, [], Option, Some, None, Result}
+use Rattle.std.proofs.Common.{Ok, Err, ◌⊎◌, inl, inr, refl, sym, ◌∙◌, ap, subst, unwrap_or}
+use Rattle.std.proofs.Common.{string_bytes}
 use Rattle.std.specs.Prelude.{OnOk, IfErr, option_map, bytes_eq, if◌then◌else◌}
 use Rattle.std.specs.Str.{chars}
 use Rattle.std.specs.Result.{result_transpose}

@@ -1,20 +1,7 @@
 -- Look-ups by the characters of a name, in maps by its bytes.
 use Rattle.std.proofs.Common.{◌≡◌, ℕ, Bool, true, false, cond, List, Option, Some, None, refl, sym, ◌∙◌, ap}
-use Rattle.std.specs.Prelude.{
-  bytes_eq,
-  encode_utf8_all,
-  option_map,
-  is_none,
-  is_some,
-  not,
-  Result,
-  Ok,
-  Err,
-  IfSome,
-  IfOk,
-  IsTrue,
-  string_bytes,
-}
+use Rattle.std.specs.Prelude.{bytes_eq, encode_utf8_all, option_map, is_none, is_some, not, Result}
+use Rattle.std.specs.Prelude.{Ok, Err, IfSome, IfOk, IsTrue, string_bytes}
 use Rattle.std.specs.Option.{option_flatten}
 use Rattle.std.specs.Str.{chars, IsUtf8}
 use Rattle.std.specs.Ordering.{eq_by_cmp, nat_cmp}

@@ -1,26 +1,6 @@
 -- What a load leaves of one line, at each way out.
-use Rattle.std.proofs.Common.{
-  ◌≡◌,
-  ℕ,
-  Bool,
-  true,
-  false,
-  List,
-  [],
-  ◌∷◌,
-  Result,
-  Ok,
-  Err,
-  ◌⊎◌,
-  inl,
-  inr,
-  refl,
-  sym,
-  ◌∙◌,
-  ap,
-  subst,
-  string_bytes,
-}
+use Rattle.std.proofs.Common.{◌≡◌, ℕ, Bool, true, false, List, [], ◌∷◌, Result, Ok, Err, ◌⊎◌, inl}
+use Rattle.std.proofs.Common.{inr, refl, sym, ◌∙◌, ap, subst, string_bytes}
 use Rattle.std.specs.Prelude.{not, IsTrue, IfErr, MatchResult, OnOk, OnErr, if◌then◌else◌}
 use Rattle.std.specs.Str.{chars}
 use Rattle.std.specs.FinMap.{insert, get, contains_key}

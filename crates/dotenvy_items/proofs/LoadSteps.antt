@@ -1,32 +1,7 @@
 -- How far a load came, what each line adds, and how a load ends.
-use Rattle.std.proofs.Common.{
-  ◌≡◌,
-  ◌≢◌,
-  ℕ,
-  true,
-  List,
-  [],
-  ◌∷◌,
-  ◌++◌,
-  length,
-  length-append,
-  Option,
-  Some,
-  None,
-  Result,
-  Ok,
-  Err,
-  refl,
-  sym,
-  ◌∙◌,
-  ap,
-  subst,
-  inl,
-  inr,
-  append_assoc,
-  arith,
-  string_bytes,
-}
+use Rattle.std.proofs.Common.{◌≡◌, ◌≢◌, ℕ, true, List, [], ◌∷◌, ◌++◌, length, length-append, Option}
+use Rattle.std.proofs.Common.{Some, None, Result, Ok, Err, refl, sym, ◌∙◌, ap, subst, inl, inr}
+use Rattle.std.proofs.Common.{append_assoc, arith, string_bytes}
 use Rattle.std.specs.Prelude.{◌⊎◌}
 use Rattle.std.specs.Str.{chars}
 use Rattle.std.specs.IoError.{error_kind}
@@ -54,16 +29,8 @@ use Rattle.dotenvy_items.specs.Remembered.{Remembered}
 use Rattle.dotenvy_items.specs.Meaning.{values_of, recalled_of}
 use Rattle.dotenvy_base.specs.Calls.{Call}
 use Rattle.dotenvy_base.specs.Source.{Ahead}
-use Rattle.dotenvy_lines.specs.Input.{
-  InputState,
-  IsTold,
-  Moves,
-  BoundIsMet,
-  IsFinal,
-  begins_mark,
-  DropsMark,
-  end_reads,
-}
+use Rattle.dotenvy_lines.specs.Input.{InputState, IsTold, Moves, BoundIsMet, IsFinal, begins_mark}
+use Rattle.dotenvy_lines.specs.Input.{DropsMark, end_reads}
 use Rattle.dotenvy_lines.specs.Lines.{LinesState, IsAtEnd, GoesOn}
 use Rattle.dotenvy_lines.specs.inside.NextLine.{IsNextAlways, TakesNext, IsUndecided, AdvanceIs}
 use Rattle.dotenvy_lines.specs.Reading.{HasEntriesLeft, told_fault, certain_bytes, StopsAtBound, IsReading}
@@ -71,15 +38,8 @@ use Rattle.dotenvy_items.specs.LoadsRest.{IsAnswer, Leaves, Rule, LoadsRest}
 use Rattle.dotenvy_items.specs.inside.LoadStep.{LoadsLine}
 use Rattle.dotenvy_items.specs.Iter.{IterState, fresh}
 use Rattle.dotenvy_lines.proofs.Inputs.{ahead_of, the_bytes, the_fault, moves_on}
-use Rattle.dotenvy_lines.proofs.LineEntries.{
-  left_once,
-  left-none,
-  left-fault,
-  took,
-  no_lines,
-  decided-next,
-  decided-none,
-}
+use Rattle.dotenvy_lines.proofs.LineEntries.{left_once, left-none, left-fault, took, no_lines}
+use Rattle.dotenvy_lines.proofs.LineEntries.{decided-next, decided-none}
 use Rattle.dotenvy_format.proofs.statements.Outcomes.{one_outcome}
 use Rattle.dotenvy_format.proofs.loads.LoadRuns.{run-goes_on, run-stops, same-then}
 use Rattle.dotenvy_lines.proofs.DroppedMarks.{mark_decides, marked}

@@ -1,37 +1,7 @@
 -- The next item: the lines that add nothing are passed, and the first that adds one gives it.
-use Rattle.std.proofs.Common.{
-  ◌≡◌,
-  ◌≢◌,
-  ℕ,
-  ◌+◌,
-  ◌≤◌,
-  true,
-  false,
-  List,
-  [],
-  ◌∷◌,
-  ◌++◌,
-  length,
-  drop,
-  length-append,
-  append_assoc,
-  Option,
-  Some,
-  None,
-  Result,
-  Ok,
-  Err,
-  ◌⊎◌,
-  inl,
-  inr,
-  refl,
-  sym,
-  ◌∙◌,
-  ap,
-  subst,
-  arith,
-  string_bytes,
-}
+use Rattle.std.proofs.Common.{◌≡◌, ◌≢◌, ℕ, ◌+◌, ◌≤◌, true, false, List, [], ◌∷◌, ◌++◌, length, drop}
+use Rattle.std.proofs.Common.{length-append, append_assoc, Option, Some, None, Result, Ok, Err, ◌⊎◌}
+use Rattle.std.proofs.Common.{inl, inr, refl, sym, ◌∙◌, ap, subst, arith, string_bytes}
 use Rattle.std.specs.Str.{chars}
 use Rattle.std.specs.declared.string.String.{String}
 use Rattle.std.specs.declared.io.ErrorKind.{ErrorKind}
@@ -45,15 +15,8 @@ use Rattle.dotenvy_base.specs.declared.errors.Error.TheVariants.{LineParse, Io, 
 use Rattle.dotenvy_lines.specs.declared.lines.Stage.TheVariants.{Open, Ended, Failed}
 use Rattle.dotenvy_format.specs.LogicalLine.{Logical, Skip, Text, Open as OpenEnd, Broken, IsNext, IsOpenEnd}
 use Rattle.dotenvy_format.specs.Outcome.{Outcome, Nothing, Says}
-use Rattle.dotenvy_format.specs.Entries.{
-  Entry,
-  Fails,
-  LineParse as FailsLine,
-  Io as FailsIo,
-  outcome_entries,
-  Gives,
-  GiveAll,
-}
+use Rattle.dotenvy_format.specs.Entries.{Entry, Fails, LineParse as FailsLine, Io as FailsIo}
+use Rattle.dotenvy_format.specs.Entries.{outcome_entries, Gives, GiveAll}
 use Rattle.dotenvy_format.specs.PhysicalLines.{physical_lines}
 use Rattle.dotenvy_format.specs.Decided.{HasDecided}
 use Rattle.dotenvy_base.specs.Environment.{Texts}
@@ -68,14 +31,8 @@ use Rattle.dotenvy_items.specs.Meaning.{recalled_of}
 use Rattle.dotenvy_items.specs.Iter.{IterState, state_of}
 use Rattle.dotenvy_items.specs.NextItem.{DecideFirst, UsesLines, StandsOn, ItemIs}
 use Rattle.dotenvy_format.specs.Items.{text_of}
-use Rattle.dotenvy_items.specs.inside.ItemStep.{
-  lines_after,
-  AddsEntries,
-  IsRefused,
-  AddsLine,
-  item_lines_then,
-  reading_of,
-}
+use Rattle.dotenvy_items.specs.inside.ItemStep.{lines_after, AddsEntries, IsRefused, AddsLine}
+use Rattle.dotenvy_items.specs.inside.ItemStep.{item_lines_then, reading_of}
 use Rattle.dotenvy_items.specs.Remembered.{Remembered}
 use Rattle.dotenvy_lines.proofs.Inputs.{ahead_of, moves_none, moves_on, final_before}
 use Rattle.dotenvy_lines.proofs.LineEntries.{left_once, left-none, took, no_lines, decided-next, decided-none}

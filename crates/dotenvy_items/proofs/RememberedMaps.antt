@@ -10,16 +10,8 @@ use Rattle.std.specs.Cmp.{eq_by_cmp_equiv}
 use Rattle.std.proofs.lemmas.Cmp.{nat_list_cmp_total}
 use Rattle.std.proofs.lemmas.Map.Text.{is_eq-slice_cmp, hash_map_updates_text}
 use Rattle.std.specs.Cmp.Lexicographic.{slice_cmp}
-use Rattle.std.specs.FinMap.{
-  get,
-  insert,
-  find,
-  get-from_entries,
-  get-insert,
-  same_map,
-  slice_cmp-IsAntisymmetric,
-  nat_cmp-IsAntisymmetric,
-}
+use Rattle.std.specs.FinMap.{get, insert, find, get-from_entries, get-insert, same_map}
+use Rattle.std.specs.FinMap.{slice_cmp-IsAntisymmetric, nat_cmp-IsAntisymmetric}
 use Rattle.std.specs.declared.string.String.{String}
 use Rattle.dotenvy_items.specs.Remembered.{remembered_of}
 

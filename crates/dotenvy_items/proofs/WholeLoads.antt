@@ -1,33 +1,7 @@
 -- A load that was not refused memory is the load of all that is left.
-use Rattle.std.proofs.Common.{
-  ◌≡◌,
-  ℕ,
-  Bool,
-  true,
-  false,
-  ◌&&◌,
-  cond,
-  List,
-  [],
-  ◌∷◌,
-  ◌++◌,
-  length,
-  length-append,
-  append_assoc,
-  Some,
-  Result,
-  Ok,
-  Err,
-  refl,
-  sym,
-  ◌∙◌,
-  ap,
-  subst,
-  inl,
-  inr,
-  ⊎_elim,
-  arith,
-}
+use Rattle.std.proofs.Common.{◌≡◌, ℕ, Bool, true, false, ◌&&◌, cond, List, [], ◌∷◌, ◌++◌, length}
+use Rattle.std.proofs.Common.{length-append, append_assoc, Some, Result, Ok, Err, refl, sym, ◌∙◌}
+use Rattle.std.proofs.Common.{ap, subst, inl, inr, ⊎_elim, arith}
 use Rattle.std.specs.Prelude.{◌⊎◌}
 use Rattle.dotenvy_format.specs.declared.dialect.Dialect.{Dialect}
 use Rattle.dotenvy_base.specs.declared.errors.Error.{Error}
@@ -35,16 +9,8 @@ use Rattle.dotenvy_format.specs.Entries.{Failure, Memory, Nul, Entry, Declares, 
 use Rattle.std.specs.FinMap.{empty}
 use Rattle.dotenvy_format.specs.Items.{LookUp, meaning, or_else, first_value}
 use Rattle.dotenvy_format.specs.Run.{has_nul}
-use Rattle.dotenvy_format.specs.Loads.{
-  Declared,
-  declared_from,
-  load_look_up,
-  override_look_up,
-  is_first_of_absent,
-  load_result,
-  override_result,
-  last_value,
-}
+use Rattle.dotenvy_format.specs.Loads.{Declared, declared_from, load_look_up, override_look_up}
+use Rattle.dotenvy_format.specs.Loads.{is_first_of_absent, load_result, override_result, last_value}
 use Rattle.dotenvy_base.specs.Environment.{Texts}
 use Rattle.dotenvy_base.specs.Errors.{IsMemoryErr}
 use Rattle.dotenvy_items.specs.Meaning.{values_of, recalled_of}

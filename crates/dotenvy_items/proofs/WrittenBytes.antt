@@ -1,28 +1,7 @@
 -- The written form by its bytes: character by character, pair by pair, and how many there are.
-use Rattle.std.proofs.Common.{
-  ◌≡◌,
-  ℕ,
-  ◌+◌,
-  Bool,
-  true,
-  false,
-  cond,
-  List,
-  [],
-  ◌∷◌,
-  ◌++◌,
-  ◌≤◌,
-  map,
-  filter,
-  refl,
-  sym,
-  ◌∙◌,
-  ap,
-  arith,
-  length,
-  length-append,
-  append_assoc,
-}
+use Rattle.std.proofs.Common.{◌≡◌, ℕ, ◌+◌, Bool, true, false, cond, List, [], ◌∷◌, ◌++◌, ◌≤◌, map}
+use Rattle.std.proofs.Common.{filter, refl, sym, ◌∙◌, ap, arith, length, length-append}
+use Rattle.std.proofs.Common.{append_assoc}
 use lib.Utf8.{encode}
 use Rattle.std.specs.Prelude.{encode_utf8, encode_utf8_all, Result, Ok, is_ok, ◌-◌, ◌^◌}
 use Rattle.std.specs.List.{flat_map, list_all}

@@ -22,15 +22,8 @@ use Rattle.dotenvy_lines.specs.Reading.{HasEntriesLeft, told_fault}
 use Rattle.dotenvy_items.specs.Iter.{IterState, fresh}
 use Rattle.dotenvy_items.specs.Listed.{Lists, pairs_of}
 use Rattle.dotenvy_items.specs.LoadsRest.{IsAnswer, Rule, Leaves, LoadsRest}
-use Rattle.dotenvy_items.specs.Iteration.{
-  GivesItems,
-  NoneRefused,
-  IsReadable,
-  CanRead,
-  SayItems,
-  SayTheSame,
-  AnswerTheSame,
-}
+use Rattle.dotenvy_items.specs.Iteration.{GivesItems, NoneRefused, IsReadable, CanRead, SayItems}
+use Rattle.dotenvy_items.specs.Iteration.{SayTheSame, AnswerTheSame}
 use Rattle.dotenvy_items.specs.NextItem.{Item}
 
 -- a fresh iterator gives the items of its source's bytes, all and in order, and last the fault that

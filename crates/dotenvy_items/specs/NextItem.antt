@@ -1,25 +1,6 @@
 -- What the next item is, and what it leaves.
-use Rattle.std.specs.Prelude.{
-  ℕ,
-  ◌≡◌,
-  ◌⊎◌,
-  ◌+◌,
-  List,
-  [],
-  ◌∷◌,
-  ◌++◌,
-  Option,
-  Some,
-  None,
-  Result,
-  Ok,
-  Err,
-  IfSome,
-  IfOk,
-  IsTrue,
-  drop,
-  string_bytes,
-}
+use Rattle.std.specs.Prelude.{ℕ, ◌≡◌, ◌⊎◌, ◌+◌, List, [], ◌∷◌, ◌++◌, Option, Some, None, Result, Ok}
+use Rattle.std.specs.Prelude.{Err, IfSome, IfOk, IsTrue, drop, string_bytes}
 use Rattle.std.specs.Str.{chars}
 use Rattle.std.specs.IoError.{error_kind}
 use Rattle.std.specs.declared.io.ErrorKind.{ErrorKind}
@@ -29,19 +10,8 @@ use Rattle.dotenvy_lines.specs.declared.lines.Stage.TheVariants.{Ended}
 use Rattle.dotenvy_base.specs.Errors.{IsMemory, IsNulOf, IsIoOf, IsLineParseOf}
 use Rattle.dotenvy_format.specs.PhysicalLines.{physical_lines}
 use Rattle.dotenvy_format.specs.LogicalLine.{Logical}
-use Rattle.dotenvy_format.specs.Entries.{
-  Failure,
-  LineParse,
-  Io,
-  Nul,
-  Memory,
-  Entry,
-  Declares,
-  Fails,
-  AreFirstLines,
-  Gives,
-  GiveAll,
-}
+use Rattle.dotenvy_format.specs.Entries.{Failure, LineParse, Io, Nul, Memory, Entry, Declares}
+use Rattle.dotenvy_format.specs.Entries.{Fails, AreFirstLines, Gives, GiveAll}
 use Rattle.dotenvy_format.specs.declared.dialect.Dialect.{Dialect}
 use Rattle.dotenvy_format.specs.Decided.{HasDecided}
 use Rattle.dotenvy_format.specs.Items.{LookUp, text_of, meaning, with_value}

@@ -1,23 +1,6 @@
 -- What a byte order mark at the front of bytes decides, and what is used up with it.
-use Rattle.std.proofs.Common.{
-  ◌≡◌,
-  ℕ,
-  Bool,
-  true,
-  false,
-  ◌&&◌,
-  List,
-  [],
-  ◌∷◌,
-  ◌++◌,
-  length,
-  drop,
-  refl,
-  sym,
-  ◌∙◌,
-  ap,
-  arith,
-}
+use Rattle.std.proofs.Common.{◌≡◌, ℕ, Bool, true, false, ◌&&◌, List, [], ◌∷◌, ◌++◌, length, drop}
+use Rattle.std.proofs.Common.{refl, sym, ◌∙◌, ap, arith}
 use Rattle.std.proofs.lemmas.Bool.{ltb-true}
 use Rattle.std.specs.Prelude.{◌==◌, nat_eq, nat_lt}
 use Rattle.std.specs.List.{starts_with}

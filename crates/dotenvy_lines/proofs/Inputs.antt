@@ -1,41 +1,8 @@
 -- Reads, and the first lines of bytes.
-use Rattle.std.proofs.Common.{
-  ◌≡◌,
-  ℕ,
-  suc,
-  ◌+◌,
-  ◌<◌,
-  ◌≤◌,
-  Bool,
-  true,
-  false,
-  cond,
-  not,
-  ◌&&◌,
-  List,
-  [],
-  ◌∷◌,
-  ◌++◌,
-  length,
-  take,
-  drop,
-  refl,
-  sym,
-  ◌∙◌,
-  ap,
-  subst,
-  inl,
-  inr,
-  append-nil,
-  append_assoc,
-  ◌⊎◌,
-  arith,
-  nat_lt,
-  position,
-  length-append,
-  length-drop,
-  get_or,
-}
+use Rattle.std.proofs.Common.{◌≡◌, ℕ, suc, ◌+◌, ◌<◌, ◌≤◌, Bool, true, false, cond, not, ◌&&◌, List}
+use Rattle.std.proofs.Common.{[], ◌∷◌, ◌++◌, length, take, drop, refl, sym, ◌∙◌, ap, subst, inl}
+use Rattle.std.proofs.Common.{inr, append-nil, append_assoc, ◌⊎◌, arith, nat_lt, position}
+use Rattle.std.proofs.Common.{length-append, length-drop, get_or}
 use Rattle.std.specs.Prelude.{Option, Some, None, unwrap_or, ◌==◌, nat_eq, MatchBool}
 use Rattle.std.specs.IoError.{error_kind}
 use Rattle.std.proofs.Math.Seq.{take-append_seam}
@@ -60,17 +27,8 @@ use Rattle.dotenvy_base.proofs.Basics.{nil_of}
 use Rattle.dotenvy_format.proofs.Basics.{and_left, and_right}
 use Rattle.dotenvy_base.specs.Errors.{IsMemory, IsIoOf}
 use Rattle.dotenvy_lines.specs.Input.{InputState, IsTold, ReadsFit, IsReadFault, IsFinal, end_reads, Moves, begins_mark}
-use Rattle.dotenvy_lines.specs.inside.InputSteps.{
-  left_of,
-  IsAllRead,
-  FaultIsNext,
-  Takes,
-  drop_left,
-  used_up,
-  IsLinePiece,
-  MovesLine,
-  TakesLine,
-}
+use Rattle.dotenvy_lines.specs.inside.InputSteps.{left_of, IsAllRead, FaultIsNext, Takes, drop_left}
+use Rattle.dotenvy_lines.specs.inside.InputSteps.{used_up, IsLinePiece, MovesLine, TakesLine}
 
 -- the byte is a line feed
 abbrev is_lf : ℕ → Bool

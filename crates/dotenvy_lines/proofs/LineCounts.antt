@@ -1,23 +1,6 @@
 -- There are no more entries than physical lines.
-use Rattle.std.proofs.Common.{
-  ◌≡◌,
-  ℕ,
-  ◌≤◌,
-  List,
-  [],
-  ◌∷◌,
-  length,
-  length-append,
-  length-drop,
-  drop,
-  Option,
-  Some,
-  None,
-  refl,
-  ◌∙◌,
-  ap,
-  arith,
-}
+use Rattle.std.proofs.Common.{◌≡◌, ℕ, ◌≤◌, List, [], ◌∷◌, length, length-append, length-drop, drop}
+use Rattle.std.proofs.Common.{Option, Some, None, refl, ◌∙◌, ap, arith}
 use Rattle.std.proofs.lemmas.List.{length-map}
 use Rattle.std.specs.declared.io.ErrorKind.{ErrorKind}
 use Rattle.dotenvy_format.specs.declared.dialect.Dialect.{Dialect}

@@ -1,39 +1,7 @@
 -- The splitter's loop over physical lines: what it keeps, and a theorem for each way out of it.
-use Rattle.std.proofs.Common.{
-  ◌≡◌,
-  ◌≢◌,
-  ℕ,
-  zero,
-  suc,
-  Bool,
-  true,
-  false,
-  cond,
-  not,
-  List,
-  [],
-  ◌∷◌,
-  ◌++◌,
-  ◌+◌,
-  ◌≤◌,
-  map,
-  length,
-  drop,
-  refl,
-  sym,
-  ◌∙◌,
-  ap,
-  subst,
-  append_assoc,
-  arith,
-  length-append,
-  Some,
-  None,
-  Option,
-  inl,
-  inr,
-  ◌⊎◌,
-}
+use Rattle.std.proofs.Common.{◌≡◌, ◌≢◌, ℕ, zero, suc, Bool, true, false, cond, not, List, [], ◌∷◌}
+use Rattle.std.proofs.Common.{◌++◌, ◌+◌, ◌≤◌, map, length, drop, refl, sym, ◌∙◌, ap, subst}
+use Rattle.std.proofs.Common.{append_assoc, arith, length-append, Some, None, Option, inl, inr, ◌⊎◌}
 use Rattle.std.specs.Prelude.{◌==◌, ◌^◌, ◌-◌, min, IsUtf8, encode_utf8_all, Result, Ok, Err}
 use Rattle.std.specs.List.{concat}
 use Rattle.std.specs.Str.{chars, is_utf8, skip_leading_whitespace}
@@ -44,61 +12,31 @@ use Rattle.std.proofs.lemmas.Str.{chars-nil, encodes-chars, is_utf8-from_IsUtf8,
 use Rattle.dotenvy_base.specs.declared.errors.Error.{Error}
 use Rattle.dotenvy_base.specs.declared.errors.Error.TheVariants.{LineParse, Io, EnvVar, Nul, Memory}
 use Rattle.dotenvy_format.specs.declared.walk.LineMode.{LineMode}
-use Rattle.dotenvy_format.specs.declared.walk.LineMode.TheVariants.{
-  Outside,
-  Escaping,
-  Inside,
-  InsideEscaping,
-  AfterBlank,
-}
+use Rattle.dotenvy_format.specs.declared.walk.LineMode.TheVariants.{Outside, Escaping, Inside}
+use Rattle.dotenvy_format.specs.declared.walk.LineMode.TheVariants.{InsideEscaping, AfterBlank}
 use Rattle.dotenvy_lines.specs.declared.lines.Joined.{Joined}
 use Rattle.dotenvy_lines.specs.declared.lines.Joined.TheVariants.{Nothing, Skipped, Whole, OpenEnd, BrokenLine}
 use Rattle.dotenvy_lines.specs.declared.lines.Stage.{Stage}
 use Rattle.dotenvy_lines.specs.declared.lines.Stage.TheVariants.{Open as stage_open, Ended}
 use Rattle.dotenvy_format.specs.Characters.{begins_with, hash, line_feed, byte_len}
-use Rattle.dotenvy_format.specs.PhysicalLines.{
-  no_line_feed,
-  physical_lines,
-  line_text,
-  line_texts,
-  is_whole_line,
-  is_last_line,
-  AreCut,
-}
+use Rattle.dotenvy_format.specs.PhysicalLines.{no_line_feed, physical_lines, line_text, line_texts}
+use Rattle.dotenvy_format.specs.PhysicalLines.{is_whole_line, is_last_line, AreCut}
 use Rattle.dotenvy_format.specs.Decided.{before_some, up_to_last_line_feed}
-use Rattle.dotenvy_format.specs.LogicalLine.{
-  Skip,
-  Text,
-  Open,
-  Broken,
-  IsNext,
-  IsSkipped,
-  IsOneLine,
-  IsWhole,
-  input_end,
-  IsOpenEnd,
-}
+use Rattle.dotenvy_format.specs.LogicalLine.{Skip, Text, Open, Broken, IsNext, IsSkipped, IsOneLine}
+use Rattle.dotenvy_format.specs.LogicalLine.{IsWhole, input_end, IsOpenEnd}
 use Rattle.dotenvy_format.specs.inside.Walk.{walk, going, ended}
 use Rattle.dotenvy_base.specs.Source.{Ahead}
 use Rattle.dotenvy_lines.specs.Input.{InputState, IsTold, ReadsFit, IsFinal, Moves, end_reads}
 use Rattle.dotenvy_lines.specs.inside.InputSteps.{TakesLine}
 use Rattle.dotenvy_lines.specs.Lines.{LinesState, whole_before, whole_lines, IsAtEnd, Counts, GoesOn}
 use Rattle.dotenvy_lines.specs.inside.NextLine.{lines_so_far, IsNextAlways, TakesNext, IsUndecided, AdvanceIs}
-use Rattle.dotenvy_lines.specs.inside.JoinedLines.{
-  begun_at_end,
-  joined_at_end,
-  TakesJoined,
-  is_refused,
-  stage_after,
-  IsOutcome,
-}
+use Rattle.dotenvy_lines.specs.inside.JoinedLines.{begun_at_end, joined_at_end, TakesJoined}
+use Rattle.dotenvy_lines.specs.inside.JoinedLines.{is_refused, stage_after, IsOutcome}
 use Rattle.dotenvy_lines.specs.declared.physical_line.Taken.{Taken}
-use Rattle.dotenvy_lines.specs.declared.physical_line.Taken.TheVariants.{
-  Going as taken_going,
-  Ended as taken_ended,
-  Comment as taken_comment,
-  Broken as taken_broken,
-}
+use Rattle.dotenvy_lines.specs.declared.physical_line.Taken.TheVariants.{Going as taken_going}
+use Rattle.dotenvy_lines.specs.declared.physical_line.Taken.TheVariants.{Ended as taken_ended}
+use Rattle.dotenvy_lines.specs.declared.physical_line.Taken.TheVariants.{Comment as taken_comment}
+use Rattle.dotenvy_lines.specs.declared.physical_line.Taken.TheVariants.{Broken as taken_broken}
 use Rattle.dotenvy_lines.proofs.NumberedLines.{counts_one, counts_none}
 use Rattle.dotenvy_lines.specs.inside.TakenLine.{LineMakes}
 use Rattle.dotenvy_format.proofs.lines.Scans as scans
@@ -109,21 +47,10 @@ use Rattle.dotenvy_format.proofs.lines.NextLine.{whole_line, last_line, ends_lin
 use Rattle.dotenvy_format.proofs.lines.EntriesOnce.{cut_line_texts, whole_chars, one_last}
 use Rattle.dotenvy_format.proofs.lines.DecidedFront.{tokens_end}
 use Rattle.dotenvy_format.proofs.lines.Splitting.{IsGoing, going_start, IsWalked, walk-is}
-use Rattle.dotenvy_format.proofs.lines.SplitLines.{
-  left_after,
-  left_after_broken,
-  line_is_one,
-  at_input_end,
-  at_end,
-  reads_all,
-  next-skip,
-  next-text,
-  next-open,
-  next-broken,
-  Lines,
-  concat_more,
-  lines_more,
-}
+use Rattle.dotenvy_format.proofs.lines.SplitLines.{left_after, left_after_broken, line_is_one}
+use Rattle.dotenvy_format.proofs.lines.SplitLines.{at_input_end, at_end, reads_all, next-skip}
+use Rattle.dotenvy_format.proofs.lines.SplitLines.{next-text, next-open, next-broken, Lines}
+use Rattle.dotenvy_format.proofs.lines.SplitLines.{concat_more, lines_more}
 use Rattle.dotenvy_lines.proofs.Inputs.{ahead_of, moves_none, moves_on, moves_still, final_before}
 
 -- up to their last line feed, a line with its line feed and more bytes are that line and what those have

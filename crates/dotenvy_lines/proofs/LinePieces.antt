@@ -1,51 +1,10 @@
 -- The pieces of a physical line: how far they are text, and what stands behind that.
-use Rattle.std.proofs.Common.{
-  ◌≡◌,
-  ◌≢◌,
-  ℕ,
-  ◌+◌,
-  ◌-◌,
-  ◌≤◌,
-  Bool,
-  true,
-  false,
-  cond,
-  not,
-  List,
-  [],
-  ◌∷◌,
-  ◌++◌,
-  length,
-  take,
-  drop,
-  refl,
-  sym,
-  ◌∙◌,
-  ap,
-  subst,
-  append_assoc,
-  append-nil,
-  length-append,
-  length-drop,
-  Some,
-  inl,
-  inr,
-  arith,
-  Bor,
-}
-use Rattle.std.specs.Prelude.{
-  ◌==◌,
-  ◌&&◌,
-  ◌||◌,
-  nat_le,
-  MatchBool,
-  IsUtf8,
-  encode_utf8_all,
-  MatchResult,
-  Result,
-  Ok,
-  Err,
-}
+use Rattle.std.proofs.Common.{◌≡◌, ◌≢◌, ℕ, ◌+◌, ◌-◌, ◌≤◌, Bool, true, false, cond, not, List, []}
+use Rattle.std.proofs.Common.{◌∷◌, ◌++◌, length, take, drop, refl, sym, ◌∙◌, ap, subst}
+use Rattle.std.proofs.Common.{append_assoc, append-nil, length-append, length-drop, Some, inl, inr}
+use Rattle.std.proofs.Common.{arith, Bor}
+use Rattle.std.specs.Prelude.{◌==◌, ◌&&◌, ◌||◌, nat_le, MatchBool, IsUtf8, encode_utf8_all}
+use Rattle.std.specs.Prelude.{MatchResult, Result, Ok, Err}
 use Rattle.std.specs.Str.{chars, IsValidUpTo}
 use Rattle.std.specs.Result.{result_unwrap_or}
 use Rattle.std.proofs.Math.Utf8.{encode}
@@ -53,14 +12,8 @@ use Rattle.std.proofs.Math.Seq.{take-append_seam, take-append-add, drop-append_s
 use Rattle.std.proofs.lemmas.Bool.{false≢true}
 use Rattle.std.proofs.lemmas.Bool.Decides.{nat_tests}
 use Rattle.std.proofs.lemmas.List.{take-append-drop, take-append-le, take_all, length-take-le}
-use Rattle.std.proofs.lemmas.Str.{
-  encodes-chars,
-  length-encode,
-  len_utf8_bounds,
-  IsUtf8-append,
-  IsUtf8-drop,
-  IsCharBoundary-from_take,
-}
+use Rattle.std.proofs.lemmas.Str.{encodes-chars, length-encode, len_utf8_bounds, IsUtf8-append}
+use Rattle.std.proofs.lemmas.Str.{IsUtf8-drop, IsCharBoundary-from_take}
 use Rattle.dotenvy_lines.specs.declared.physical_line.After.TheVariants.{LineEnd, InputEnd, Broken, Unread}
 use Rattle.dotenvy_format.specs.Characters.{line_feed}
 use Rattle.dotenvy_format.specs.PhysicalLines.{is_whole_line, no_line_feed}

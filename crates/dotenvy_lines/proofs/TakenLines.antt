@@ -1,31 +1,7 @@
 -- A physical line that is taken in pieces: what was taken of it, and a theorem for each way out.
-use Rattle.std.proofs.Common.{
-  ◌≡◌,
-  ◌≢◌,
-  ℕ,
-  ◌+◌,
-  ◌<◌,
-  ◌≤◌,
-  Bool,
-  true,
-  false,
-  List,
-  [],
-  ◌∷◌,
-  ◌++◌,
-  length,
-  take,
-  refl,
-  sym,
-  ◌∙◌,
-  ap,
-  subst,
-  append-nil,
-  Some,
-  inl,
-  inr,
-  arith,
-}
+use Rattle.std.proofs.Common.{◌≡◌, ◌≢◌, ℕ, ◌+◌, ◌<◌, ◌≤◌, Bool, true, false, List, [], ◌∷◌, ◌++◌}
+use Rattle.std.proofs.Common.{length, take, refl, sym, ◌∙◌, ap, subst, append-nil, Some, inl, inr}
+use Rattle.std.proofs.Common.{arith}
 use Rattle.std.specs.Prelude.{IsUtf8}
 use Rattle.std.specs.Str.{chars, skip_leading_whitespace}
 use Rattle.std.proofs.Math.Seq.{take-append_seam}
@@ -43,26 +19,10 @@ use Rattle.dotenvy_format.specs.inside.Walk.{walk}
 use Rattle.dotenvy_base.specs.Source.{Ahead}
 use Rattle.dotenvy_lines.specs.Input.{InputState, IsTold, IsFinal, ReadsFit, Moves}
 use Rattle.dotenvy_lines.specs.inside.InputSteps.{TakesLine}
-use Rattle.dotenvy_lines.specs.inside.TakenLine.{
-  Walks,
-  WalksOn,
-  Stands,
-  TakesPiece,
-  TakesTextLine,
-  LineMakes,
-  at_line_end,
-  starting,
-}
-use Rattle.dotenvy_lines.proofs.Inputs.{
-  ahead_of,
-  moves_none,
-  moves_piece,
-  moves_on,
-  moves_still,
-  final_before,
-  none_after,
-  whole_after,
-}
+use Rattle.dotenvy_lines.specs.inside.TakenLine.{Walks, WalksOn, Stands, TakesPiece, TakesTextLine}
+use Rattle.dotenvy_lines.specs.inside.TakenLine.{LineMakes, at_line_end, starting}
+use Rattle.dotenvy_lines.proofs.Inputs.{ahead_of, moves_none, moves_piece, moves_on, moves_still}
+use Rattle.dotenvy_lines.proofs.Inputs.{final_before, none_after, whole_after}
 use Rattle.dotenvy_lines.proofs.LinePieces.{text-behind, none-chars, some_line}
 
 -- the front of a physical line was taken, which has no line feed

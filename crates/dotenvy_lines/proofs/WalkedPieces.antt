@@ -1,41 +1,14 @@
 -- A line walked in pieces: what holds of its front and of one more piece holds of both.
-use Rattle.std.proofs.Common.{
-  ◌≡◌,
-  ◌≢◌,
-  ℕ,
-  Bool,
-  true,
-  false,
-  cond,
-  not,
-  ◌&&◌,
-  List,
-  [],
-  ◌∷◌,
-  ◌++◌,
-  refl,
-  sym,
-  ◌∙◌,
-  ap,
-  subst,
-  append_assoc,
-  Some,
-  None,
-  Option,
-}
+use Rattle.std.proofs.Common.{◌≡◌, ◌≢◌, ℕ, Bool, true, false, cond, not, ◌&&◌, List, [], ◌∷◌, ◌++◌}
+use Rattle.std.proofs.Common.{refl, sym, ◌∙◌, ap, subst, append_assoc, Some, None, Option}
 use Rattle.std.specs.Prelude.{◌==◌}
 use Rattle.std.specs.Char.{is_whitespace}
 use Rattle.std.specs.Str.{skip_leading_whitespace}
 use Rattle.std.proofs.lemmas.Bool.{false≢true}
 use Rattle.std.proofs.lemmas.Option.{none-some}
 use Rattle.dotenvy_format.specs.declared.walk.LineMode.{LineMode}
-use Rattle.dotenvy_format.specs.declared.walk.LineMode.TheVariants.{
-  Outside,
-  Escaping,
-  Inside,
-  InsideEscaping,
-  AfterBlank,
-}
+use Rattle.dotenvy_format.specs.declared.walk.LineMode.TheVariants.{Outside, Escaping, Inside}
+use Rattle.dotenvy_format.specs.declared.walk.LineMode.TheVariants.{InsideEscaping, AfterBlank}
 use Rattle.dotenvy_lines.specs.declared.physical_line.Progress.{Progress}
 use Rattle.dotenvy_lines.specs.declared.physical_line.Progress.TheVariants.{Blank, Going, Ended, Comment}
 use Rattle.dotenvy_format.specs.Characters.{begins_with, hash, backslash, is_blank, is_quote, line_feed}

@@ -1,30 +1,7 @@
 -- What an input has left, and what a read gives it.
-use Rattle.std.specs.Prelude.{
-  ℕ,
-  ◌≡◌,
-  ◌≢◌,
-  ◌+◌,
-  ◌*◌,
-  ◌≤◌,
-  ◌⊎◌,
-  Bool,
-  true,
-  false,
-  ◌&&◌,
-  nat_eq,
-  nat_lt,
-  List,
-  [],
-  ◌++◌,
-  length,
-  Option,
-  Some,
-  Result,
-  Ok,
-  Err,
-  refl,
-  if◌then◌else◌,
-}
+use Rattle.std.specs.Prelude.{ℕ, ◌≡◌, ◌≢◌, ◌+◌, ◌*◌, ◌≤◌, ◌⊎◌, Bool, true, false, ◌&&◌, nat_eq}
+use Rattle.std.specs.Prelude.{nat_lt, List, [], ◌++◌, length, Option, Some, Result, Ok, Err, refl}
+use Rattle.std.specs.Prelude.{if◌then◌else◌}
 use Rattle.std.specs.List.{starts_with, AllByRecursion}
 use Rattle.std.specs.IoError.{error_kind}
 use Rattle.std.specs.declared.io.Error.{Error as IoError}

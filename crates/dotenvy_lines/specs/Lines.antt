@@ -1,23 +1,6 @@
 -- The state of an iterator over logical lines, and when it goes on, ends or fails.
-use Rattle.std.specs.Prelude.{
-  ℕ,
-  true,
-  false,
-  ◌≡◌,
-  ◌⊎◌,
-  ◌+◌,
-  ◌^◌,
-  ◌<◌,
-  List,
-  [],
-  Option,
-  Some,
-  None,
-  Result,
-  Ok,
-  Err,
-  refl,
-}
+use Rattle.std.specs.Prelude.{ℕ, true, false, ◌≡◌, ◌⊎◌, ◌+◌, ◌^◌, ◌<◌, List, [], Option, Some, None}
+use Rattle.std.specs.Prelude.{Result, Ok, Err, refl}
 use Rattle.std.specs.declared.io.ErrorKind.{ErrorKind}
 use Rattle.std.specs.Coded.{Coded, code_by, coded×, coded_ℕ}
 use Rattle.dotenvy_base.specs.declared.errors.Error.{Error}

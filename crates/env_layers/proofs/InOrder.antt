@@ -1,26 +1,6 @@
 -- What calls of `add` come to, one after another.
-use Rattle.std.proofs.Common.{
-  ◌≡◌,
-  Bool,
-  true,
-  false,
-  cond,
-  List,
-  [],
-  ◌∷◌,
-  ◌++◌,
-  append-nil,
-  None,
-  Result,
-  Ok,
-  Err,
-  refl,
-  sym,
-  ◌∙◌,
-  ap,
-  subst,
-  arith,
-}
+use Rattle.std.proofs.Common.{◌≡◌, Bool, true, false, cond, List, [], ◌∷◌, ◌++◌, append-nil, None}
+use Rattle.std.proofs.Common.{Result, Ok, Err, refl, sym, ◌∙◌, ap, subst, arith}
 use Rattle.std.proofs.Math.Path.{fun_ext}
 use Rattle.std.specs.Prelude.{None, filter, is_ok, option_map}
 use Rattle.std.specs.Option.{option_flatten}
@@ -44,16 +24,8 @@ use Rattle.dotenvy.specs.Meaning.{values_of, recalled_of}
 use Rattle.env_layers.specs.declared.layers.Mode.{Mode}
 use Rattle.env_layers.specs.declared.layers.Mode.TheVariants.{Keep, Override}
 use Rattle.env_layers.specs.Layers.{after_load, rule_of}
-use Rattle.env_layers.specs.Laws.{
-  Layer,
-  telling,
-  Adds,
-  HasLayerEntries,
-  layer_result,
-  Applies,
-  LayersInOrder,
-  AcceptedExactly,
-}
+use Rattle.env_layers.specs.Laws.{Layer, telling, Adds, HasLayerEntries, layer_result, Applies}
+use Rattle.env_layers.specs.Laws.{LayersInOrder, AcceptedExactly}
 
 -- a load in either mode that was not refused memory takes all that is left
 takes_all : {A : Type 0} (mode : Mode) → LoadsTakeAll A → LoadsAllLeft (rule_of mode) A

@@ -1,22 +1,8 @@
 -- The parts of a body that a proof names: the statements after the first n, the first statement, and what a block
 -- or a loop holds.
 use Prim.Native.Nat.{ℕ, zero, suc}
-use mir.Syntax.{
-  Body,
-  skip,
-  seq,
-  assign,
-  block,
-  loop,
-  cond,
-  switch,
-  exit,
-  return,
-  call,
-  call_v,
-  unreachable,
-  lend_static,
-}
+use mir.Syntax.{Body, skip, seq, assign, block, loop, cond, switch, exit, return, call, call_v}
+use mir.Syntax.{unreachable, lend_static}
 
 -- of a row: its first statement and those after it; of a block or a loop: what it holds; of others: nothing
 abbrev parts : Body → Body × Body

@@ -1,26 +1,6 @@
 -- What the code finds at the start of the words: a group, a command, or neither.
-use Rattle.std.specs.Prelude.{
-  ℕ,
-  ◌≡◌,
-  ◌≢◌,
-  false,
-  not,
-  ◌&&◌,
-  nat_eq,
-  List,
-  [],
-  ◌∷◌,
-  ◌++◌,
-  Option,
-  Some,
-  None,
-  Result,
-  Ok,
-  Err,
-  IsTrue,
-  codes,
-  string_bytes,
-}
+use Rattle.std.specs.Prelude.{ℕ, ◌≡◌, ◌≢◌, false, not, ◌&&◌, nat_eq, List, [], ◌∷◌, ◌++◌, Option}
+use Rattle.std.specs.Prelude.{Some, None, Result, Ok, Err, IsTrue, codes, string_bytes}
 use Rattle.std.specs.List.{starts_with}
 use Rattle.std.specs.declared.string.String.{String}
 use denote.Ref.{Bor}
@@ -31,20 +11,8 @@ use Rattle.dotenvy_command.specs.declared.command_line.Word.TheVariants as word
 use Rattle.dotenvy_command.specs.declared.failure.Usage.{Usage}
 use Rattle.dotenvy_command.specs.declared.failure.Usage.TheVariants.{MissingCommand, MissingFile, UnknownOption, Memory}
 use Rattle.dotenvy_command.specs.Answers.{texts}
-use Rattle.dotenvy_command.specs.Words.{
-  Form,
-  Group,
-  list,
-  next,
-  file_word,
-  group_words,
-  is_option,
-  begins_group,
-  IsGroup,
-  group_files,
-  is_list,
-  is_next,
-}
+use Rattle.dotenvy_command.specs.Words.{Form, Group, list, next, file_word, group_words, is_option}
+use Rattle.dotenvy_command.specs.Words.{begins_group, IsGroup, group_files, is_list, is_next}
 
 -- the group that the code found means the same as this one
 abbrev pub IsGroupOf : Group → Found → Type 0

@@ -5,15 +5,8 @@ use Rattle.std.proofs.lemmas.Bool.Decides.{nat_tests}
 use Rattle.dotenvy_format.specs.declared.dialect.Dialect.{Dialect}
 use Rattle.dotenvy_format.specs.declared.dialect.Dialect.TheVariants.{V15, Next}
 use Rattle.dotenvy_format.specs.declared.text.Class.{Class}
-use Rattle.dotenvy_format.specs.declared.text.Class.TheVariants.{
-  Key,
-  Name,
-  Plain,
-  SpaceOrTab,
-  DoubleQuote,
-  Token,
-  Quoted,
-}
+use Rattle.dotenvy_format.specs.declared.text.Class.TheVariants.{Key, Name, Plain, SpaceOrTab}
+use Rattle.dotenvy_format.specs.declared.text.Class.TheVariants.{DoubleQuote, Token, Quoted}
 use Rattle.dotenvy_format.specs.declared.text.Quoting.{Quoting as CodeQuoting}
 use Rattle.dotenvy_format.specs.declared.text.Quoting.TheVariants.{Unquoted, DoubleQuoted}
 use Rattle.std.specs.Prelude.{◌==◌}

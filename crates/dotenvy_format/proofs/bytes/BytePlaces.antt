@@ -1,28 +1,7 @@
 -- How many places of a text have a byte that passes a test.
-use Rattle.std.proofs.Common.{
-  ◌≡◌,
-  ℕ,
-  suc,
-  ◌+◌,
-  Bool,
-  true,
-  false,
-  cond,
-  filter,
-  List,
-  [],
-  ◌∷◌,
-  ◌++◌,
-  refl,
-  sym,
-  ◌∙◌,
-  ap,
-  length,
-  length-append,
-  append_assoc,
-  arith,
-  ◌-◌,
-}
+use Rattle.std.proofs.Common.{◌≡◌, ℕ, suc, ◌+◌, Bool, true, false, cond, filter, List, [], ◌∷◌}
+use Rattle.std.proofs.Common.{◌++◌, refl, sym, ◌∙◌, ap, length, length-append, append_assoc, arith}
+use Rattle.std.proofs.Common.{◌-◌}
 use Rattle.std.proofs.Math.Seq.{get_or-append_seam}
 use Rattle.memchr.specs.Find.{places, places_from}
 

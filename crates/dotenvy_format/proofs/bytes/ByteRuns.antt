@@ -1,39 +1,8 @@
 -- Runs of bytes that are characters which pass a test.
-use Rattle.std.proofs.Common.{
-  ◌≡◌,
-  ℕ,
-  ◌+◌,
-  ◌/◌,
-  ◌%◌,
-  ◌<◌,
-  ◌≤◌,
-  ltb,
-  Bool,
-  true,
-  false,
-  not,
-  cond,
-  filter,
-  ◌&&◌,
-  List,
-  [],
-  ◌∷◌,
-  ◌++◌,
-  refl,
-  sym,
-  ◌∙◌,
-  ap,
-  subst,
-  arith,
-  get_or,
-  take,
-  drop,
-  length,
-  length-append,
-  length-drop,
-  append_assoc,
-  ◌-◌,
-}
+use Rattle.std.proofs.Common.{◌≡◌, ℕ, ◌+◌, ◌/◌, ◌%◌, ◌<◌, ◌≤◌, ltb, Bool, true, false, not, cond}
+use Rattle.std.proofs.Common.{filter, ◌&&◌, List, [], ◌∷◌, ◌++◌, refl, sym, ◌∙◌, ap, subst, arith}
+use Rattle.std.proofs.Common.{get_or, take, drop, length, length-append, length-drop, append_assoc}
+use Rattle.std.proofs.Common.{◌-◌}
 use Rattle.std.specs.Prelude.{nat_lt, ◌==◌, ◌||◌, Option, Some, None, unwrap_or}
 use Rattle.std.specs.List.{list_all, prefix_len, position_from}
 use Rattle.std.specs.Str.{chars, IsUtf8, IsCharBoundary, encode_utf8_all}
@@ -44,21 +13,10 @@ use Rattle.std.proofs.lemmas.List.Sums.{prefix_len_is, prefix_len-le-length}
 use Rattle.std.proofs.lemmas.Iterator.Adapters.{position_from-zero}
 use Rattle.std.proofs.lemmas.List.{take-append-drop, append-nil}
 use Rattle.std.proofs.lemmas.Bool.Decides.{nat_tests}
-use Rattle.std.proofs.lemmas.Str.{
-  encodes-append,
-  chars-nil,
-  chars-encodes,
-  chars-append,
-  encodes-chars,
-  scalars-chars,
-  IsUtf8-nil,
-  IsUtf8-append,
-  IsUtf8-take,
-  encode_ascii,
-  length-encode,
-  len_utf8_bounds,
-  IsCharBoundary-at_seam,
-}
+use Rattle.std.proofs.lemmas.Str.{encodes-append, chars-nil, chars-encodes, chars-append}
+use Rattle.std.proofs.lemmas.Str.{encodes-chars, scalars-chars, IsUtf8-nil, IsUtf8-append}
+use Rattle.std.proofs.lemmas.Str.{IsUtf8-take, encode_ascii, length-encode, len_utf8_bounds}
+use Rattle.std.proofs.lemmas.Str.{IsCharBoundary-at_seam}
 use Rattle.std.proofs.lemmas.Bool.{and_from}
 use Rattle.memchr.specs.Find.{IsFirstByte, is_byte2, is_byte3}
 use Rattle.dotenvy_format.specs.declared.text.Class.TheVariants.{Quoted}

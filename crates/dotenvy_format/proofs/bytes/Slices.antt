@@ -1,47 +1,16 @@
 -- Slices of a text and their characters.
-use Rattle.std.proofs.Common.{
-  ◌≡◌,
-  ◌≢◌,
-  ℕ,
-  ◌<◌,
-  arith,
-  Bool,
-  true,
-  false,
-  not,
-  List,
-  [],
-  ◌∷◌,
-  ◌++◌,
-  refl,
-  sym,
-  ◌∙◌,
-  ap,
-  subst,
-  take,
-  drop,
-  length,
-}
+use Rattle.std.proofs.Common.{◌≡◌, ◌≢◌, ℕ, ◌<◌, arith, Bool, true, false, not, List, [], ◌∷◌, ◌++◌}
+use Rattle.std.proofs.Common.{refl, sym, ◌∙◌, ap, subst, take, drop, length}
 use Rattle.std.specs.Prelude.{◌==◌}
 use Rattle.std.specs.Char.{encode_utf8, len_utf8}
 use Rattle.std.proofs.Math.Seq.{take-append_seam}
 use Rattle.std.specs.List.{list_all}
 use Rattle.std.specs.Str.{chars, encode_utf8_all, IsUtf8, IsCharBoundary, NonePass, NoCharPasses}
 use Rattle.std.specs.Str.Pattern.{HasPassingCharAt, HasCharAt}
-use Rattle.std.proofs.lemmas.Str.{
-  chars-nil,
-  chars_past_char,
-  chars-append,
-  chars_from_encodes,
-  IsUtf8-take,
-  IsUtf8-drop,
-  IsUtf8-past_char,
-  encode_ascii,
-  encodes-chars,
-  IsCharBoundary-before_ascii,
-  IsCharBoundary-past_char,
-  length-encode,
-}
+use Rattle.std.proofs.lemmas.Str.{chars-nil, chars_past_char, chars-append, chars_from_encodes}
+use Rattle.std.proofs.lemmas.Str.{IsUtf8-take, IsUtf8-drop, IsUtf8-past_char, encode_ascii}
+use Rattle.std.proofs.lemmas.Str.{encodes-chars, IsCharBoundary-before_ascii}
+use Rattle.std.proofs.lemmas.Str.{IsCharBoundary-past_char, length-encode}
 use Rattle.std.proofs.lemmas.List.{take-append-drop, append-nil}
 use Rattle.std.proofs.Common.{length-drop}
 use Rattle.std.proofs.lemmas.Bool.{and_from}

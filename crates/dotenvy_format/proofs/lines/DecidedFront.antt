@@ -1,37 +1,7 @@
 -- What bytes decide stays, whatever follows them.
-use Rattle.std.proofs.Common.{
-  ◌≡◌,
-  ℕ,
-  zero,
-  suc,
-  ◌≤◌,
-  ◌<◌,
-  Bool,
-  true,
-  false,
-  ◌||◌,
-  not,
-  cond,
-  List,
-  [],
-  ◌∷◌,
-  ◌++◌,
-  map,
-  Option,
-  Some,
-  None,
-  refl,
-  sym,
-  ◌∙◌,
-  ap,
-  arith,
-  append_assoc,
-  subst,
-  length,
-  length-append,
-  take,
-  drop,
-}
+use Rattle.std.proofs.Common.{◌≡◌, ℕ, zero, suc, ◌≤◌, ◌<◌, Bool, true, false, ◌||◌, not, cond, List}
+use Rattle.std.proofs.Common.{[], ◌∷◌, ◌++◌, map, Option, Some, None, refl, sym, ◌∙◌, ap, arith}
+use Rattle.std.proofs.Common.{append_assoc, subst, length, length-append, take, drop}
 use Rattle.std.specs.Prelude.{◌≢◌, ◌==◌, IsTrue}
 use Rattle.std.specs.List.{flat_map}
 use Rattle.std.proofs.lemmas.List.{append-nil, map-append}
@@ -39,62 +9,22 @@ use Rattle.std.proofs.lemmas.Bool.Decides.{nat_tests}
 use Rattle.dotenvy_format.specs.declared.dialect.Dialect.{Dialect}
 use Rattle.dotenvy_format.specs.Characters.{is_blank, line_feed}
 use Rattle.dotenvy_format.specs.PhysicalLines.{physical_lines, onto_first, line_text, line_texts, AreCut}
-use Rattle.dotenvy_format.specs.Tokens.{
-  Token,
-  plain,
-  backslash_pair,
-  quoted,
-  blank_pair,
-  blank,
-  quoted_text,
-  token_text,
-  tokens_text,
-  stands_for_itself,
-  IsToken,
-  AreTokens,
-}
-use Rattle.dotenvy_format.specs.LogicalLine.{
-  Ending,
-  line_end,
-  escaped_line_end,
-  comment,
-  input_end,
-  ending_text,
-  IsEnding,
-  joined_text,
-  IsSkipped,
-  IsFirstBroken,
-  Logical,
-  Skip,
-  Text,
-  Open,
-  Broken,
-  IsText,
-  IsNext,
-  IsOpenEnd,
-}
+use Rattle.dotenvy_format.specs.Tokens.{Token, plain, backslash_pair, quoted, blank_pair, blank}
+use Rattle.dotenvy_format.specs.Tokens.{quoted_text, token_text, tokens_text, stands_for_itself}
+use Rattle.dotenvy_format.specs.Tokens.{IsToken, AreTokens}
+use Rattle.dotenvy_format.specs.LogicalLine.{Ending, line_end, escaped_line_end, comment, input_end}
+use Rattle.dotenvy_format.specs.LogicalLine.{ending_text, IsEnding, joined_text, IsSkipped}
+use Rattle.dotenvy_format.specs.LogicalLine.{IsFirstBroken, Logical, Skip, Text, Open, Broken}
+use Rattle.dotenvy_format.specs.LogicalLine.{IsText, IsNext, IsOpenEnd}
 use Rattle.dotenvy_format.specs.Entries.{Entry, AreLogicalLines, GiveAll, HasEntries}
 use Rattle.dotenvy_format.specs.Decided.{before_some, up_to_last_line_feed, without_open_end, HasDecided}
 use Rattle.dotenvy_format.proofs.lines.Scans.{quote_no_line_feed}
 use Rattle.dotenvy_format.proofs.Basics.{not_is, same_from}
 use Rattle.dotenvy_format.proofs.lines.Cuts.{IsSome, lines_some}
-use Rattle.dotenvy_format.proofs.lines.NextLine.{
-  ends_line,
-  ends_line-append,
-  joined_front,
-  fewer_end,
-  some_lines,
-  one_next,
-  broken_within,
-}
-use Rattle.dotenvy_format.proofs.lines.EntriesOnce.{
-  lines_within,
-  all_exist,
-  all_once,
-  one_list,
-  cut_drop,
-  cut_line_texts,
-}
+use Rattle.dotenvy_format.proofs.lines.NextLine.{ends_line, ends_line-append, joined_front}
+use Rattle.dotenvy_format.proofs.lines.NextLine.{fewer_end, some_lines, one_next, broken_within}
+use Rattle.dotenvy_format.proofs.lines.EntriesOnce.{lines_within, all_exist, all_once, one_list}
+use Rattle.dotenvy_format.proofs.lines.EntriesOnce.{cut_drop, cut_line_texts}
 
 -- a plain character, which is a token by itself, is no line feed
 plain_no_line_feed : (c : ℕ) → IsTrue (not (is_blank c || stands_for_itself c)) → (c == line_feed) ≡ false

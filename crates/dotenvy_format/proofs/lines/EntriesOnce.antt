@@ -1,38 +1,7 @@
 -- Bytes have entries, and have them once.
-use Rattle.std.proofs.Common.{
-  ◌≡◌,
-  ℕ,
-  zero,
-  suc,
-  ◌≤◌,
-  ◌<◌,
-  Bool,
-  true,
-  false,
-  not,
-  ◌&&◌,
-  List,
-  [],
-  ◌∷◌,
-  ◌++◌,
-  map,
-  Option,
-  Some,
-  None,
-  refl,
-  sym,
-  ◌∙◌,
-  ap,
-  arith,
-  subst,
-  length,
-  length-drop,
-  drop,
-  inl,
-  inr,
-  ⊎_elim,
-  cond,
-}
+use Rattle.std.proofs.Common.{◌≡◌, ℕ, zero, suc, ◌≤◌, ◌<◌, Bool, true, false, not, ◌&&◌, List, []}
+use Rattle.std.proofs.Common.{◌∷◌, ◌++◌, map, Option, Some, None, refl, sym, ◌∙◌, ap, arith, subst}
+use Rattle.std.proofs.Common.{length, length-drop, drop, inl, inr, ⊎_elim, cond}
 use Rattle.std.specs.Prelude.{◌⊎◌, ◌≢◌, ◌==◌, encode_utf8_all}
 use Rattle.std.specs.Str.{is_utf8, chars}
 use Rattle.std.proofs.lemmas.Str.{IsUtf8-from_is_utf8, encodes-chars, encode_ascii}
@@ -41,16 +10,8 @@ use Rattle.std.proofs.Math.Utf8.{encode}
 use Rattle.std.proofs.Common.{Ok}
 use Rattle.std.proofs.lemmas.Bool.{and_from}
 use Rattle.dotenvy_format.specs.declared.dialect.Dialect.{Dialect}
-use Rattle.dotenvy_format.specs.PhysicalLines.{
-  no_line_feed,
-  physical_lines,
-  onto_first,
-  line_text,
-  line_texts,
-  AreCut,
-  is_whole_line,
-  is_last_line,
-}
+use Rattle.dotenvy_format.specs.PhysicalLines.{no_line_feed, physical_lines, onto_first, line_text}
+use Rattle.dotenvy_format.specs.PhysicalLines.{line_texts, AreCut, is_whole_line, is_last_line}
 use Rattle.dotenvy_format.specs.LogicalLine.{Logical, Skip, Text, Open, Broken, IsNext}
 use Rattle.dotenvy_format.specs.Entries.{Entry, AreLogicalLines, outcome_entries, Gives, GiveAll, HasEntries}
 use Rattle.dotenvy_format.specs.Items.{LookUp, items}

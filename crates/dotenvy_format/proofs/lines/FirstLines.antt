@@ -1,22 +1,6 @@
 -- The first logical lines of physical lines, with one more after them.
-use Rattle.std.proofs.Common.{
-  ℕ,
-  ◌+◌,
-  arith,
-  List,
-  [],
-  ◌∷◌,
-  ◌++◌,
-  drop,
-  append-nil,
-  append_assoc,
-  Option,
-  refl,
-  sym,
-  ◌∙◌,
-  ap,
-  subst,
-}
+use Rattle.std.proofs.Common.{ℕ, ◌+◌, arith, List, [], ◌∷◌, ◌++◌, drop, append-nil, append_assoc}
+use Rattle.std.proofs.Common.{Option, refl, sym, ◌∙◌, ap, subst}
 use Rattle.std.proofs.lemmas.List.{drop-drop}
 use Rattle.dotenvy_format.specs.declared.dialect.Dialect.{Dialect}
 use Rattle.dotenvy_format.specs.LogicalLine.{Logical, IsNext}

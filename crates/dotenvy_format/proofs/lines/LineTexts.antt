@@ -1,71 +1,24 @@
 -- Texts as bytes and as characters: a carriage return at the end, a hash at the front, and a walk over the characters.
-use Rattle.std.proofs.Common.{
-  ◌≡◌,
-  ◌≢◌,
-  ℕ,
-  ◌-◌,
-  ◌<◌,
-  ◌≤◌,
-  Bool,
-  true,
-  false,
-  cond,
-  not,
-  ◌||◌,
-  List,
-  Option,
-  [],
-  ◌∷◌,
-  ◌++◌,
-  length,
-  take,
-  get_or,
-  refl,
-  sym,
-  ◌∙◌,
-  ap,
-  subst,
-  append_assoc,
-  arith,
-  length-append,
-  Some,
-  None,
-}
+use Rattle.std.proofs.Common.{◌≡◌, ◌≢◌, ℕ, ◌-◌, ◌<◌, ◌≤◌, Bool, true, false, cond, not, ◌||◌, List}
+use Rattle.std.proofs.Common.{Option, [], ◌∷◌, ◌++◌, length, take, get_or, refl, sym, ◌∙◌, ap}
+use Rattle.std.proofs.Common.{subst, append_assoc, arith, length-append, Some, None}
 use Rattle.std.specs.Prelude.{◌==◌, IsUtf8, encode_utf8_all}
 use Rattle.std.specs.Str.{chars, trim_start, skip_leading_whitespace, IsCharBoundary}
 use Rattle.std.proofs.Math.Utf8.{encode}
 use Rattle.std.proofs.Math.Seq.{take-append_seam}
 use Rattle.std.proofs.lemmas.List.{append-nil}
-use Rattle.std.proofs.lemmas.Str.{
-  chars-nil,
-  chars-append,
-  chars_past_char,
-  encode_ascii,
-  encodes-append,
-  encodes-chars,
-  byte_from_char,
-  char_from_byte,
-  length-encode,
-  len_utf8_bounds,
-  IsCharBoundary-at_seam,
-  IsUtf8-past_char,
-  IsUtf8-take,
-  IsUtf8-append,
-  IsUtf8-nil,
-}
+use Rattle.std.proofs.lemmas.Str.{chars-nil, chars-append, chars_past_char, encode_ascii}
+use Rattle.std.proofs.lemmas.Str.{encodes-append, encodes-chars, byte_from_char, char_from_byte}
+use Rattle.std.proofs.lemmas.Str.{length-encode, len_utf8_bounds, IsCharBoundary-at_seam}
+use Rattle.std.proofs.lemmas.Str.{IsUtf8-past_char, IsUtf8-take, IsUtf8-append, IsUtf8-nil}
 use Rattle.dotenvy_format.specs.declared.walk.LineMode.{LineMode}
 use Rattle.dotenvy_format.specs.declared.walk.Walked.TheVariants.{Going, EndedAt}
 use Rattle.std.specs.List.{list_all}
 use Rattle.dotenvy_format.specs.Characters.{begins_with, hash, line_feed, backslash, is_blank, is_quote}
 use Rattle.dotenvy_format.specs.LogicalLine.{without_carriage_return}
 use Rattle.dotenvy_format.specs.inside.Walk.{Walk, going, leads, kept_before, ended, walked, walk, PassesRun, WalksText}
-use Rattle.dotenvy_format.specs.declared.walk.LineMode.TheVariants.{
-  Outside,
-  Escaping,
-  Inside,
-  InsideEscaping,
-  AfterBlank,
-}
+use Rattle.dotenvy_format.specs.declared.walk.LineMode.TheVariants.{Outside, Escaping, Inside}
+use Rattle.dotenvy_format.specs.declared.walk.LineMode.TheVariants.{InsideEscaping, AfterBlank}
 use Rattle.dotenvy_format.specs.declared.text.Class.{Class}
 use Rattle.dotenvy_format.specs.declared.text.Class.TheVariants.{Token, Quoted}
 use Rattle.dotenvy_format.specs.inside.Slices.{BeginsWith, IsSpan, has_character}

@@ -6,17 +6,8 @@ use Rattle.std.specs.declared.io.ErrorKind.TheVariants.{InvalidData}
 use Rattle.dotenvy_format.specs.declared.dialect.Dialect.{Dialect}
 use Rattle.dotenvy_format.specs.PhysicalLines.{line_texts, AreCut}
 use Rattle.dotenvy_format.specs.LogicalLine.{Logical, Skip, Text, Open, Broken}
-use Rattle.dotenvy_format.specs.Entries.{
-  Entry,
-  Fails,
-  LineParse,
-  Io,
-  AreLogicalLines,
-  outcome_entries,
-  Gives,
-  GiveAll,
-  HasEntries,
-}
+use Rattle.dotenvy_format.specs.Entries.{Entry, Fails, LineParse, Io, AreLogicalLines}
+use Rattle.dotenvy_format.specs.Entries.{outcome_entries, Gives, GiveAll, HasEntries}
 use Rattle.dotenvy_format.proofs.lines.EntriesOnce.{cut_line_texts, cut_drop, next_positive}
 use Rattle.dotenvy_format.proofs.statements.Outcomes.{outcome_of, outcome_of-is}
 use Rattle.dotenvy_format.proofs.lines.SplitLines.{next_of, next_of-is}

@@ -1,38 +1,7 @@
 -- Each list of physical lines has one next logical line.
-use Rattle.std.proofs.Common.{
-  ◌≡◌,
-  ℕ,
-  zero,
-  suc,
-  ◌≤◌,
-  ◌<◌,
-  Bool,
-  true,
-  false,
-  ◌&&◌,
-  not,
-  cond,
-  List,
-  [],
-  ◌∷◌,
-  ◌++◌,
-  Option,
-  Some,
-  None,
-  refl,
-  sym,
-  ◌∙◌,
-  ap,
-  arith,
-  append_assoc,
-  subst,
-  length,
-  take,
-  drop,
-  inl,
-  inr,
-  ⊎_elim,
-}
+use Rattle.std.proofs.Common.{◌≡◌, ℕ, zero, suc, ◌≤◌, ◌<◌, Bool, true, false, ◌&&◌, not, cond, List}
+use Rattle.std.proofs.Common.{[], ◌∷◌, ◌++◌, Option, Some, None, refl, sym, ◌∙◌, ap, arith}
+use Rattle.std.proofs.Common.{append_assoc, subst, length, take, drop, inl, inr, ⊎_elim}
 use Rattle.std.specs.Prelude.{◌==◌, ◌⊎◌, ◌≢◌}
 use Rattle.std.specs.List.{concat}
 use Rattle.std.proofs.lemmas.List.{append-nil, take-append-drop, length-take}
@@ -44,44 +13,16 @@ use Rattle.std.specs.Str.{skip_leading_whitespace}
 use Rattle.dotenvy_format.specs.Characters.{begins_with, line_feed, backslash, hash, byte_len}
 use Rattle.dotenvy_format.specs.PhysicalLines.{physical_lines, onto_first, AreCut, is_whole_line, is_last_line}
 use Rattle.dotenvy_format.specs.Tokens.{tokens_text}
-use Rattle.dotenvy_format.specs.LogicalLine.{
-  Ending,
-  line_end,
-  escaped_line_end,
-  comment,
-  input_end,
-  ending_text,
-  IsOneLine,
-  IsEnding,
-  kept_text,
-  with_text_before,
-  joined_text,
-  IsSkipped,
-  IsFirstBroken,
-  Logical,
-  Skip,
-  Text,
-  Open,
-  Broken,
-  IsText,
-  IsNext,
-}
+use Rattle.dotenvy_format.specs.LogicalLine.{Ending, line_end, escaped_line_end, comment, input_end}
+use Rattle.dotenvy_format.specs.LogicalLine.{ending_text, IsOneLine, IsEnding, kept_text}
+use Rattle.dotenvy_format.specs.LogicalLine.{with_text_before, joined_text, IsSkipped}
+use Rattle.dotenvy_format.specs.LogicalLine.{IsFirstBroken, Logical, Skip, Text, Open, Broken}
+use Rattle.dotenvy_format.specs.LogicalLine.{IsText, IsNext}
 use Rattle.dotenvy_format.proofs.Basics.{and_right}
 use Rattle.dotenvy_format.proofs.lines.Cuts.{concat-lines, lines-append}
-use Rattle.dotenvy_format.proofs.lines.Scans.{
-  scan,
-  outside,
-  Scan,
-  stops,
-  open_end,
-  first_line,
-  after_line,
-  IsClosed,
-  scan-tokens,
-  scan-reads,
-  Reads,
-  Read,
-}
+use Rattle.dotenvy_format.proofs.lines.Scans.{scan, outside, Scan, stops, open_end, first_line}
+use Rattle.dotenvy_format.proofs.lines.Scans.{after_line, IsClosed, scan-tokens, scan-reads, Reads}
+use Rattle.dotenvy_format.proofs.lines.Scans.{Read}
 
 -- the texts before the first broken line
 abbrev pub texts_of : List (Option (List ℕ)) → List (List ℕ)

@@ -1,47 +1,14 @@
 -- A text read from left to right, character by character, up to the ending of its first logical line.
-use Rattle.std.proofs.Common.{
-  ◌≡◌,
-  ℕ,
-  Bool,
-  true,
-  false,
-  ◌||◌,
-  not,
-  cond,
-  List,
-  [],
-  ◌∷◌,
-  ◌++◌,
-  refl,
-  sym,
-  ◌∙◌,
-  ap,
-  arith,
-  append_assoc,
-  subst,
-}
+use Rattle.std.proofs.Common.{◌≡◌, ℕ, Bool, true, false, ◌||◌, not, cond, List, [], ◌∷◌, ◌++◌, refl}
+use Rattle.std.proofs.Common.{sym, ◌∙◌, ap, arith, append_assoc, subst}
 use Rattle.std.specs.Prelude.{IsTrue, ◌==◌}
 use Rattle.std.specs.List.{flat_map, list_all}
 use Rattle.std.proofs.lemmas.Bool.Decides.{nat_tests}
 use Rattle.std.proofs.lemmas.Bool.{and_from}
 use Rattle.dotenvy_format.specs.Characters.{line_feed, backslash, hash, is_quote, is_blank}
-use Rattle.dotenvy_format.specs.Tokens.{
-  QuotedCharacter,
-  one,
-  pair,
-  Token,
-  plain,
-  backslash_pair,
-  quoted,
-  blank_pair,
-  blank,
-  quoted_text,
-  tokens_text,
-  is_quoted,
-  stands_for_itself,
-  is_before_break,
-  AreTokens,
-}
+use Rattle.dotenvy_format.specs.Tokens.{QuotedCharacter, one, pair, Token, plain, backslash_pair}
+use Rattle.dotenvy_format.specs.Tokens.{quoted, blank_pair, blank, quoted_text, tokens_text}
+use Rattle.dotenvy_format.specs.Tokens.{is_quoted, stands_for_itself, is_before_break, AreTokens}
 use Rattle.dotenvy_format.specs.LogicalLine.{Ending, line_end, escaped_line_end, comment, input_end, ending_text}
 use Rattle.dotenvy_format.proofs.Basics.{and_left, and_right, not_is, not_or, same_from, when_true, when_false}
 

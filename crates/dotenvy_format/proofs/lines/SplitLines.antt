@@ -1,37 +1,8 @@
 -- The next logical line, from what a loop over physical lines has read: a theorem for each way out of the loop, and
 -- the loop as one function.
-use Rattle.std.proofs.Common.{
-  ◌≡◌,
-  ℕ,
-  suc,
-  ◌+◌,
-  ◌<◌,
-  Bool,
-  true,
-  false,
-  not,
-  List,
-  [],
-  ◌∷◌,
-  ◌++◌,
-  map,
-  Option,
-  Some,
-  None,
-  refl,
-  sym,
-  ◌∙◌,
-  ap,
-  arith,
-  append_assoc,
-  subst,
-  length,
-  length-append,
-  drop,
-  take,
-  inl,
-  inr,
-}
+use Rattle.std.proofs.Common.{◌≡◌, ℕ, suc, ◌+◌, ◌<◌, Bool, true, false, not, List, [], ◌∷◌, ◌++◌}
+use Rattle.std.proofs.Common.{map, Option, Some, None, refl, sym, ◌∙◌, ap, arith, append_assoc}
+use Rattle.std.proofs.Common.{subst, length, length-append, drop, take, inl, inr}
 use Rattle.std.specs.Prelude.{◌==◌, ◌≢◌, ◌⊎◌}
 use Rattle.std.specs.List.{concat}
 use Rattle.std.specs.Str.{skip_leading_whitespace}
@@ -40,35 +11,17 @@ use Rattle.std.proofs.lemmas.List.Folds.{concat-append}
 use Rattle.std.proofs.Math.Seq.{take-append_seam}
 use Rattle.dotenvy_format.specs.Characters.{line_feed, hash, byte_len, begins_with}
 use Rattle.dotenvy_format.specs.PhysicalLines.{AreCut, is_whole_line, is_last_line}
-use Rattle.dotenvy_format.specs.LogicalLine.{
-  input_end,
-  IsEnding,
-  IsOneLine,
-  IsWhole,
-  joined_text,
-  IsSkipped,
-  IsFirstBroken,
-  Logical,
-  Skip,
-  Text,
-  Open,
-  Broken,
-  IsText,
-  IsNext,
-}
+use Rattle.dotenvy_format.specs.LogicalLine.{input_end, IsEnding, IsOneLine, IsWhole, joined_text}
+use Rattle.dotenvy_format.specs.LogicalLine.{IsSkipped, IsFirstBroken, Logical, Skip, Text, Open}
+use Rattle.dotenvy_format.specs.LogicalLine.{Broken, IsText, IsNext}
 use Rattle.dotenvy_format.proofs.Basics.{and_left, and_right}
 use Rattle.dotenvy_format.proofs.lines.Cuts.{joined-texts}
 use Rattle.dotenvy_format.proofs.lines.Scans as scans
 use Rattle.dotenvy_format.proofs.lines.Scans.{Scan, stops, open_end, consed, scan}
 use Rattle.dotenvy_format.proofs.lines.NextLine.{texts_of, none_found, found, stops_same}
 use Rattle.dotenvy_format.specs.declared.walk.LineMode.{LineMode}
-use Rattle.dotenvy_format.specs.declared.walk.LineMode.TheVariants.{
-  Outside,
-  Escaping,
-  Inside,
-  InsideEscaping,
-  AfterBlank,
-}
+use Rattle.dotenvy_format.specs.declared.walk.LineMode.TheVariants.{Outside, Escaping, Inside}
+use Rattle.dotenvy_format.specs.declared.walk.LineMode.TheVariants.{InsideEscaping, AfterBlank}
 use Rattle.dotenvy_format.specs.inside.Walk.{Walk, going, ended, walk}
 use Rattle.dotenvy_format.proofs.lines.Splitting.{IsGoing, going_start, IsWalked, walk-is, whole_from}
 

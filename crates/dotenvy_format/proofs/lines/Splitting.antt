@@ -1,68 +1,24 @@
 -- From the splitter's machine to the relation between physical lines and the next logical line.
 -- A loop over physical lines keeps: the lines of the bytes are texts `taken` and the lines of the bytes left, the
 -- joined text is that of `taken`, and `IsGoing` holds of it and the mode.
-use Rattle.std.proofs.Common.{
-  ◌≡◌,
-  ℕ,
-  Bool,
-  true,
-  false,
-  not,
-  cond,
-  List,
-  [],
-  ◌∷◌,
-  ◌++◌,
-  Option,
-  Some,
-  None,
-  refl,
-  sym,
-  ◌∙◌,
-  ap,
-  append_assoc,
-  subst,
-}
+use Rattle.std.proofs.Common.{◌≡◌, ℕ, Bool, true, false, not, cond, List, [], ◌∷◌, ◌++◌, Option}
+use Rattle.std.proofs.Common.{Some, None, refl, sym, ◌∙◌, ap, append_assoc, subst}
 use Rattle.std.specs.Prelude.{◌==◌}
 use Rattle.std.proofs.lemmas.List.{append-nil}
 use Rattle.std.proofs.Common.{inr}
 use Rattle.dotenvy_format.specs.Characters.{is_blank, is_quote, line_feed, backslash, hash}
 use Rattle.dotenvy_format.specs.Tokens.{tokens_text, stands_for_itself}
-use Rattle.dotenvy_format.specs.LogicalLine.{
-  Ending,
-  line_end,
-  escaped_line_end,
-  comment,
-  input_end,
-  ending_text,
-  IsOneLine,
-  IsEnding,
-  kept_text,
-  without_carriage_return,
-  IsWhole,
-}
+use Rattle.dotenvy_format.specs.LogicalLine.{Ending, line_end, escaped_line_end, comment, input_end}
+use Rattle.dotenvy_format.specs.LogicalLine.{ending_text, IsOneLine, IsEnding, kept_text}
+use Rattle.dotenvy_format.specs.LogicalLine.{without_carriage_return, IsWhole}
 use Rattle.dotenvy_format.specs.declared.walk.LineMode.{LineMode}
-use Rattle.dotenvy_format.specs.declared.walk.LineMode.TheVariants.{
-  Outside,
-  Escaping,
-  Inside,
-  InsideEscaping,
-  AfterBlank,
-}
+use Rattle.dotenvy_format.specs.declared.walk.LineMode.TheVariants.{Outside, Escaping, Inside}
+use Rattle.dotenvy_format.specs.declared.walk.LineMode.TheVariants.{InsideEscaping, AfterBlank}
 use Rattle.dotenvy_format.specs.inside.Walk.{leads_outside, leads, kept_before, Walk, going, ended, walked, walk}
 use Rattle.dotenvy_format.proofs.Basics.{same_from, when_true, when_false}
 use Rattle.dotenvy_format.proofs.lines.Scans as scans
-use Rattle.dotenvy_format.proofs.lines.Scans.{
-  Scan,
-  stops,
-  open_end,
-  consed,
-  scan,
-  scan-reads,
-  Reads,
-  Read,
-  consed-consed,
-}
+use Rattle.dotenvy_format.proofs.lines.Scans.{Scan, stops, open_end, consed, scan, scan-reads}
+use Rattle.dotenvy_format.proofs.lines.Scans.{Reads, Read, consed-consed}
 use Rattle.dotenvy_format.proofs.lines.NextLine.{closed_words, one_line_words}
 
 -- the mode of the token scan, where b was read last; what it has read of a token that is not whole

@@ -1,25 +1,6 @@
 -- Loading one entry after another is the closed rule of the load.
-use Rattle.std.proofs.Common.{
-  ◌≡◌,
-  ℕ,
-  Bool,
-  true,
-  false,
-  ◌&&◌,
-  cond,
-  List,
-  [],
-  ◌∷◌,
-  ◌++◌,
-  Option,
-  Some,
-  None,
-  Err,
-  refl,
-  sym,
-  ◌∙◌,
-  ap,
-}
+use Rattle.std.proofs.Common.{◌≡◌, ℕ, Bool, true, false, ◌&&◌, cond, List, [], ◌∷◌, ◌++◌, Option}
+use Rattle.std.proofs.Common.{Some, None, Err, refl, sym, ◌∙◌, ap}
 use Rattle.std.specs.Prelude.{is_none, bytes_eq, if◌then◌else◌}
 use Rattle.std.specs.Option.{option_or}
 use Rattle.std.specs.Cmp.Lexicographic.{same_text}
@@ -27,17 +8,9 @@ use Rattle.dotenvy_format.specs.Value.{Piece, Text, Name}
 use Rattle.dotenvy_format.specs.Entries.{Entry, Declares, Fails, Nul}
 use Rattle.dotenvy_format.specs.Items.{LookUp, meaning, or_else, first_value, with_value}
 use Rattle.dotenvy_format.specs.Run.{Loaded, Keep, Replace, after_declaration, run, has_nul}
-use Rattle.dotenvy_format.specs.Loads.{
-  Declared,
-  declared_from,
-  load_look_up,
-  override_look_up,
-  is_first_of_absent,
-  load_result,
-  override_result,
-  last_value,
-  SameLoad,
-}
+use Rattle.dotenvy_format.specs.Loads.{Declared, declared_from, load_look_up, override_look_up}
+use Rattle.dotenvy_format.specs.Loads.{is_first_of_absent, load_result, override_result, last_value}
+use Rattle.dotenvy_format.specs.Loads.{SameLoad}
 
 -- look-ups that agree on every name give pieces the same meaning
 pub meaning-same : (l k : LookUp) (pieces : List Piece) → ((n : List ℕ) → l n ≡ k n) →

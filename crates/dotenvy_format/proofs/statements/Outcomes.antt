@@ -1,25 +1,6 @@
 -- Each line says one thing.
-use Rattle.std.proofs.Common.{
-  ◌≡◌,
-  ℕ,
-  Bool,
-  true,
-  false,
-  not,
-  List,
-  [],
-  Some,
-  None,
-  refl,
-  sym,
-  ◌∙◌,
-  ap,
-  subst,
-  take,
-  inl,
-  inr,
-  ⊎_elim,
-}
+use Rattle.std.proofs.Common.{◌≡◌, ℕ, Bool, true, false, not, List, [], Some, None, refl, sym, ◌∙◌}
+use Rattle.std.proofs.Common.{ap, subst, take, inl, inr, ⊎_elim}
 use Rattle.std.specs.Prelude.{IsTrue}
 use Rattle.std.specs.Str.{drop_trailing_whitespace}
 use Rattle.dotenvy_format.specs.declared.dialect.Dialect.{Dialect}
@@ -27,17 +8,8 @@ use Rattle.dotenvy_format.specs.Characters.{byte_len, is_empty_or_comment}
 use Rattle.dotenvy_format.specs.Statement.{IsStatement}
 use Rattle.dotenvy_format.specs.Value.{unquoted, Piece, IsValue}
 use Rattle.dotenvy_format.specs.Places.{BeginsStatement, BeginsValue, IsPlace}
-use Rattle.dotenvy_format.specs.Outcome.{
-  Outcome,
-  Nothing,
-  Pair,
-  Fault,
-  is_nothing,
-  Assigns,
-  value_index,
-  HasNoValue,
-  Says,
-}
+use Rattle.dotenvy_format.specs.Outcome.{Outcome, Nothing, Pair, Fault, is_nothing, Assigns}
+use Rattle.dotenvy_format.specs.Outcome.{value_index, HasNoValue, Says}
 use Rattle.dotenvy_format.proofs.statements.Statements as statements
 use Rattle.dotenvy_format.proofs.statements.Statements.{read-statement, statement-read, one_statement}
 use Rattle.dotenvy_format.proofs.statements.StatementPlaces as statement_places

@@ -1,28 +1,7 @@
 -- A line as code parses it up to the value: skip white space, take a key, let `export` be a prefix, expect `=`.
 -- `parse` is that parser over a list; at a fault it gives what is left.
-use Rattle.std.proofs.Common.{
-  ◌≡◌,
-  ℕ,
-  suc,
-  Bool,
-  true,
-  false,
-  cond,
-  List,
-  [],
-  ◌∷◌,
-  ◌++◌,
-  Some,
-  None,
-  refl,
-  sym,
-  ◌∙◌,
-  ap,
-  append_assoc,
-  subst,
-  length,
-  take,
-}
+use Rattle.std.proofs.Common.{◌≡◌, ℕ, suc, Bool, true, false, cond, List, [], ◌∷◌, ◌++◌, Some, None}
+use Rattle.std.proofs.Common.{refl, sym, ◌∙◌, ap, append_assoc, subst, length, take}
 use Rattle.std.specs.Prelude.{◌==◌, bytes_eq}
 use Rattle.std.specs.Char.{is_whitespace}
 use Rattle.std.specs.Str.{skip_leading_whitespace}
@@ -32,42 +11,18 @@ use Rattle.std.proofs.Math.Seq.{take-append_seam}
 use Rattle.dotenvy_format.specs.Characters.{begins_key, continues_key, equals_sign, byte_len}
 use Rattle.dotenvy_format.specs.Statement.{IsStatement}
 use Rattle.dotenvy_format.specs.Places.{BeginsStatement, IsPlace}
-use Rattle.dotenvy_format.proofs.statements.Statements.{
-  StatementMode,
-  start,
-  in_key,
-  after_key,
-  after_export,
-  assigned,
-  statement_goes,
-  rest_of,
-  read_on,
-  read_statement,
-  read-statement,
-  statement-read,
-  white_no_equals,
-}
+use Rattle.dotenvy_format.proofs.statements.Statements.{StatementMode, start, in_key, after_key}
+use Rattle.dotenvy_format.proofs.statements.Statements.{after_export, assigned, statement_goes}
+use Rattle.dotenvy_format.proofs.statements.Statements.{rest_of, read_on, read_statement}
+use Rattle.dotenvy_format.proofs.statements.Statements.{read-statement, statement-read}
+use Rattle.dotenvy_format.proofs.statements.Statements.{white_no_equals}
 use Rattle.dotenvy_format.specs.inside.ParseStatement.{export}
-use Rattle.dotenvy_format.proofs.statements.StatementPlaces.{
-  statement_reach_after,
-  statement_reach,
-  statement_place,
-  none_some,
-}
-use Rattle.dotenvy_format.specs.inside.ParseStatement.{
-  Parsed,
-  assigns,
-  fails,
-  key_run,
-  key_left,
-  key_then,
-  equals_then,
-  after_equals,
-  after_plain_key,
-  second_key,
-  after_first_key,
-  parse,
-}
+use Rattle.dotenvy_format.proofs.statements.StatementPlaces.{statement_reach_after, statement_reach}
+use Rattle.dotenvy_format.proofs.statements.StatementPlaces.{statement_place, none_some}
+use Rattle.dotenvy_format.specs.inside.ParseStatement.{Parsed, assigns, fails, key_run, key_left}
+use Rattle.dotenvy_format.specs.inside.ParseStatement.{key_then, equals_then, after_equals}
+use Rattle.dotenvy_format.specs.inside.ParseStatement.{after_plain_key, second_key, after_first_key}
+use Rattle.dotenvy_format.specs.inside.ParseStatement.{parse}
 use Rattle.dotenvy_format.proofs.Basics.{when_true, when_false}
 
 -- a fault in a text, read from the mode: nothing is read, and this is left, from the place on

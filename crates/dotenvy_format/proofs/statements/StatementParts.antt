@@ -1,38 +1,12 @@
 -- What the slices of a line are to the parser of statements over its characters.
-use Rattle.std.proofs.Common.{
-  arith,
-  length,
-  ◌≡◌,
-  ℕ,
-  Bool,
-  true,
-  false,
-  not,
-  ◌&&◌,
-  List,
-  [],
-  ◌∷◌,
-  ◌++◌,
-  refl,
-  sym,
-  ◌∙◌,
-  ap,
-  cond,
-}
+use Rattle.std.proofs.Common.{arith, length, ◌≡◌, ℕ, Bool, true, false, not, ◌&&◌, List, [], ◌∷◌}
+use Rattle.std.proofs.Common.{◌++◌, refl, sym, ◌∙◌, ap, cond}
 use Rattle.std.specs.Char.{is_whitespace}
 use Rattle.std.specs.Prelude.{◌==◌, bytes_eq}
 use Rattle.std.specs.Cmp.Lexicographic.{same_text}
 use Rattle.std.specs.List.{list_all}
-use Rattle.std.specs.Str.{
-  chars,
-  IsUtf8,
-  trim_start,
-  trim_end,
-  skip_leading_whitespace,
-  drop_trailing_whitespace,
-  encode_utf8_all,
-  all_scalars,
-}
+use Rattle.std.specs.Str.{chars, IsUtf8, trim_start, trim_end, skip_leading_whitespace}
+use Rattle.std.specs.Str.{drop_trailing_whitespace, encode_utf8_all, all_scalars}
 use Rattle.std.proofs.lemmas.Str.{chars-encodes, scalars-chars, encodes-chars}
 use Rattle.std.proofs.lemmas.Bool.Decides.{nat_tests}
 use Rattle.std.proofs.lemmas.Bool.{and_from}

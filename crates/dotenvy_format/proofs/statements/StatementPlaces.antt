@@ -1,41 +1,14 @@
 -- Which fronts begin a statement, and the place of a fault before the value.
-use Rattle.std.proofs.Common.{
-  ◌≡◌,
-  ℕ,
-  suc,
-  List,
-  [],
-  ◌∷◌,
-  ◌++◌,
-  Option,
-  Some,
-  None,
-  refl,
-  sym,
-  ◌∙◌,
-  ap,
-  append_assoc,
-  subst,
-  take,
-}
+use Rattle.std.proofs.Common.{◌≡◌, ℕ, suc, List, [], ◌∷◌, ◌++◌, Option, Some, None, refl, sym, ◌∙◌}
+use Rattle.std.proofs.Common.{ap, append_assoc, subst, take}
 use Rattle.dotenvy_format.specs.Characters.{equals_sign}
 use Rattle.dotenvy_format.specs.Statement.{IsStatement}
 use Rattle.dotenvy_format.specs.Places.{BeginsStatement, IsPlace}
-use Rattle.dotenvy_format.proofs.statements.Statements.{
-  StatementMode,
-  start,
-  in_key,
-  after_key,
-  after_export,
-  assigned,
-  StatementReading,
-  statement_goes,
-  rest_of,
-  read_on,
-  read_statement,
-  read-statement,
-  statement-read,
-}
+use Rattle.dotenvy_format.proofs.statements.Statements.{StatementMode, start, in_key, after_key}
+use Rattle.dotenvy_format.proofs.statements.Statements.{after_export, assigned, StatementReading}
+use Rattle.dotenvy_format.proofs.statements.Statements.{statement_goes, rest_of, read_on}
+use Rattle.dotenvy_format.proofs.statements.Statements.{read_statement, read-statement}
+use Rattle.dotenvy_format.proofs.statements.Statements.{statement-read}
 use Rattle.dotenvy_format.proofs.Fronts.{Placed, placed_on, placed_before, placed_at_end}
 
 -- the number of characters up to the first that no statement goes on with

@@ -1,36 +1,7 @@
 -- How the pieces that the code reads follow from the reader of values.
-use Rattle.std.proofs.Common.{
-  ◌≡◌,
-  ◌≢◌,
-  ℕ,
-  zero,
-  suc,
-  ◌+◌,
-  ◌/◌,
-  ◌%◌,
-  ◌<◌,
-  Bool,
-  true,
-  false,
-  not,
-  ◌&&◌,
-  ◌||◌,
-  List,
-  [],
-  ◌∷◌,
-  ◌++◌,
-  Some,
-  None,
-  refl,
-  sym,
-  ◌∙◌,
-  ap,
-  subst,
-  arith,
-  length,
-  length-append,
-  append_assoc,
-}
+use Rattle.std.proofs.Common.{◌≡◌, ◌≢◌, ℕ, zero, suc, ◌+◌, ◌/◌, ◌%◌, ◌<◌, Bool, true, false, not}
+use Rattle.std.proofs.Common.{◌&&◌, ◌||◌, List, [], ◌∷◌, ◌++◌, Some, None, refl, sym, ◌∙◌, ap}
+use Rattle.std.proofs.Common.{subst, arith, length, length-append, append_assoc}
 use Rattle.std.specs.Prelude.{◌==◌, if◌then◌else◌}
 use Rattle.std.specs.List.{list_all}
 use denote.Ref.{Bor}
@@ -43,85 +14,30 @@ use Rattle.dotenvy_format.specs.declared.dialect.Dialect.{Dialect}
 use Rattle.dotenvy_format.specs.declared.text.Quoting.{Quoting as CodeQuoting}
 use Rattle.dotenvy_format.specs.declared.text.Quoting.TheVariants.{Unquoted, DoubleQuoted}
 use Rattle.dotenvy_format.specs.declared.value.Kind.{Kind}
-use Rattle.dotenvy_format.specs.declared.value.Kind.TheVariants.{
-  Backslash,
-  SingleQuote,
-  DoubleQuote,
-  Dollar,
-  SpaceOrTab,
-  Plain,
-}
+use Rattle.dotenvy_format.specs.declared.value.Kind.TheVariants.{Backslash, SingleQuote}
+use Rattle.dotenvy_format.specs.declared.value.Kind.TheVariants.{DoubleQuote, Dollar, SpaceOrTab}
+use Rattle.dotenvy_format.specs.declared.value.Kind.TheVariants.{Plain}
 use Rattle.dotenvy_format.specs.declared.value.Piece.TheVariants.{Text as CodeText, Name as CodeName}
 use Rattle.dotenvy_format.specs.declared.value.NextPiece.{NextPiece}
 use Rattle.dotenvy_format.specs.declared.value.NextPiece.TheVariants.{Piece as GivesNext, End, Unfinished, Fault}
-use Rattle.dotenvy_format.specs.Characters.{
-  single_quote,
-  double_quote,
-  dollar,
-  backslash,
-  left_brace,
-  right_brace,
-  hash,
-  is_space_or_tab,
-  is_name_character,
-  is_empty_or_comment,
-  begins_with,
-  begins_passing,
-}
+use Rattle.dotenvy_format.specs.Characters.{single_quote, double_quote, dollar, backslash}
+use Rattle.dotenvy_format.specs.Characters.{left_brace, right_brace, hash, is_space_or_tab}
+use Rattle.dotenvy_format.specs.Characters.{is_name_character, is_empty_or_comment, begins_with}
+use Rattle.dotenvy_format.specs.Characters.{begins_passing}
 use Rattle.dotenvy_format.specs.inside.Slices.{quoting_of, IsSpan}
-use Rattle.dotenvy_format.specs.Value.{
-  Quoting,
-  unquoted,
-  double_quoted,
-  Piece,
-  Text,
-  Name,
-  is_plain,
-  is_escape,
-  is_left_by_name,
-  escape_meaning,
-}
+use Rattle.dotenvy_format.specs.Value.{Quoting, unquoted, double_quoted, Piece, Text, Name}
+use Rattle.dotenvy_format.specs.Value.{is_plain, is_escape, is_left_by_name, escape_meaning}
 use Rattle.dotenvy_format.specs.Items.{LookUp, meaning, text_of}
-use Rattle.dotenvy_format.specs.inside.ReadValue.{
-  ValueMode,
-  base,
-  escaping,
-  in_single,
-  naming,
-  bracing,
-  in_tail,
-  given,
-  is_brace_first,
-  read_value,
-  goes_outside,
-  goes_inside,
-  goes_base,
-  with_pieces,
-  ValueStep,
-  value_goes,
-  value_reach_after,
-  value_reach,
-}
-use Rattle.dotenvy_format.specs.inside.NextPiece.{
-  other_quoting,
-  is_empty,
-  kind_of,
-  IsReadTo,
-  GivesPiece,
-  StopsAt,
-  NextPieceIs,
-  IsShorter,
-}
+use Rattle.dotenvy_format.specs.inside.ReadValue.{ValueMode, base, escaping, in_single, naming}
+use Rattle.dotenvy_format.specs.inside.ReadValue.{bracing, in_tail, given, is_brace_first}
+use Rattle.dotenvy_format.specs.inside.ReadValue.{read_value, goes_outside, goes_inside, goes_base}
+use Rattle.dotenvy_format.specs.inside.ReadValue.{with_pieces, ValueStep, value_goes}
+use Rattle.dotenvy_format.specs.inside.ReadValue.{value_reach_after, value_reach}
+use Rattle.dotenvy_format.specs.inside.NextPiece.{other_quoting, is_empty, kind_of, IsReadTo}
+use Rattle.dotenvy_format.specs.inside.NextPiece.{GivesPiece, StopsAt, NextPieceIs, IsShorter}
 use Rattle.dotenvy_format.proofs.Basics.{and_left, and_right, not_is, when_true, when_false, same_from}
-use Rattle.dotenvy_format.proofs.values.Values.{
-  given-given,
-  given-nil,
-  stepped,
-  plain_goes,
-  comment_read,
-  before_left,
-  brace_not_left,
-}
+use Rattle.dotenvy_format.proofs.values.Values.{given-given, given-nil, stepped, plain_goes}
+use Rattle.dotenvy_format.proofs.values.Values.{comment_read, before_left, brace_not_left}
 use Rattle.dotenvy_format.proofs.bytes.NameCharacters.{brace_no_name}
 use Rattle.dotenvy_format.proofs.bytes.Slices.{IsCut, no_characters}
 

@@ -1,55 +1,17 @@
 -- Which fronts begin a value, and the place of a fault in one.
-use Rattle.std.proofs.Common.{
-  ◌≡◌,
-  ℕ,
-  suc,
-  true,
-  false,
-  List,
-  [],
-  ◌∷◌,
-  ◌++◌,
-  Some,
-  None,
-  refl,
-  sym,
-  ◌∙◌,
-  ap,
-  append_assoc,
-  subst,
-  take,
-}
+use Rattle.std.proofs.Common.{◌≡◌, ℕ, suc, true, false, List, [], ◌∷◌, ◌++◌, Some, None, refl, sym}
+use Rattle.std.proofs.Common.{◌∙◌, ap, append_assoc, subst, take}
 use Rattle.dotenvy_format.specs.declared.dialect.Dialect.{Dialect}
 use Rattle.dotenvy_format.specs.declared.dialect.Dialect.TheVariants.{V15, Next}
 use Rattle.dotenvy_format.specs.Characters.{single_quote, double_quote, right_brace}
-use Rattle.dotenvy_format.specs.Value.{
-  Quoting,
-  unquoted,
-  double_quoted,
-  Piece,
-  Text,
-  Name,
-  is_left_by_name,
-  ends_name,
-  IsValue,
-}
+use Rattle.dotenvy_format.specs.Value.{Quoting, unquoted, double_quoted, Piece, Text, Name}
+use Rattle.dotenvy_format.specs.Value.{is_left_by_name, ends_name, IsValue}
 use Rattle.dotenvy_format.proofs.bytes.NameCharacters.{space_no_name}
 use Rattle.dotenvy_format.specs.Places.{BeginsValue, IsPlace}
 use Rattle.dotenvy_format.proofs.values.Values.{stepped, read-value, value-read, read_bare_end}
-use Rattle.dotenvy_format.specs.inside.ReadValue.{
-  ValueMode,
-  base,
-  escaping,
-  in_single,
-  naming,
-  bracing,
-  in_tail,
-  in_comment,
-  ValueReading,
-  ValueStep,
-  given,
-  read_value,
-}
+use Rattle.dotenvy_format.specs.inside.ReadValue.{ValueMode, base, escaping, in_single, naming}
+use Rattle.dotenvy_format.specs.inside.ReadValue.{bracing, in_tail, in_comment, ValueReading}
+use Rattle.dotenvy_format.specs.inside.ReadValue.{ValueStep, given, read_value}
 use Rattle.dotenvy_format.specs.inside.ReadValue.{value_goes, value_reach_after, value_reach}
 use Rattle.dotenvy_format.proofs.Fronts.{Placed, placed_on, placed_before, placed_at_end}
 

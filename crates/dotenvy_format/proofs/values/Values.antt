@@ -1,28 +1,6 @@
 -- A value read from left to right, character by character.
-use Rattle.std.proofs.Common.{
-  ◌≡◌,
-  ℕ,
-  ◌≤◌,
-  Bool,
-  true,
-  false,
-  ◌&&◌,
-  ◌||◌,
-  not,
-  List,
-  [],
-  ◌∷◌,
-  ◌++◌,
-  Some,
-  None,
-  refl,
-  sym,
-  ◌∙◌,
-  ap,
-  arith,
-  append_assoc,
-  subst,
-}
+use Rattle.std.proofs.Common.{◌≡◌, ℕ, ◌≤◌, Bool, true, false, ◌&&◌, ◌||◌, not, List, [], ◌∷◌, ◌++◌}
+use Rattle.std.proofs.Common.{Some, None, refl, sym, ◌∙◌, ap, arith, append_assoc, subst}
 use Rattle.std.specs.Prelude.{◌==◌}
 use Rattle.std.specs.List.{flat_map, list_all}
 use Rattle.std.proofs.lemmas.List.{append-nil}
@@ -30,86 +8,25 @@ use Rattle.std.proofs.lemmas.Bool.Decides.{nat_tests}
 use Rattle.std.proofs.lemmas.Bool.{and_from}
 use Rattle.dotenvy_format.specs.declared.dialect.Dialect.{Dialect}
 use Rattle.dotenvy_format.specs.declared.dialect.Dialect.TheVariants.{V15, Next}
-use Rattle.dotenvy_format.specs.Characters.{
-  is_space_or_tab,
-  is_name_character,
-  is_empty_or_comment,
-  single_quote,
-  double_quote,
-  dollar,
-  backslash,
-  left_brace,
-  right_brace,
-  hash,
-}
-use Rattle.dotenvy_format.specs.Value.{
-  Quoting,
-  unquoted,
-  double_quoted,
-  Piece,
-  Text,
-  Name,
-  Part,
-  plain,
-  escape,
-  braced,
-  bare,
-  bare_before,
-  Segment,
-  unquoted_part,
-  single,
-  double,
-  Close,
-  nothing,
-  lone_backslash,
-  bare_name,
-  tail,
-  part_text,
-  parts_text,
-  segment_text,
-  segments_text,
-  close_text,
-  escape_meaning,
-  part_pieces,
-  segment_pieces,
-  close_pieces,
-  is_plain,
-  is_escape,
-  is_left_by_name,
-  is_before_left,
-  closes_after_name,
-  ends_name,
-  IsPart,
-  AreParts,
-  IsSegment,
-  AreSegments,
-  IsClose,
-  IsValue,
-}
+use Rattle.dotenvy_format.specs.Characters.{is_space_or_tab, is_name_character, is_empty_or_comment}
+use Rattle.dotenvy_format.specs.Characters.{single_quote, double_quote, dollar, backslash}
+use Rattle.dotenvy_format.specs.Characters.{left_brace, right_brace, hash}
+use Rattle.dotenvy_format.specs.Value.{Quoting, unquoted, double_quoted, Piece, Text, Name, Part}
+use Rattle.dotenvy_format.specs.Value.{plain, escape, braced, bare, bare_before, Segment}
+use Rattle.dotenvy_format.specs.Value.{unquoted_part, single, double, Close, nothing}
+use Rattle.dotenvy_format.specs.Value.{lone_backslash, bare_name, tail, part_text, parts_text}
+use Rattle.dotenvy_format.specs.Value.{segment_text, segments_text, close_text, escape_meaning}
+use Rattle.dotenvy_format.specs.Value.{part_pieces, segment_pieces, close_pieces, is_plain}
+use Rattle.dotenvy_format.specs.Value.{is_escape, is_left_by_name, is_before_left}
+use Rattle.dotenvy_format.specs.Value.{closes_after_name, ends_name, IsPart, AreParts, IsSegment}
+use Rattle.dotenvy_format.specs.Value.{AreSegments, IsClose, IsValue}
 use Rattle.dotenvy_format.proofs.Basics.{and_left, and_right, not_is, not_or, same_from, when_true, when_false}
 use Rattle.dotenvy_format.proofs.bytes.NameCharacters.{dollar_no_name, brace_no_name, quote_no_name}
-use Rattle.dotenvy_format.specs.inside.ReadValue.{
-  ValueMode,
-  base,
-  escaping,
-  in_single,
-  naming,
-  bracing,
-  in_tail,
-  in_comment,
-  ValueReading,
-  ValueStep,
-  given,
-  is_brace_first,
-  goes_outside,
-  goes_inside,
-  goes_base,
-  with_pieces,
-  value_goes,
-  value_at_end,
-  read_after,
-  read_value,
-}
+use Rattle.dotenvy_format.specs.inside.ReadValue.{ValueMode, base, escaping, in_single, naming}
+use Rattle.dotenvy_format.specs.inside.ReadValue.{bracing, in_tail, in_comment, ValueReading}
+use Rattle.dotenvy_format.specs.inside.ReadValue.{ValueStep, given, is_brace_first, goes_outside}
+use Rattle.dotenvy_format.specs.inside.ReadValue.{goes_inside, goes_base, with_pieces, value_goes}
+use Rattle.dotenvy_format.specs.inside.ReadValue.{value_at_end, read_after, read_value}
 
 -- pieces given before others that are given are both given, in order
 pub given-given : (xs ys : List Piece) (r : ValueReading) → given xs (given ys r) ≡ given (xs ++ ys) r

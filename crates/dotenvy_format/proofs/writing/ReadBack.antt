@@ -1,28 +1,6 @@
 -- A written pair, read as a logical line and as a statement.
-use Rattle.std.proofs.Common.{
-  ◌≡◌,
-  ℕ,
-  Bool,
-  true,
-  false,
-  ◌&&◌,
-  ◌||◌,
-  not,
-  cond,
-  List,
-  [],
-  ◌∷◌,
-  ◌++◌,
-  map,
-  refl,
-  sym,
-  ◌∙◌,
-  ap,
-  arith,
-  append_assoc,
-  inl,
-  inr,
-}
+use Rattle.std.proofs.Common.{◌≡◌, ℕ, Bool, true, false, ◌&&◌, ◌||◌, not, cond, List, [], ◌∷◌, ◌++◌}
+use Rattle.std.proofs.Common.{map, refl, sym, ◌∙◌, ap, arith, append_assoc, inl, inr}
 use Rattle.std.specs.Prelude.{IsTrue, if◌then◌else◌, ◌==◌}
 use Rattle.std.specs.List.{flat_map, list_all}
 use Rattle.std.specs.Str.{drop_trailing_whitespace}
@@ -32,23 +10,9 @@ use Rattle.std.specs.Char.{is_whitespace}
 use Rattle.std.proofs.lemmas.Bool.Decides.{nat_tests}
 use Rattle.dotenvy_format.specs.declared.dialect.Dialect.{Dialect}
 use Rattle.dotenvy_format.specs.Characters.{double_quote, backslash, equals_sign, begins_key, continues_key}
-use Rattle.dotenvy_format.specs.Value.{
-  double_quoted,
-  Piece,
-  Text,
-  Part,
-  plain,
-  escape,
-  double,
-  nothing,
-  part_text,
-  parts_text,
-  part_pieces,
-  escape_meaning,
-  IsPart,
-  AreParts,
-  IsValue,
-}
+use Rattle.dotenvy_format.specs.Value.{double_quoted, Piece, Text, Part, plain, escape, double}
+use Rattle.dotenvy_format.specs.Value.{nothing, part_text, parts_text, part_pieces, escape_meaning}
+use Rattle.dotenvy_format.specs.Value.{IsPart, AreParts, IsValue}
 use Rattle.dotenvy_format.specs.Statement.{IsStatement}
 use Rattle.dotenvy_format.specs.Keys.{is_key}
 use Rattle.dotenvy_format.specs.Outcome.{Pair, Says, is_nothing}

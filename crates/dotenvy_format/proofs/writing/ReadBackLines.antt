@@ -1,32 +1,7 @@
 -- Written pairs as logical lines and entries.
-use Rattle.std.proofs.Common.{
-  ◌≡◌,
-  ℕ,
-  Bool,
-  true,
-  false,
-  ◌||◌,
-  not,
-  cond,
-  List,
-  [],
-  ◌∷◌,
-  ◌++◌,
-  map,
-  Option,
-  Some,
-  Ok,
-  refl,
-  sym,
-  ◌∙◌,
-  ap,
-  arith,
-  append_assoc,
-  length,
-  take,
-  length-append,
-  subst,
-}
+use Rattle.std.proofs.Common.{◌≡◌, ℕ, Bool, true, false, ◌||◌, not, cond, List, [], ◌∷◌, ◌++◌, map}
+use Rattle.std.proofs.Common.{Option, Some, Ok, refl, sym, ◌∙◌, ap, arith, append_assoc, length}
+use Rattle.std.proofs.Common.{take, length-append, subst}
 use Rattle.std.specs.Prelude.{IsTrue, if◌then◌else◌, ◌==◌, ◌≢◌, encode_utf8_all}
 use Rattle.std.specs.List.{flat_map, list_all, concat}
 use Rattle.std.specs.Char.{is_whitespace}
@@ -36,62 +11,25 @@ use Rattle.std.proofs.lemmas.Bool.Decides.{nat_tests}
 use Rattle.std.proofs.Math.Seq.{take-append_seam, drop-append_seam}
 use Rattle.std.proofs.Math.Utf8.{scalars}
 use Rattle.dotenvy_format.specs.declared.dialect.Dialect.{Dialect}
-use Rattle.dotenvy_format.specs.Characters.{
-  double_quote,
-  backslash,
-  equals_sign,
-  line_feed,
-  begins_key,
-  continues_key,
-  is_blank,
-  begins_with,
-}
+use Rattle.dotenvy_format.specs.Characters.{double_quote, backslash, equals_sign, line_feed}
+use Rattle.dotenvy_format.specs.Characters.{begins_key, continues_key, is_blank, begins_with}
 use Rattle.dotenvy_format.specs.PhysicalLines.{physical_lines, onto_first}
-use Rattle.dotenvy_format.specs.Tokens.{
-  QuotedCharacter,
-  one,
-  pair,
-  Token,
-  plain,
-  quoted,
-  tokens_text,
-  quoted_text,
-  is_quoted,
-  stands_for_itself,
-  AreTokens,
-}
-use Rattle.dotenvy_format.specs.LogicalLine.{
-  line_end,
-  IsWhole,
-  without_carriage_return,
-  joined_text,
-  IsSkipped,
-  IsNext,
-  Logical,
-  Text,
-}
+use Rattle.dotenvy_format.specs.Tokens.{QuotedCharacter, one, pair, Token, plain, quoted}
+use Rattle.dotenvy_format.specs.Tokens.{tokens_text, quoted_text, is_quoted, stands_for_itself}
+use Rattle.dotenvy_format.specs.Tokens.{AreTokens}
+use Rattle.dotenvy_format.specs.LogicalLine.{line_end, IsWhole, without_carriage_return}
+use Rattle.dotenvy_format.specs.LogicalLine.{joined_text, IsSkipped, IsNext, Logical, Text}
 use Rattle.dotenvy_format.specs.Keys.{is_key}
 use Rattle.dotenvy_format.specs.Outcome.{Pair}
 use Rattle.dotenvy_format.specs.Entries.{Entry, Declares, AreLogicalLines, GiveAll, HasEntries}
 use Rattle.dotenvy_format.specs.Items.{LookUp, no_values, items, items_from, or_else, with_value}
 use Rattle.dotenvy_format.specs.Written.{needs_backslash, written_character, written_pair, written_text}
 use Rattle.dotenvy_format.proofs.Basics.{and_left, and_right}
-use Rattle.dotenvy_format.proofs.lines.Cuts.{
-  IsSome,
-  lines_some,
-  lines-append,
-  concat-lines,
-  joined-texts,
-  line_texts-encodes,
-}
-use Rattle.dotenvy_format.proofs.writing.ReadBack.{
-  begins_key_visible,
-  begins_key_no_hash,
-  character_pieces,
-  meaning-characters,
-  quoted_text_of,
-  written_says,
-}
+use Rattle.dotenvy_format.proofs.lines.Cuts.{IsSome, lines_some, lines-append, concat-lines}
+use Rattle.dotenvy_format.proofs.lines.Cuts.{joined-texts, line_texts-encodes}
+use Rattle.dotenvy_format.proofs.writing.ReadBack.{begins_key_visible, begins_key_no_hash}
+use Rattle.dotenvy_format.proofs.writing.ReadBack.{character_pieces, meaning-characters}
+use Rattle.dotenvy_format.proofs.writing.ReadBack.{quoted_text_of, written_says}
 use Rattle.dotenvy_format.proofs.KeyCharacters.{key_continues}
 
 -- a character of a key is no blank, backslash, quote or line feed

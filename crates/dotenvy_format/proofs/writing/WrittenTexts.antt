@@ -4,14 +4,8 @@ use Rattle.std.specs.List.{flat_map, list_all}
 use Rattle.std.proofs.lemmas.Bool.Decides.{nat_tests}
 use Rattle.std.proofs.Math.Utf8.{scalar, scalars}
 use Rattle.std.proofs.lemmas.Bool.{and_from}
-use Rattle.dotenvy_format.specs.Characters.{
-  double_quote,
-  backslash,
-  equals_sign,
-  line_feed,
-  begins_key,
-  continues_key,
-}
+use Rattle.dotenvy_format.specs.Characters.{double_quote, backslash, equals_sign, line_feed}
+use Rattle.dotenvy_format.specs.Characters.{begins_key, continues_key}
 use Rattle.dotenvy_format.specs.Keys.{is_key}
 use Rattle.dotenvy_format.specs.Written.{needs_backslash, written_character, written_pair, written_text, AreWritable}
 use Rattle.dotenvy_format.proofs.Basics.{and_left, and_right}

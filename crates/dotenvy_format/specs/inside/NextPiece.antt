@@ -1,38 +1,15 @@
 -- What the functions that read a value piece by piece return, said by its characters.
-use Rattle.std.specs.Prelude.{
-  ℕ,
-  ◌≡◌,
-  ◌+◌,
-  ◌<◌,
-  Bool,
-  true,
-  false,
-  ◌==◌,
-  List,
-  [],
-  ◌∷◌,
-  ◌++◌,
-  length,
-  Option,
-  Some,
-  None,
-  MatchOption,
-  if◌then◌else◌,
-}
+use Rattle.std.specs.Prelude.{ℕ, ◌≡◌, ◌+◌, ◌<◌, Bool, true, false, ◌==◌, List, [], ◌∷◌, ◌++◌}
+use Rattle.std.specs.Prelude.{length, Option, Some, None, MatchOption, if◌then◌else◌}
 use denote.Ref.{Bor}
 use Rattle.std.specs.Str.{chars, encode_utf8_all, IsUtf8}
 use Rattle.dotenvy_format.specs.declared.dialect.Dialect.{Dialect}
 use Rattle.dotenvy_format.specs.declared.text.Quoting.{Quoting as CodeQuoting}
 use Rattle.dotenvy_format.specs.declared.text.Quoting.TheVariants.{Unquoted, DoubleQuoted}
 use Rattle.dotenvy_format.specs.declared.value.Kind.{Kind}
-use Rattle.dotenvy_format.specs.declared.value.Kind.TheVariants.{
-  Backslash,
-  SingleQuote,
-  DoubleQuote,
-  Dollar,
-  SpaceOrTab,
-  Plain,
-}
+use Rattle.dotenvy_format.specs.declared.value.Kind.TheVariants.{Backslash, SingleQuote}
+use Rattle.dotenvy_format.specs.declared.value.Kind.TheVariants.{DoubleQuote, Dollar, SpaceOrTab}
+use Rattle.dotenvy_format.specs.declared.value.Kind.TheVariants.{Plain}
 use Rattle.dotenvy_format.specs.declared.value.Piece.{Piece as CodePiece}
 use Rattle.dotenvy_format.specs.declared.value.Piece.TheVariants.{Text, Name}
 use Rattle.dotenvy_format.specs.declared.value.Given.{Given}

@@ -1,28 +1,11 @@
 -- A value read from left to right, character by character. The tests are `elim`, since `if` would compute both cases.
 use Rattle.std.specs.Prelude.{ℕ, suc, Bool, true, false, ◌==◌, List, [], ◌∷◌, ◌++◌, Option, Some, None}
 use Rattle.dotenvy_format.specs.declared.dialect.Dialect.{Dialect}
-use Rattle.dotenvy_format.specs.Characters.{
-  is_space_or_tab,
-  is_name_character,
-  single_quote,
-  double_quote,
-  dollar,
-  backslash,
-  left_brace,
-  right_brace,
-  hash,
-}
-use Rattle.dotenvy_format.specs.Value.{
-  Quoting,
-  unquoted,
-  double_quoted,
-  Piece,
-  Text,
-  Name,
-  escape_meaning,
-  is_escape,
-  is_left_by_name,
-}
+use Rattle.dotenvy_format.specs.Characters.{is_space_or_tab, is_name_character, single_quote}
+use Rattle.dotenvy_format.specs.Characters.{double_quote, dollar, backslash, left_brace}
+use Rattle.dotenvy_format.specs.Characters.{right_brace, hash}
+use Rattle.dotenvy_format.specs.Value.{Quoting, unquoted, double_quoted, Piece, Text, Name}
+use Rattle.dotenvy_format.specs.Value.{escape_meaning, is_escape, is_left_by_name}
 
 -- the mode: what reading is in the middle of
 pub data ValueMode : Type 0 where

@@ -1,57 +1,23 @@
 -- Slices of a text, by its bytes and by its characters.
-use Rattle.std.specs.Prelude.{
-  ℕ,
-  ◌≡◌,
-  Bool,
-  not,
-  ◌&&◌,
-  ◌||◌,
-  ◌==◌,
-  nat_le,
-  nat_lt,
-  List,
-  [],
-  ◌∷◌,
-  ◌++◌,
-  take,
-  IsTrue,
-}
+use Rattle.std.specs.Prelude.{ℕ, ◌≡◌, Bool, not, ◌&&◌, ◌||◌, ◌==◌, nat_le, nat_lt, List, [], ◌∷◌}
+use Rattle.std.specs.Prelude.{◌++◌, take, IsTrue}
 use Rattle.std.specs.Char.{encode_utf8}
 use Rattle.std.specs.List.{list_all}
 use Rattle.std.specs.Str.{chars, IsUtf8, IsCharBoundary}
 use Rattle.dotenvy_format.specs.declared.text.Class.{Class}
-use Rattle.dotenvy_format.specs.declared.text.Class.TheVariants.{
-  Key,
-  Name,
-  Plain,
-  SpaceOrTab,
-  DoubleQuote,
-  Token,
-  Quoted,
-}
+use Rattle.dotenvy_format.specs.declared.text.Class.TheVariants.{Key, Name, Plain, SpaceOrTab}
+use Rattle.dotenvy_format.specs.declared.text.Class.TheVariants.{DoubleQuote, Token, Quoted}
 use Rattle.dotenvy_format.specs.declared.text.ByteKind.{ByteKind}
-use Rattle.dotenvy_format.specs.declared.text.ByteKind.TheVariants.{
-  Plain as PlainByte,
-  Token as TokenByte,
-  Key as KeyByte,
-}
+use Rattle.dotenvy_format.specs.declared.text.ByteKind.TheVariants.{Plain as PlainByte}
+use Rattle.dotenvy_format.specs.declared.text.ByteKind.TheVariants.{Token as TokenByte}
+use Rattle.dotenvy_format.specs.declared.text.ByteKind.TheVariants.{Key as KeyByte}
 use Rattle.dotenvy_format.specs.declared.text.Quoting.{Quoting as CodeQuoting}
 use Rattle.dotenvy_format.specs.declared.text.Quoting.TheVariants.{Unquoted, DoubleQuoted}
 use Rattle.std.specs.Char.{is_ascii_alphanumeric}
 use Rattle.dotenvy_format.specs.declared.dialect.Dialect.{Dialect}
-use Rattle.dotenvy_format.specs.Characters.{
-  begins_passing,
-  tab,
-  space,
-  underscore,
-  double_quote,
-  backslash,
-  is_blank,
-  continues_key,
-  allows_underscore,
-  is_name_character,
-  is_space_or_tab,
-}
+use Rattle.dotenvy_format.specs.Characters.{begins_passing, tab, space, underscore, double_quote}
+use Rattle.dotenvy_format.specs.Characters.{backslash, is_blank, continues_key, allows_underscore}
+use Rattle.dotenvy_format.specs.Characters.{is_name_character, is_space_or_tab}
 use Rattle.dotenvy_format.specs.Tokens.{stands_for_itself}
 use Rattle.dotenvy_format.specs.Value.{Quoting, unquoted, double_quoted, is_plain, is_plain_outside}
 

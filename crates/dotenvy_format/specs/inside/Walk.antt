@@ -1,13 +1,8 @@
 -- How the splitter walks over characters. The contracts of private functions cite it; proofs/Splitting leads to logical lines.
 use Rattle.std.specs.Prelude.{ℕ, ◌≡◌, ◌≤◌, ◌==◌, List, [], ◌∷◌, ◌++◌, length, take, Option, Some, None, if◌then◌else◌}
 use Rattle.dotenvy_format.specs.declared.walk.LineMode.{LineMode}
-use Rattle.dotenvy_format.specs.declared.walk.LineMode.TheVariants.{
-  Outside,
-  Escaping,
-  Inside,
-  InsideEscaping,
-  AfterBlank,
-}
+use Rattle.dotenvy_format.specs.declared.walk.LineMode.TheVariants.{Outside, Escaping, Inside}
+use Rattle.dotenvy_format.specs.declared.walk.LineMode.TheVariants.{InsideEscaping, AfterBlank}
 use Rattle.std.specs.Str.{chars, IsCharBoundary, IsUtf8}
 use Rattle.dotenvy_format.specs.declared.walk.Walked.{Walked}
 use Rattle.dotenvy_format.specs.declared.walk.Walked.TheVariants.{Going, EndedAt}

@@ -1,22 +1,6 @@
 -- What the first pass over a line says, in the words of the format.
-use Rattle.std.specs.Prelude.{
-  ℕ,
-  ◌≡◌,
-  not,
-  List,
-  [],
-  IsTrue,
-  Option,
-  Some,
-  None,
-  is_some,
-  option_map,
-  Result,
-  Ok,
-  Err,
-  string_bytes,
-  if◌then◌else◌,
-}
+use Rattle.std.specs.Prelude.{ℕ, ◌≡◌, not, List, [], IsTrue, Option, Some, None, is_some}
+use Rattle.std.specs.Prelude.{option_map, Result, Ok, Err, string_bytes, if◌then◌else◌}
 use Rattle.std.specs.Str.{chars, encode_utf8_all}
 use Rattle.std.specs.declared.string.String.{String}
 use Rattle.dotenvy_format.specs.declared.dialect.Dialect.{Dialect}

@@ -1,30 +1,7 @@
 -- One physical line, in the pieces in which it is read, as a part of a logical line.
-use Rattle.std.specs.Prelude.{
-  ℕ,
-  ◌≡◌,
-  ◌≢◌,
-  ◌+◌,
-  ◌≤◌,
-  ◌<◌,
-  ◌⊎◌,
-  nat_le,
-  ◌||◌,
-  Bool,
-  true,
-  false,
-  List,
-  [],
-  ◌++◌,
-  length,
-  take,
-  Option,
-  Some,
-  None,
-  Result,
-  Ok,
-  Err,
-  if◌then◌else◌,
-}
+use Rattle.std.specs.Prelude.{ℕ, ◌≡◌, ◌≢◌, ◌+◌, ◌≤◌, ◌<◌, ◌⊎◌, nat_le, ◌||◌, Bool, true, false}
+use Rattle.std.specs.Prelude.{List, [], ◌++◌, length, take, Option, Some, None, Result, Ok, Err}
+use Rattle.std.specs.Prelude.{if◌then◌else◌}
 use Rattle.std.specs.Str.{chars, IsUtf8, skip_leading_whitespace}
 use Rattle.std.specs.declared.io.ErrorKind.{ErrorKind}
 use Rattle.dotenvy_base.specs.declared.errors.Error.{Error}
@@ -34,12 +11,10 @@ use Rattle.dotenvy_lines.specs.declared.physical_line.Progress.TheVariants.{Blan
 use Rattle.dotenvy_lines.specs.declared.physical_line.After.{After}
 use Rattle.dotenvy_lines.specs.declared.physical_line.After.TheVariants.{LineEnd, InputEnd, Broken, Unread}
 use Rattle.dotenvy_lines.specs.declared.physical_line.Taken.{Taken}
-use Rattle.dotenvy_lines.specs.declared.physical_line.Taken.TheVariants.{
-  Going as taken_going,
-  Ended as taken_ended,
-  Comment as taken_comment,
-  Broken as taken_broken,
-}
+use Rattle.dotenvy_lines.specs.declared.physical_line.Taken.TheVariants.{Going as taken_going}
+use Rattle.dotenvy_lines.specs.declared.physical_line.Taken.TheVariants.{Ended as taken_ended}
+use Rattle.dotenvy_lines.specs.declared.physical_line.Taken.TheVariants.{Comment as taken_comment}
+use Rattle.dotenvy_lines.specs.declared.physical_line.Taken.TheVariants.{Broken as taken_broken}
 use Rattle.dotenvy_format.specs.Characters.{begins_with, hash}
 use Rattle.dotenvy_format.specs.PhysicalLines.{no_line_feed, is_whole_line}
 use Rattle.dotenvy_format.specs.inside.Walk.{walk, going, ended}

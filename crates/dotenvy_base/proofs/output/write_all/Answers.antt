@@ -1,17 +1,8 @@
 use Rattle.std.proofs.Common.{rules, arith, refl, ap, ◌≡◌, ◌≢◌, ◌∙◌, drop, length}
 use Rattle.dotenvy_base.proofs.Basics.{tested_empty, tested_some}
-use Rattle.dotenvy_base.proofs.Writes.{
-  slice_rest,
-  sending_start,
-  sending_more,
-  sending_again,
-  sends_all,
-  sends_none_left,
-  sends_failed,
-  sends_zero,
-  is_no_interruption,
-  is_interruption,
-}
+use Rattle.dotenvy_base.proofs.Writes.{slice_rest, sending_start, sending_more, sending_again}
+use Rattle.dotenvy_base.proofs.Writes.{sends_all, sends_none_left, sends_failed, sends_zero}
+use Rattle.dotenvy_base.proofs.Writes.{is_no_interruption, is_interruption}
 use Rattle.dotenvy_base.proofs.output.write_all.Goals as goal
 use Rattle.dotenvy_base.proofs.output.write_all.Goals.{in-Ok, in-Err+else-ne}
 

@@ -1,15 +1,8 @@
 use Rattle.std.proofs.Common.{rules, of_calls, refl, sym, ◌∙◌}
 use Rattle.std.specs.Path.{path_bytes}
 use Rattle.dotenvy_base.specs.declared.search.Look.TheVariants.{File, Other, Fault}
-use Rattle.dotenvy_base.proofs.Searching.{
-  asking_on,
-  finds_cut,
-  finds_ended,
-  finds_none,
-  ends_by_test,
-  answers_fault,
-  parent_is_less,
-}
+use Rattle.dotenvy_base.proofs.Searching.{asking_on, finds_cut, finds_ended, finds_none}
+use Rattle.dotenvy_base.proofs.Searching.{ends_by_test, answers_fault, parent_is_less}
 use Rattle.dotenvy_base.proofs.search.find.Goals as goal
 use Rattle.dotenvy_base.proofs.search.find.Goals.{in-Other, in-Fault+else-ne}
 

@@ -1,26 +1,7 @@
 use lib.Pointwise.{pointwise}
 use lib.Dec.{eqb}
-use Rattle.std.proofs.Common.{
-  rules,
-  arith,
-  ◌≡◌,
-  ◌≢◌,
-  ℕ,
-  sym,
-  ◌∙◌,
-  ap,
-  [],
-  ◌∷◌,
-  List,
-  Bool,
-  false,
-  true,
-  length,
-  take,
-  cond,
-  ne_eqb,
-  lit<,
-}
+use Rattle.std.proofs.Common.{rules, arith, ◌≡◌, ◌≢◌, ℕ, sym, ◌∙◌, ap, [], ◌∷◌, List, Bool, false}
+use Rattle.std.proofs.Common.{true, length, take, cond, ne_eqb, lit<}
 use Rattle.std.specs.Prelude.{Some, None, ◌==◌}
 use Rattle.std.proofs.lemmas.Grind.{common_steps}
 use Rattle.std.proofs.lemmas.Str.Pattern.{rfind_char}

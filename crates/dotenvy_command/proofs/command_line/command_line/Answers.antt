@@ -4,20 +4,10 @@ use Rattle.std.proofs.lemmas.Grind.{common_steps}
 use Rattle.dotenvy_command.specs.Answers.{texts, line_of}
 use Rattle.dotenvy_command.specs.inside.FirstGroup.{GroupBeginsWith}
 use Rattle.dotenvy_command.specs.Words.{MissingCommand}
-use Rattle.dotenvy_command.proofs.WordGroups.{
-  answers_memory,
-  answers_refused,
-  copied,
-  ends,
-  ends_without_command,
-  no_texts,
-  no_words,
-  one_more,
-}
-use Rattle.dotenvy_command.proofs.command_line.command_line.Goals.{
-  else-is_empty-via-then-is_empty+else-not-line,
-  else-is_empty-via-else-is_empty,
-}
+use Rattle.dotenvy_command.proofs.WordGroups.{answers_memory, answers_refused, copied, ends}
+use Rattle.dotenvy_command.proofs.WordGroups.{ends_without_command, no_texts, no_words, one_more}
+use Rattle.dotenvy_command.proofs.command_line.command_line.Goals.{else-is_empty-via-then-is_empty+else-not-line}
+use Rattle.dotenvy_command.proofs.command_line.command_line.Goals.{else-is_empty-via-else-is_empty}
 use Rattle.dotenvy_command.proofs.command_line.command_line.Goals as goal
 
 pub returns-in_err-clone : goal.returns-in_err-clone

@@ -2,15 +2,8 @@ use Rattle.std.proofs.Common.{refl, sym, subst, ◌∙◌}
 use Rattle.std.specs.Str.{IsUtf8}
 use Rattle.std.proofs.lemmas.Str.{IsUtf8-drop}
 use Rattle.dotenvy_format.specs.inside.Slices.{has_character}
-use Rattle.dotenvy_format.proofs.bytes.ByteRuns.{
-  passed_none,
-  passed_run,
-  passed_first,
-  passed_all,
-  none_next,
-  fails_next,
-  fewer,
-}
+use Rattle.dotenvy_format.proofs.bytes.ByteRuns.{passed_none, passed_run, passed_first, passed_all}
+use Rattle.dotenvy_format.proofs.bytes.ByteRuns.{none_next, fails_next, fewer}
 use Rattle.dotenvy_format.proofs.text.split_while.Goals as goal
 use Rattle.dotenvy_format.proofs.text.split_while.Goals.{in_default-via-in-Some+else-contains, in_default-via-in_default}
 

@@ -1,12 +1,6 @@
-use Rattle.dotenvy_format.proofs.lines.LineTexts.{
-  walking_start,
-  walking_run,
-  walking_step,
-  walking_ends,
-  walking_done,
-  walking-within,
-  run-smaller,
-}
+use Rattle.dotenvy_format.proofs.lines.LineTexts.{walking_start, walking_run, walking_step}
+use Rattle.dotenvy_format.proofs.lines.LineTexts.{walking_ends, walking_done, walking-within}
+use Rattle.dotenvy_format.proofs.lines.LineTexts.{run-smaller}
 use Rattle.dotenvy_format.proofs.walk.walk_text.Goals as goal
 
 pub walking-init : goal.walking-init

@@ -9,16 +9,8 @@ use Rattle.dotenvy_items.specs.Iter.{state_of}
 use Rattle.dotenvy_lines.specs.declared.lines.Stage.TheVariants.{Open}
 use Rattle.dotenvy_lines.specs.Input.{InputState, AsksReads}
 use Rattle.dotenvy_lines.proofs.AskedReads.{asks_none, asks_line, asks_weaker}
-use Rattle.dotenvy_items.proofs.NextItems.{
-  passed_none,
-  passed_all,
-  next_leads,
-  leads_item,
-  leads_on,
-  stands_then,
-  stands_nowhere,
-  adds_anywhere,
-}
+use Rattle.dotenvy_items.proofs.NextItems.{passed_none, passed_all, next_leads, leads_item}
+use Rattle.dotenvy_items.proofs.NextItems.{leads_on, stands_then, stands_nowhere, adds_anywhere}
 use Rattle.dotenvy_items.proofs.iter.next_of.Goals as goal
 
 pub lines-init : goal.lines-init

@@ -5,17 +5,8 @@ use Rattle.std.specs.Str.{chars}
 use Rattle.dotenvy_format.specs.Characters.{double_quote, equals_sign, byte_len}
 use Rattle.dotenvy_format.specs.Written.{written_character, written_bytes}
 use Rattle.std.proofs.lemmas.Grind.{common_steps}
-use Rattle.dotenvy_items.proofs.WrittenBytes.{
-  left_bytes,
-  pair_bytes,
-  room,
-  begun_bytes,
-  next_len,
-  left_at_least,
-  last_bytes,
-  run_bytes,
-  run_bytes_len,
-}
+use Rattle.dotenvy_items.proofs.WrittenBytes.{left_bytes, pair_bytes, room, begun_bytes, next_len}
+use Rattle.dotenvy_items.proofs.WrittenBytes.{left_at_least, last_bytes, run_bytes, run_bytes_len}
 use Rattle.dotenvy_items.proofs.written.push_written.Goals as goal
 
 pub unwrap-requires : goal.unwrap-requires

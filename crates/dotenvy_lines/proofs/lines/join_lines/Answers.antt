@@ -6,27 +6,15 @@ use Rattle.dotenvy_base.specs.Source.{Ahead}
 use Rattle.dotenvy_lines.specs.Input.{input_measure}
 use Rattle.dotenvy_lines.specs.declared.lines.Joined.{Joined}
 use Rattle.dotenvy_lines.specs.inside.JoinedLines.{TakesJoined, joined_at_end}
-use Rattle.dotenvy_lines.specs.declared.physical_line.Taken.TheVariants.{
-  Going as taken_going,
-  Ended as taken_ended,
-  Comment as taken_comment,
-  Broken as taken_broken,
-}
+use Rattle.dotenvy_lines.specs.declared.physical_line.Taken.TheVariants.{Going as taken_going}
+use Rattle.dotenvy_lines.specs.declared.physical_line.Taken.TheVariants.{Ended as taken_ended}
+use Rattle.dotenvy_lines.specs.declared.physical_line.Taken.TheVariants.{Comment as taken_comment}
+use Rattle.dotenvy_lines.specs.declared.physical_line.Taken.TheVariants.{Broken as taken_broken}
 use Rattle.dotenvy_lines.proofs.Inputs.{when-not}
 use Rattle.dotenvy_lines.specs.Lines.{Counts}
-use Rattle.dotenvy_lines.proofs.LineJoins.{
-  Joining,
-  joining_empty,
-  joining_told,
-  joining_counts,
-  joining_finish,
-  joining_fails,
-  joining_waits,
-  line_was_taken,
-  line_ends_next,
-  line-of-none,
-  none-feeds,
-}
+use Rattle.dotenvy_lines.proofs.LineJoins.{Joining, joining_empty, joining_told, joining_counts}
+use Rattle.dotenvy_lines.proofs.LineJoins.{joining_finish, joining_fails, joining_waits}
+use Rattle.dotenvy_lines.proofs.LineJoins.{line_was_taken, line_ends_next, line-of-none, none-feeds}
 use Rattle.dotenvy_lines.proofs.AskedReads.{asks_none, asks_more, asks_on, asks_weaker, asks_failed}
 use Rattle.dotenvy_lines.proofs.lines.join_lines.Goals as goal
 

@@ -9,16 +9,9 @@ use Rattle.dotenvy_lines.specs.declared.physical_line.Taken.{Taken}
 use Rattle.dotenvy_lines.specs.inside.TakenLine.{LineMakes, PieceFalls}
 use Rattle.dotenvy_base.proofs.Basics.{tested_empty, tested_some}
 use Rattle.dotenvy_lines.proofs.LineJoins.{begun_chars}
-use Rattle.dotenvy_lines.proofs.TakenLines.{
-  InLine,
-  in_line-start,
-  in_line-ends,
-  in_line-input-ends,
-  in_line-breaks,
-  in_line-break-fails,
-  in_line-more,
-  in_line-fails,
-}
+use Rattle.dotenvy_lines.proofs.TakenLines.{InLine, in_line-start, in_line-ends, in_line-input-ends}
+use Rattle.dotenvy_lines.proofs.TakenLines.{in_line-breaks, in_line-break-fails, in_line-more}
+use Rattle.dotenvy_lines.proofs.TakenLines.{in_line-fails}
 use Rattle.dotenvy_lines.proofs.AskedReads.{asks_none, asks_more, asks_weaker, asks_failed}
 use Rattle.dotenvy_lines.proofs.physical_line.take_line.Goals as goal
 

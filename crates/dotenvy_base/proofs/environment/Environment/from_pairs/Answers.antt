@@ -1,10 +1,8 @@
 use Rattle.std.proofs.Common.{rules, ap, ◌∙◌}
 use Rattle.dotenvy_base.proofs.TextMaps.{pairs-passed_by, pairs-again, pairs-new}
 use Rattle.dotenvy_base.proofs.environment.Environment.from_pairs.Goals as goal
-use Rattle.dotenvy_base.proofs.environment.Environment.from_pairs.Goals.{
-  else-is_pair-via-then-is_pair+else-not-contains,
-  else-is_pair-via-else-is_pair,
-}
+use Rattle.dotenvy_base.proofs.environment.Environment.from_pairs.Goals.{else-is_pair-via-then-is_pair+else-not-contains}
+use Rattle.dotenvy_base.proofs.environment.Environment.from_pairs.Goals.{else-is_pair-via-else-is_pair}
 
 pub loop-name-preserved-then-not-contains : goal.loop-name-preserved-then-not-contains
 loop-name-preserved-then-not-contains g c = record {

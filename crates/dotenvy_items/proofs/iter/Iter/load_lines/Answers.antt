@@ -7,15 +7,8 @@ use Rattle.dotenvy_items.specs.LoadsRest.{LoadsRest}
 use Rattle.dotenvy_items.specs.inside.LoadStep.{mode_of, LoadsLine}
 use Rattle.dotenvy_items.specs.Remembered.{remembered_of}
 use Rattle.dotenvy_items.proofs.EnvChanges.{changes_none, changes_twice, keeps_twice}
-use Rattle.dotenvy_items.proofs.LoadSteps.{
-  CameTo,
-  came_start,
-  came_line,
-  loads_line,
-  loads_none,
-  loads_fault,
-  loads_mark,
-}
+use Rattle.dotenvy_items.proofs.LoadSteps.{CameTo, came_start, came_line, loads_line, loads_none}
+use Rattle.dotenvy_items.proofs.LoadSteps.{loads_fault, loads_mark}
 use Rattle.dotenvy_items.proofs.iter.Iter.load_lines.Goals as goal
 
 pub returns-in_err-drop_mark-clause-told : goal.returns-in_err-drop_mark-clause-told

@@ -1,13 +1,7 @@
 use Rattle.std.proofs.Common.{arith, refl, sym, ◌∙◌, [], inl, inr}
 use Rattle.std.proofs.lemmas.Result.{err_from_is_err_and}
-use Rattle.dotenvy_lines.proofs.Inputs.{
-  reading_start,
-  reading_moves,
-  reading_whole,
-  reading_ends,
-  reading_more,
-  reading_fails,
-}
+use Rattle.dotenvy_lines.proofs.Inputs.{reading_start, reading_moves, reading_whole, reading_ends}
+use Rattle.dotenvy_lines.proofs.Inputs.{reading_more, reading_fails}
 use Rattle.dotenvy_lines.proofs.AskedReads.{asks_none, asks_more, asks_weaker, asks_failed}
 use Rattle.dotenvy_lines.proofs.input.Input.skip_line.Goals as goal
 

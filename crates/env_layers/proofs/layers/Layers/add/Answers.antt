@@ -6,10 +6,8 @@ use Rattle.dotenvy.specs.Loads.{load_result, override_result}
 use Rattle.dotenvy.specs.LoadsRest.{LoadsRest}
 use Rattle.env_layers.specs.Layers.{rule_of}
 use Rattle.env_layers.proofs.Added.{adds_by, adds_none}
-use Rattle.env_layers.proofs.layers.Layers.add.Goals.{
-  in-Keep+in_ok-from_read-in-Keep,
-  in-Override+in_ok-from_read_override-in-Override,
-}
+use Rattle.env_layers.proofs.layers.Layers.add.Goals.{in-Keep+in_ok-from_read-in-Keep}
+use Rattle.env_layers.proofs.layers.Layers.add.Goals.{in-Override+in_ok-from_read_override-in-Override}
 use Rattle.env_layers.proofs.layers.Layers.add.Goals as goal
 
 pub returns-in_err-layered-clause-told : goal.returns-in_err-layered-clause-told
