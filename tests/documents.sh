@@ -2,9 +2,10 @@
 # Compares the documents with what is played, built and proved:
 # - crates/replay/data has the examples of docs/GRAMMAR.md, docs/OTHER_LIBRARIES.md and README.md as rows;
 # - crates/replay/stdout has the number of rows of each file, and crates/replay/args names each;
-# - each block of Rust in README.md and docs/LIBRARY.md is in a source file of crates/examples or crates/check_file, and so
-#   is each line beside one of the Rust crate;
+# - each block of Rust in README.md and docs/LIBRARY.md is in a source file of crates/examples, crates/check_file or
+#   crates/own_contracts, and so is each line beside one of the Rust crate;
 # - docs/LIBRARY.md has each public call with its signature, and README.md a contract of the code;
+# - docs/DEFINITIONS.md has the definitions on which the headline rests;
 # - each link of the pages leads to a file and a heading, and each page that is named is a link.
 # It takes a second or two, and no proof. The last line is `N passed, M failed`.
 set -euo pipefail
@@ -61,7 +62,7 @@ stands_in_examples() {
         if stands_in "$1" "$source"; then
             return 0
         fi
-    done < <(find crates/examples/src crates/check_file/src -name '*.rt')
+    done < <(find crates/examples/src crates/check_file/src crates/own_contracts/src -name '*.rt')
     return 1
 }
 
@@ -137,6 +138,7 @@ for document in README.md docs/LIBRARY.md; do
 done
 check "docs/LIBRARY.md, each line beside one of the Rust crate is in an example" has_lines_from_rust
 check "docs/LIBRARY.md has each public call with its signature" python3 tests/signatures.py
+check "docs/DEFINITIONS.md has what has to be believed, and no more" python3 tests/believed.py
 check "each link of the pages leads somewhere" python3 tests/links.py
 check_contracts README.md crates/dotenvy_base/src/environment.rt
 

@@ -370,7 +370,7 @@ check_new() {
 check_crates() {
     cp "$copy/crates.txt" "$temporary/crates.txt"
     mkdir "$copy/crates/one_more"
-    sed -i 's/^dotenv_characters:/one_more:\n& one_more/' "$copy/crates.txt"
+    sed -i 's/^dotenvy_format:/one_more:\n& one_more/' "$copy/crates.txt"
     empty_target
     check 'crates.txt may have one crate more' with rt call "$target"
     check 'it is shown as the first one' test "$(shown_crates | head -n 1)" = one_more
@@ -438,7 +438,7 @@ check_early() {
 
 check_failures() {
     local crate make
-    for crate in dotenv_lines dotenvy_run; do
+    for crate in dotenvy_lines dotenvy_run; do
         echo "$crate" >"$temporary/fail_in"
         old_target
         check "$crate is not proved: older files stay" with rt refuses "rt failed at $crate, " "$target"
@@ -461,7 +461,7 @@ check_signals() {
     for signal in INT TERM; do
         for make in empty_target old_target; do
             "$make"
-            echo dotenv_items >"$temporary/wait_in"
+            echo dotenvy_items >"$temporary/wait_in"
             check "$make: SIG$signal during the proof" with rt stops_at "$signal" "$target"
             : >"$temporary/wait_in"
             "$make"

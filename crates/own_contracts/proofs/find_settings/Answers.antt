@@ -3,12 +3,12 @@ use Rattle.std.specs.Prelude.{codes, Result}
 use Rattle.std.specs.Path.{path_bytes, path_buf_bytes}
 use Rattle.std.specs.declared.path.PathBuf.{PathBuf}
 use Rattle.dotenvy.specs.Error.{Error}
-use Rattle.dotenvy.specs.Find.{Calls, Finds, IsPathOf}
+use Rattle.dotenvy.specs.Find.{Finds, IsPathOf, LookStep}
 use Rattle.dotenvy.proofs.Lemmas.{finds_a_path}
 use Rattle.own_contracts.proofs.find_settings.Goals as goal
 
 -- what a search finds is a path of the name
-is_path : {F A : Type 0} (step : Calls F) (before after : F) (directory name : List ℕ)
+is_path : {F A : Type 0} (step : LookStep F) (before after : F) (directory name : List ℕ)
     (result : Result (PathBuf A) (Error A)) → Finds step before after directory name result →
     IfOk result (λ path. IsPathOf name (path_buf_bytes path))
 is_path step before after directory name (Ok path) finds =
