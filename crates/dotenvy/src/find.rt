@@ -1,4 +1,4 @@
-// A file found in the current directory or above it, opened.
+//! A file found in the current directory or above it, opened.
 ghost use Rattle.std.specs.Prelude.{◌≡◌, IfErr, IfOk, None, codes};
 ghost use Rattle.std.specs.Path.{path_bytes, path_buf_bytes};
 ghost use Rattle.dotenvy_base.specs.Errors.{IsFileFault, IsSystemFault};

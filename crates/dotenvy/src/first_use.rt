@@ -1,4 +1,4 @@
-// The values of an environment, into which the first use loads `.env`.
+//! The values of an environment, into which the first use loads `.env`.
 ghost use Rattle.std.specs.Prelude.{◌≡◌, ◌⊎◌, Err, IfErr, IfOk, None, OnErr, OnOk, false, true};
 ghost use Rattle.std.specs.FinMap as fin;
 ghost use Rattle.dotenvy_base.specs.Environment.{KeepsNames};

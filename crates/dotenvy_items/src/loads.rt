@@ -1,4 +1,4 @@
-// What one logical line of a load sets.
+//! What one logical line of a load sets.
 ghost use Rattle.std.specs.Prelude.{◌≡◌};
 ghost use Rattle.std.specs.Str.{chars};
 ghost use Rattle.dotenvy_items.specs.Remembered.{remembered_of};

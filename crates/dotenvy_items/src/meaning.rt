@@ -1,4 +1,4 @@
-// What the names of a line stand for, and what a value means by them.
+//! What the names of a line stand for, and what a value means by them.
 ghost use Rattle.std.specs.Prelude.{◌≡◌, ◌≤◌, ◌+◌, ◌++◌, [], length, unwrap_or, string_bytes, string_len, MatchResult};
 ghost use Rattle.dotenvy_base.specs.Errors.{IsMemory};
 ghost use Rattle.std.specs.String.{string_capacity};

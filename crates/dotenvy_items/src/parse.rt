@@ -1,4 +1,4 @@
-// What one logical line says.
+//! What one logical line says.
 ghost use Rattle.std.specs.Prelude.{◌≡◌, ◌⊎◌, ◌<◌, ◌++◌, not, length, List, ℕ, IfOk, IfErr};
 ghost use Rattle.std.specs.Str.{chars};
 ghost use Rattle.dotenvy_format.specs.Characters.{byte_len};

@@ -1,4 +1,4 @@
-// The values that an iterator remembers.
+//! The values that an iterator remembers.
 ghost use Rattle.std.specs.Prelude.{◌≡◌, OnOk, OnErr, option_copied, option_map, string_bytes};
 ghost use Rattle.std.specs.FinMap as fin;
 ghost use Rattle.dotenvy_items.specs.Remembered.{remembered_of, recalled};

@@ -1,4 +1,4 @@
-// Layers over an environment.
+//! Layers over an environment.
 ghost use Rattle.std.specs.Prelude.{◌≡◌, IfOk, OnErr};
 ghost use Rattle.std.specs.FinMap.{contains_key};
 ghost use Rattle.std.specs.List.{list_all};

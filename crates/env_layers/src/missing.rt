@@ -1,4 +1,4 @@
-// What a requirement finds wanting.
+//! What a requirement finds wanting.
 ghost use Rattle.std.specs.Prelude.{◌++◌, codes, string_bytes};
 ghost use Rattle.std.specs.Fmt.{WritesOnOk};
 ghost use Rattle.std.specs.List.{flat_map, join_by};
