@@ -26,7 +26,11 @@ row -f first.env -f second.env sh -c 'echo "$X $Y $Z"'
 row --next -f next.env sh -c 'echo "$K"'
 row sh -c 'exit 7'
 row sh -c 'kill -9 $$'
+row sh -c 'kill -13 $$'
 row sh -c 'echo its own >&2; exit 1'
+for status in 126 127 128 200 255; do
+    row sh -c "exit $status"
+done
 
 row -f faulty.env sh -c 'echo started'
 row -f first.env -f faulty.env sh -c 'echo started'
@@ -40,6 +44,60 @@ row --list --file
 row -h
 row -- sh
 row "$(printf '\377')" | tail -n 2
+
+# Words reach the command as they are: its own, empty ones, ones with blanks at their ends, ones like the word before.
+row sh -c 'echo "$0"'
+row sh -c 'printf "<%s>" "$0" "$@"; echo' '' ' a ' b b ''
+row '' echo started
+PATH=/bin:/usr/bin row ' echo' started
+PATH=/bin:/usr/bin row ' --list'
+
+# Many words, of which only what comes of them is shown.
+row sh -c 'echo "$# $1 ${5000}"' sh $(seq 5000) | tail -n 2
+row $(seq 300 | sed 's/.*/-ffirst.env/') -f second.env sh -c 'echo "$X $Z"' | tail -n 2
+
+# Files with blanks at their ends, without a name, and of bytes that are no text. A list does without its files.
+echo 'X=blank' >' first.env '
+printf 'A=\377\n' >broken.env
+row -f ' first.env ' sh -c 'echo "$X"'
+row -f '' echo started
+row -f broken.env echo started
+row --list <broken.env
+echo 'A=1' | row --list -f absent.env sh -c 'echo started'
+
+# A text that has line feeds is printed with them.
+printf 'A="x\ny\n' | row --list
+
+# A command has all of standard input: of a file, and of a pipe that no single read empties.
+row cat <second.env
+seq 20000 | row sed -n '1p; $p'
+
+# What a call leaves of standard input for the next program.
+leaving() {
+    printf '1\n2\n' | { row "$@"; sed 's/^/left: /'; }
+}
+
+leaving -x
+leaving -f absent.env cat
+leaving -f faulty.env cat
+leaving /no/such/program
+leaving sh -c 'exit 7'
+leaving sh -c 'read -r line; echo "its $line"'
+
+# Entries of the environment that are no text, and no name, reach the command, and names keep the blanks at their ends.
+BYTES=$(printf '\377') row sh -c 'printf %s "$BYTES" | wc -c'
+X=$(printf '\377') row -f first.env sh -c 'echo "$X $Y"'
+env 'A =1' ' A=2' =3 "$program" env | grep '^ *A* *=[123]$' | LC_ALL=C sort
+
+# More names than small limits hold, of a file, and of the process, which keeps its values. The command counts them.
+seq 1100 | sed 's/.*/N&=file/' >many.env
+row -f many.env sh -c 'env | grep -c "^N[0-9]*=file$"'
+(
+    for number in $(seq 1100); do
+        export "N$number=process"
+    done
+    row -f many.env sh -c 'env | grep -c "^N[0-9]*=process$"'
+)
 
 # What no file system has a place for. Of words this long only what comes of them is shown.
 long=$(printf '%05000d' 0)
