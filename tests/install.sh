@@ -367,10 +367,13 @@ check_new() {
     check 'the modes are the same' holds_both_alone "$target/a directory"
 }
 
+# One crate more, on which the crate that was shown first depends.
 check_crates() {
+    local first
+    first=$(shown_crates | head -n 1)
     cp "$copy/crates.txt" "$temporary/crates.txt"
     mkdir "$copy/crates/one_more"
-    sed -i 's/^dotenvy_format:/one_more:\n& one_more/' "$copy/crates.txt"
+    sed -i "s/^$first:/one_more:\n& one_more/" "$copy/crates.txt"
     empty_target
     check 'crates.txt may have one crate more' with rt call "$target"
     check 'it is shown as the first one' test "$(shown_crates | head -n 1)" = one_more
