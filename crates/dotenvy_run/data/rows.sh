@@ -120,9 +120,17 @@ row -f first.env/x echo started
 row -f "$long" echo started | tail -n 2
 chmod 700 locked.env shut
 
-# Commands that can't be started: a directory, a file that is no program, names that are too long, in PATH and beside.
+# Commands that can't be started: a directory, a file that is no program, a script that names no interpreter, one whose
+# interpreter is absent, any command with a variable that is too large, names that are too long, in PATH and beside.
+printf 'echo started\n' >script
+printf '#!/no/such/program\n' >stray
+chmod +x script stray
+printf 'LONG=%0200000d\n' 0 >long.env
 row ./folder
 row ./first.env
+row ./script
+row ./stray
+row -f long.env echo started
 row "$long" | tail -n 2
 row "./$long" | tail -n 2
 
