@@ -6,6 +6,7 @@
 #   crates/own_contracts, and so is each line beside one of the Rust crate;
 # - docs/LIBRARY.md has each public call with its signature, and README.md a contract of the code;
 # - docs/DEFINITIONS.md has the definitions on which the headline rests;
+# - docs/CONTRACTS.md names rows and tests that exist where something is only tested;
 # - each link of the pages leads to a file and a heading, and each page that is named is a link.
 # It takes a second or two, and no proof. The last line is `N passed, M failed`.
 set -euo pipefail
@@ -139,6 +140,7 @@ done
 check "docs/LIBRARY.md, each line beside one of the Rust crate is in an example" has_lines_from_rust
 check "docs/LIBRARY.md has each public call with its signature" python3 tests/signatures.py
 check "docs/DEFINITIONS.md has what has to be believed, and no more" python3 tests/believed.py
+check "docs/CONTRACTS.md names rows and tests that exist" python3 tests/tested_by.py
 check "each link of the pages leads somewhere" python3 tests/links.py
 check_contracts README.md crates/dotenvy_base/src/environment.rt
 
