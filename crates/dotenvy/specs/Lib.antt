@@ -40,5 +40,6 @@ pub use Rattle.dotenvy_items.specs.Iter
 pub use Rattle.dotenvy_items.specs.Meaning
 pub use Rattle.dotenvy_items.specs.NextItem
 pub use Rattle.dotenvy_items.specs.LoadsRest
+pub use Rattle.dotenvy_items.specs.LoadStops
 pub use Rattle.dotenvy_items.specs.Listed
 pub use Rattle.dotenvy_items.specs.Iteration

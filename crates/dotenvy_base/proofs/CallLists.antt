@@ -1,7 +1,7 @@
 -- Lists of calls, joined.
 use Rattle.std.proofs.Common.{List, [], ◌∷◌, ◌++◌}
 use Rattle.std.specs.List.{AllByRecursion}
-use Rattle.dotenvy_base.specs.Calls.{Call, AllMayGoOn, OnlyLastEnds}
+use Rattle.dotenvy_base.specs.Calls.{Call, AllMayGoOn, OnlyLastEnds, LastMovesNone}
 
 -- what holds of each of two lists holds of each of both
 pub all_of_both : {T : Type 0} (P : T → Type 0) (xs ys : List T) → AllByRecursion P xs → AllByRecursion P ys →
@@ -15,3 +15,10 @@ ends_behind [] later all ends = ends
 ends_behind (call ∷ []) [] all ends = tt
 ends_behind (call ∷ []) (next ∷ later) (goes, all) ends = (goes, ends)
 ends_behind (call ∷ next ∷ first) later (goes, all) ends = (goes, ends_behind (next ∷ first) later all ends)
+
+-- where the last of the later calls moved no byte, so did the last of both
+pub last_behind : (first later : List Call) → LastMovesNone later → LastMovesNone (first ++ later)
+last_behind [] later last = last
+last_behind (call ∷ []) [] last = absurd last
+last_behind (call ∷ []) (next ∷ later) last = last
+last_behind (call ∷ next ∷ first) later last = last_behind (next ∷ first) later last

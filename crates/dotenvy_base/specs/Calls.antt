@@ -48,3 +48,9 @@ abbrev pub OnlyLastEnds : List Call → Type 0
 OnlyLastEnds [] = Unit {0}
 OnlyLastEnds (call ∷ []) = Unit {0}
 OnlyLastEnds (call ∷ next ∷ calls) = MayGoOn call.answer × OnlyLastEnds (next ∷ calls)
+
+-- there is a last one of these calls, and it moved no byte
+abbrev pub LastMovesNone : List Call → Type 0
+LastMovesNone [] = ⊥
+LastMovesNone (call ∷ []) = call.answer ≡ Ok 0
+LastMovesNone (call ∷ next ∷ calls) = LastMovesNone (next ∷ calls)

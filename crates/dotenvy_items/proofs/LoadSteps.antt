@@ -1,12 +1,12 @@
 -- How far a load came, what each line adds, and how a load ends.
 use Rattle.std.proofs.Common.{◌≡◌, ◌≢◌, ℕ, true, List, [], ◌∷◌, ◌++◌, length, length-append, Option}
 use Rattle.std.proofs.Common.{Some, None, Result, Ok, Err, refl, sym, ◌∙◌, ap, subst, inl, inr}
-use Rattle.std.proofs.Common.{append_assoc, arith, string_bytes}
+use Rattle.std.proofs.Common.{append_assoc, arith, drop, string_bytes, ◌+◌}
 use Rattle.std.specs.Prelude.{◌⊎◌}
 use Rattle.std.specs.Str.{chars}
 use Rattle.std.specs.IoError.{error_kind}
 use Rattle.std.specs.declared.io.Error.{Error as IoError}
-use Rattle.std.proofs.lemmas.List.{append-nil}
+use Rattle.std.proofs.lemmas.List.{append-nil, drop-drop}
 use Rattle.std.specs.declared.io.ErrorKind.{ErrorKind}
 use Rattle.std.specs.declared.io.ErrorKind.TheVariants.{InvalidData, Interrupted, Other}
 use Rattle.std.proofs.lemmas.Option.{none-some}
@@ -16,9 +16,9 @@ use Rattle.dotenvy_base.specs.declared.errors.Error.{Error}
 use Rattle.dotenvy_base.specs.declared.errors.Error.TheVariants as error
 use Rattle.dotenvy_lines.specs.declared.lines.Stage.TheVariants.{Open, Ended}
 use Rattle.dotenvy_base.specs.Errors.{IsMemory}
-use Rattle.dotenvy_format.specs.LogicalLine.{Logical, Skip, Text, Open as OpenEnd, Broken, IsOpenEnd}
+use Rattle.dotenvy_format.specs.LogicalLine.{Logical, Skip, Text, Open as OpenEnd, Broken, IsNext, IsOpenEnd}
 use Rattle.dotenvy_format.specs.Outcome.{Outcome, Nothing, Says}
-use Rattle.dotenvy_format.specs.Entries.{Failure, LineParse, Io, Memory, Entry, Fails, outcome_entries, Gives}
+use Rattle.dotenvy_format.specs.Entries.{Failure, LineParse, Io, Memory, Entry, Fails, outcome_entries, Gives, GiveAll}
 use Rattle.dotenvy_format.specs.Decided.{HasDecided}
 use Rattle.dotenvy_format.specs.Marks.{without_mark}
 use Rattle.dotenvy_format.specs.Items.{LookUp}
@@ -31,11 +31,14 @@ use Rattle.dotenvy_base.specs.Calls.{Call}
 use Rattle.dotenvy_base.specs.Source.{Ahead}
 use Rattle.dotenvy_lines.specs.Input.{InputState, IsTold, Moves, BoundIsMet, IsFinal, begins_mark}
 use Rattle.dotenvy_lines.specs.Input.{DropsMark, end_reads}
-use Rattle.dotenvy_lines.specs.Lines.{LinesState, IsAtEnd, GoesOn}
-use Rattle.dotenvy_lines.specs.inside.NextLine.{IsNextAlways, TakesNext, IsUndecided, AdvanceIs}
+use Rattle.dotenvy_format.specs.PhysicalLines.{physical_lines}
+use Rattle.dotenvy_lines.specs.Lines.{LinesState, whole_lines, IsAtEnd, Counts, GoesOn}
+use Rattle.dotenvy_lines.specs.inside.NextLine.{IsNextAlways, TakesNext, CountsLine, IsUndecided, AdvanceIs}
 use Rattle.dotenvy_lines.specs.Reading.{HasEntriesLeft, told_fault, certain_bytes, StopsAtBound, IsReading}
 use Rattle.dotenvy_items.specs.LoadsRest.{IsAnswer, Leaves, Rule, LoadsRest}
 use Rattle.dotenvy_items.specs.inside.LoadStep.{LoadsLine}
+use Rattle.dotenvy_items.specs.LoadStops.{unmarked}
+use Rattle.dotenvy_items.specs.NextItem.{UsesLines}
 use Rattle.dotenvy_items.specs.Iter.{IterState, fresh}
 use Rattle.dotenvy_lines.proofs.Inputs.{ahead_of, the_bytes, the_fault, moves_on}
 use Rattle.dotenvy_lines.proofs.LineEntries.{left_once, left-none, left-fault, took, no_lines}
@@ -43,13 +46,17 @@ use Rattle.dotenvy_lines.proofs.LineEntries.{decided-next, decided-none}
 use Rattle.dotenvy_format.proofs.statements.Outcomes.{one_outcome}
 use Rattle.dotenvy_format.proofs.loads.LoadRuns.{run-goes_on, run-stops, same-then}
 use Rattle.dotenvy_lines.proofs.DroppedMarks.{mark_decides, marked}
+use Rattle.dotenvy_lines.proofs.NumberedLines.{counts_none, counts_more}
+use Rattle.dotenvy_format.proofs.lines.FirstLines.{first_lines_more, give_more}
 
--- a load of these entries: its mode and dialect, what is told, the input at its start, and what names meant then
+-- a load of these entries: its mode and dialect, what is told, the input at its start, how many lines were taken and
+-- what names meant then
 pub record Load : Type 0 where
   pub mode : Mode
   pub dialect : Dialect
   pub ahead : Ahead
   pub start : InputState
+  pub taken : ℕ
   pub entries : List Entry
   pub env : LookUp
   pub remembered : LookUp
@@ -61,17 +68,18 @@ load_of mode s old a entries = record {
   dialect = s.dialect;
   ahead = a;
   start = s.lines.input;
+  taken = s.lines.lines_taken;
   entries = entries;
   env = values_of old;
   remembered = recalled_of s.remembered;
 }
 
 -- the entries one by one, from the start
-abbrev run_all : Load → List Entry → Loaded
+abbrev pub run_all : Load → List Entry → Loaded
 run_all l entries = run l.mode l.env l.remembered entries
 
 -- the entries one by one, from here on: over the environment and the remembered values as they are by now
-abbrev run_on : Load → Texts → Remembered → List Entry → Loaded
+abbrev pub run_on : Load → Texts → Remembered → List Entry → Loaded
 run_on l names recall entries = run l.mode (values_of names) (recalled_of recall) entries
 
 -- some entries are done: to load all of them is to load the later ones from here on
@@ -97,6 +105,12 @@ pub record Came (l : Load) (names : Texts) (t : IterState) : Type 0 where
   pub told : l.ahead.fault ≢ Some Interrupted
   pub has_left : HasEntriesLeft t.dialect l.ahead.fault left loaded.later
   pub goes_on : GoesOn t.lines
+  pub dialect : t.dialect ≡ l.dialect
+  pub lines : List Logical
+  pub give : GiveAll l.dialect lines loaded.done
+  pub uses : UsesLines (unmarked l.ahead) lines left
+  pub later : whole_lines (record { bytes = left; fault = l.ahead.fault }) ≡ drop uses.count (whole_lines (unmarked l.ahead))
+  pub counts : Counts l.taken uses.count t.lines.lines_taken
 
 -- a load of what s has left came to t, whatever s is told
 abbrev pub CameTo : Mode → IterState → Texts → Texts → IterState → Type 0
@@ -184,7 +198,7 @@ open_ended : Open ≡ Ended → ⊥
 open_ended h = cc
 
 -- a load that is given a line came to where reading goes on
-came_open : {A : Type 0} (l : Load) (names : Texts) (t : IterState) (line : Result (Unit {0}) (Error A)) →
+pub came_open : {A : Type 0} (l : Load) (names : Texts) (t : IterState) (line : Result (Unit {0}) (Error A)) →
     Came l names t → (t.lines.stage ≢ Open → ◌≡◌ {A = Option (Result (Unit {0}) (Error A))} (Some line) None) →
     t.lines.stage ≡ Open
 came_open l names t line k shut = elim k.goes_on [
@@ -229,16 +243,29 @@ more_done l names new recall now front later k first same = record {
       (run_on l new now more) (k.same (front ++ more)) (same more));
 }
 
+-- with one more logical line taken, the lines used are those before it and that one
+abbrev pub used_more : {count : ℕ} (l : Load) (names : Texts) (t : IterState) (next : Logical) (m : InputState) →
+    (k : Came l names t) →
+    (takes : TakesNext (record { bytes = k.left; fault = l.ahead.fault }) t.lines.input next count m) →
+    UsesLines (unmarked l.ahead) (k.lines ++ next ∷ []) takes.left
+used_more {count = count} l names t next m k takes = record {
+  count = k.uses.count + count;
+  are_first = first_lines_more (whole_lines (unmarked l.ahead)) k.uses.count k.lines count next k.uses.are_first
+      (subst (λ lines. IsNext lines count next) k.later takes.is_next);
+  rest = takes.rest ∙ ap (drop count) k.uses.rest
+      ∙ drop-drop count k.uses.count (physical_lines (without_mark l.ahead.bytes));
+}
+
 -- a line that a load came through leads on
 came_on : {count : ℕ} (l : Load) (names new : Texts) (t u : IterState) (next : Logical) (front : List Entry) →
     (k : Came l names t) →
     TakesNext (record { bytes = k.left; fault = l.ahead.fault }) t.lines.input next count u.lines.input →
-    GoesOn u.lines →
+    CountsLine t.lines count u.lines → GoesOn u.lines →
     u.dialect ≡ t.dialect → Gives t.dialect next front →
     ((more : List Entry) → SameLoad (run_on l names t.remembered (front ++ more)) (run_on l new u.remembered more)) →
     Came l new u
 unfolding more_done
-came_on l names new t u next front k takes goes_on dialect gives same =
+came_on {count = count} l names new t u next front k takes counts goes_on dialect gives same =
     let own = took t.dialect l.ahead.fault k.left k.loaded.later t.lines.input u.lines.input next front takes gives
     k.has_left in
     record {
@@ -256,6 +283,16 @@ came_on l names new t u next front k takes goes_on dialect gives same =
       told = k.told;
       has_left = subst (λ d. HasEntriesLeft d l.ahead.fault takes.left own.0) (sym dialect) own.1;
       goes_on = goes_on;
+      dialect = dialect ∙ k.dialect;
+      lines = k.lines ++ next ∷ [];
+      give =
+          give_more l.dialect k.lines next k.loaded.done front k.give
+          (subst (λ d. Gives d next front) k.dialect gives);
+      uses = used_more l names t next u.lines.input k takes;
+      later =
+          takes.later ∙ ap (drop count) k.later ∙ drop-drop count k.uses.count (whole_lines (unmarked l.ahead));
+      counts =
+          counts_more l.taken k.uses.count t.lines.lines_taken count u.lines.lines_taken k.counts counts.1;
     }
 
 -- where a line stops a load, the load ends with what the line leaves
@@ -351,25 +388,34 @@ ends_fault l names t m line (error.Nul x) k (inl (count, takes, counts, goes_on)
 ends_fault l names t m line (error.Memory x) k (inl (count, takes, counts, goes_on)) = absurd takes
 
 -- the logical line that a text is, and that it gives what the text says
-record TakesSaying (dialect : Dialect) (a : Ahead) (s : InputState) (text : List ℕ) (outcome : Outcome)
+pub record TakesSaying (dialect : Dialect) (a : Ahead) (s : LinesState) (text : List ℕ) (outcome : Outcome)
     (m : LinesState) : Type 0 where
-  next : Logical
-  count : ℕ
-  takes : TakesNext a s next count m.input
-  gives : Gives dialect next (outcome_entries outcome)
-  goes_on : GoesOn m
+  pub next : Logical
+  pub count : ℕ
+  pub takes : TakesNext a s.input next count m.input
+  pub counts : CountsLine s count m
+  pub gives : Gives dialect next (outcome_entries outcome)
+  pub goes_on : GoesOn m
 
 -- a text that the splitter answers is that of a logical line taken, which gives what the text says
-takes_line : (A : Type 0) (dialect : Dialect) (a : Ahead) (s : LinesState) (text : List ℕ) (outcome : Outcome)
+pub takes_line : (A : Type 0) (dialect : Dialect) (a : Ahead) (s : LinesState) (text : List ℕ) (outcome : Outcome)
     (m : LinesState) → AdvanceIs {A = A} a s (Some (Ok tt)) text m → Says dialect (chars text) outcome →
-    TakesSaying dialect a s.input text outcome m
+    TakesSaying dialect a s text outcome m
 takes_line A dialect a s text outcome m (inr fails) says = absurd fails
 takes_line A dialect a s text outcome m (inl (count, inr takes, counts, goes_on)) says =
-    record { next = Text (chars text); count = count; takes = takes; gives = (outcome, says, refl); goes_on = goes_on }
+    record {
+      next = Text (chars text);
+      count = count;
+      takes = takes;
+      counts = counts;
+      gives = (outcome, says, refl);
+      goes_on = goes_on;
+    }
 takes_line A dialect a s text outcome m (inl (count, inl (empty, takes), counts, goes_on)) says = record {
   next = Skip;
   count = count;
   takes = takes;
+  counts = counts;
   gives = ap outcome_entries
       (one_outcome dialect [] outcome Nothing
       (subst (λ cs. Says dialect cs outcome) (ap chars empty ∙ chars-nil) says) refl);
@@ -391,7 +437,7 @@ loaded_line_leads l names new t u text k next (inl refused) recall dialect = abs
 loaded_line_leads {A = A} l names new t u text k next (inr (outcome, says, leaves)) recall dialect =
     let line = takes_line A t.dialect (ahead_of k.left l.ahead.fault) t.lines text outcome u.lines next says in
     let through = went_well A (run_on l names t.remembered (outcome_entries outcome)).answer leaves.is_answer in
-    came_on l names new t u line.next (outcome_entries outcome) k line.takes line.goes_on dialect line.gives
+    came_on l names new t u line.next (outcome_entries outcome) k line.takes line.counts line.goes_on dialect line.gives
     (λ more. subst (λ r. SameLoad (run_on l names t.remembered (outcome_entries outcome ++ more))
     (run_on l new r more)) (sym recall)
     (run-goes_on l.mode (values_of names) (values_of new) (recalled_of t.remembered) outcome more through
@@ -410,7 +456,7 @@ line_ends {A = A} l names new t m text e k next (inr (outcome, says, leaves)) =
     at loaded.answer refl leaves.is_answer line
   where
     at : (said : Result (Unit {0}) Failure) → (run_on l names t.remembered (outcome_entries outcome)).answer ≡ said →
-        IsAnswer said (Err e) → TakesSaying t.dialect (ahead_of k.left l.ahead.fault) t.lines.input text outcome m →
+        IsAnswer said (Err e) → TakesSaying t.dialect (ahead_of k.left l.ahead.fault) t.lines text outcome m →
         Ends l new (Err e)
     at (Ok done) stops is line = absurd is
     at (Err failure) stops is line =
@@ -419,10 +465,10 @@ line_ends {A = A} l names new t m text e k next (inr (outcome, says, leaves)) =
 
 -- a load begins behind the mark
 pub came_start : (A : Type 0) (mode : Mode) (s t : IterState) (old : Texts) → t.lines.stage ≡ s.lines.stage →
-    t.remembered ≡ s.remembered → t.dialect ≡ s.dialect →
+    t.remembered ≡ s.remembered → t.dialect ≡ s.dialect → t.lines.lines_taken ≡ s.lines.lines_taken →
     ((a : Ahead) → s.lines.stage ≡ Open → IsTold s.lines.input.left a →
     DropsMark {A = A} a s.lines.input (Ok tt) t.lines.input) → CameTo mode s old old t
-came_start A mode s t old stage recall dialect drops opened a told entries has =
+came_start A mode s t old stage recall dialect taken drops opened a told entries has =
     let d = drops a opened told in
     let m = marked a.bytes in
     let l = load_of mode s old a entries in
@@ -444,6 +490,12 @@ came_start A mode s t old stage recall dialect drops opened a told entries has =
       told = told.1;
       has_left = subst (λ e. HasEntriesLeft e a.fault (without_mark a.bytes) entries) (sym dialect) has;
       goes_on = inl (stage ∙ opened);
+      dialect = dialect;
+      lines = [];
+      give = refl;
+      uses = record { count = 0; are_first = refl; rest = refl };
+      later = refl;
+      counts = subst (Counts s.lines.lines_taken 0) (sym taken) (counts_none s.lines.lines_taken);
     }
 
 -- a fault before the mark is decided ends a load

@@ -184,7 +184,7 @@ counts_used a s t entries p count m (begins, counts) = (
 )
 
 -- logical lines that go on tell the first and the last physical line of the last one
-goes_on_lines : (m : LinesState) → GoesOn m → last_lines m ≡ (m.first_line, m.lines_taken)
+pub goes_on_lines : (m : LinesState) → GoesOn m → last_lines m ≡ (m.first_line, m.lines_taken)
 goes_on_lines m (inl is_open) = ap (λ stage. lines_unless_failed stage m.first_line m.lines_taken) is_open
 goes_on_lines m (inr (ended, nothing)) =
     ap (λ stage. lines_unless_failed stage m.first_line m.lines_taken) ended
@@ -296,7 +296,7 @@ text_added names a s t v m entries u text outcome item p (inl (count, inr k, cou
 text_added names a s t v m entries u text outcome item p (inr fails) says adds lines dialect stands = absurd fails
 
 -- logical lines that have failed tell no line
-failed_lines : (m : LinesState) → m.stage ≡ Failed → last_lines m ≡ no_line
+pub failed_lines : (m : LinesState) → m.stage ≡ Failed → last_lines m ≡ no_line
 failed_lines m failed = ap (λ stage. lines_unless_failed stage m.first_line m.lines_taken) failed
 
 -- an item that is refused memory, where the logical lines have failed, is the next one
@@ -326,7 +326,7 @@ fault_added names a s t v m entries (Nul key) count p k counts goes_on remembere
 fault_added names a s t v m entries (Memory e) count p k counts goes_on remembered lines dialect stands = absurd k
 
 -- logical lines that have failed stay failed, whatever fault was given
-after_failed : {A : Type 0} (e : Error A) (m : LinesState) → m.stage ≡ Failed → (lines_after e m).stage ≡ Failed
+pub after_failed : {A : Type 0} (e : Error A) (m : LinesState) → m.stage ≡ Failed → (lines_after e m).stage ≡ Failed
 after_failed (LineParse text index) m h = h
 after_failed (Io e) m h = h
 after_failed (EnvVar e) m h = h
@@ -334,7 +334,7 @@ after_failed (Nul key) m h = h
 after_failed (Memory e) m h = refl
 
 -- no fault that is given changes the input of the logical lines
-after_input : {A : Type 0} (e : Error A) (m : LinesState) → (lines_after e m).input ≡ m.input
+pub after_input : {A : Type 0} (e : Error A) (m : LinesState) → (lines_after e m).input ≡ m.input
 after_input (LineParse text index) m = refl
 after_input (Io e) m = refl
 after_input (EnvVar e) m = refl

@@ -75,6 +75,10 @@ DropsNextMark s answer t = WhereOpen s.lines (λ a. DropsMark a s.lines.input an
 abbrev pub items_measure : IterState → ℕ
 items_measure s = lines_measure s.lines
 
+-- what is remembered and the dialect are as they were
+abbrev pub KeepsRemembered : IterState → IterState → Type 0
+KeepsRemembered s t = t ≡ record s { lines = t.lines; item_lines = t.item_lines }
+
 -- what was remembered, the dialect, the lines of the last item and the number of lines taken are as
 -- they were
 abbrev pub KeepsItems : IterState → IterState → Type 0

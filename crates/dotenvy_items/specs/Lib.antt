@@ -4,6 +4,7 @@ pub mod Iter
 pub mod Meaning
 pub mod NextItem
 pub mod LoadsRest
+pub mod LoadStops
 pub mod Listed
 pub mod Iteration
 pub mod Laws

@@ -13,6 +13,7 @@ use Rattle.dotenvy_format.specs.LogicalLine.{Logical}
 use Rattle.dotenvy_format.specs.Entries.{Failure, LineParse, Io, Nul, Memory, Entry, Declares}
 use Rattle.dotenvy_format.specs.Entries.{Fails, AreFirstLines, Gives, GiveAll}
 use Rattle.dotenvy_format.specs.declared.dialect.Dialect.{Dialect}
+use Rattle.dotenvy_format.specs.Keys.{is_key}
 use Rattle.dotenvy_format.specs.Decided.{HasDecided}
 use Rattle.dotenvy_format.specs.Items.{LookUp, text_of, meaning, with_value}
 use Rattle.dotenvy_base.specs.Environment.{Texts, name_ok}
@@ -138,6 +139,11 @@ NextItem names s item t =
     (IsOpen s → (a : Ahead) → TellsLeft s a → (entries : List Entry) →
     HasEntriesLeft s.dialect a.fault a.bytes entries → ItemIs names a s entries item t)
     × (¬ (IsOpen s) → (item ≡ None) × (t ≡ s))
+
+-- a pair that is given has a key
+abbrev pub GivesKey : {A : Type 0} → Option (Item A) → Type 0
+GivesKey item =
+    IfSome item (λ given. IfOk given (λ pair. IsTrue (is_key (chars (string_bytes pair.0)))))
 
 -- a pair that is given has a name that an environment can hold
 abbrev pub GivesName : {A : Type 0} → Option (Item A) → Type 0

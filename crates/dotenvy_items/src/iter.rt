@@ -1,13 +1,12 @@
 //! The pairs of an environment file, one at a time, and the two loads.
 
-ghost use Rattle.std.specs.Prelude.{ℕ, ◌≡◌, ◌<◌, ◌≤◌, ◌↔◌, ◌⊎◌, Err, IfErr, IfOk, IfSome, IsSome, IsTrue, None, Ok, OnOk, OnErr, chars, string_bytes};
+ghost use Rattle.std.specs.Prelude.{ℕ, ◌≡◌, ◌≢◌, ◌<◌, ◌≤◌, ◌↔◌, ◌⊎◌, Err, IfErr, IfOk, IfSome, IsSome, IsTrue, None, Ok, OnOk, OnErr, chars, string_bytes};
 ghost use Rattle.std.specs.Iterator.{at_most};
 ghost use Rattle.dotenvy_lines.specs.declared.lines.Stage.TheVariants.{Failed, Open};
 ghost use Rattle.dotenvy_base.specs.Errors.{IsMemory, IsMemoryErr};
 ghost use Rattle.dotenvy_lines.specs.Input.{AsksReads};
-ghost use Rattle.dotenvy_items.specs.Iter.{fresh, items_measure, AsksBetween, DropsNextMark, HasFailed, IsOpen, KeepsItems};
+ghost use Rattle.dotenvy_items.specs.Iter.{fresh, items_measure, AsksBetween, DropsNextMark, HasFailed, IsOpen, KeepsItems, KeepsRemembered};
 ghost use Rattle.dotenvy_base.specs.Environment.{KeepsNames};
-ghost use Rattle.dotenvy_format.specs.Keys.{is_key};
 ghost use Rattle.dotenvy_format.specs.Run.{Keep, Replace, run};
 ghost use Rattle.dotenvy_format.specs.Loads.{load_result, override_result};
 ghost use Rattle.dotenvy_format.specs.Outcome.{Outcome, Says};
@@ -17,9 +16,10 @@ ghost use Rattle.dotenvy_lines.specs.Lines.{lines_measure};
 ghost use Rattle.dotenvy_items.specs.Remembered.{remembered_of};
 ghost use Rattle.dotenvy_items.specs.inside.ItemStep.{AddsLine, item_lines_then, reading_of};
 ghost use Rattle.dotenvy_items.specs.Iter.{state_of};
-ghost use Rattle.dotenvy_items.specs.NextItem.{GivesName, NextItem};
+ghost use Rattle.dotenvy_items.specs.NextItem.{GivesKey, GivesName, NextItem};
 ghost use Rattle.dotenvy_items.specs.LoadsRest.{ChangesOnlyKeys, LoadsRest, OnlyAdds};
-ghost use Rattle.dotenvy_items.specs.inside.LoadStep.{mode_of};
+ghost use Rattle.dotenvy_items.specs.LoadStops.{Stops};
+ghost use Rattle.dotenvy_items.specs.inside.LoadStep.{mode_of, stopped, stopped_if};
 
 use crate::loads::{Mode, load_line};
 use crate::parse::{Pair, ParsedLine, parse_line};
@@ -106,9 +106,9 @@ impl<R: Source, A: Allocator + Clone> Iter<R, A> {
     pub fn next_item(&mut self, env: &Environment<A>) -> Option<Result<(String<A>, String<A>), A>>
         ensures next { NextItem env.now.names self.old result self.new }
         ensures falls { IsSome result → items_measure self.new < items_measure self.old }
+        ensures none { result ≡ None → ¬ (IsOpen self.new) }
         ensures memory { IfSome result (λ item. IsMemoryErr item → HasFailed self.new) }
-        ensures key { IfSome result
-            (λ item. IfOk item (λ pair. IsTrue (is_key (chars (string_bytes pair.0))))) }
+        ensures key { GivesKey result }
         ensures name { GivesName result }
 
         // Which reads it asks for, over every reader that tells its calls.
@@ -205,9 +205,9 @@ fn next_of<R: Source, A: Allocator + Clone>(
         (state_of lines.new.lines (remembered_of remembered.new.entries) dialect
         (item_lines_then result lines.new.lines before)) }
     ensures falls { IsSome result → lines_measure lines.new.lines < lines_measure lines.old.lines }
+    ensures none { result ≡ None → lines.new.lines.stage ≢ Open }
     ensures memory { IfSome result (λ item. IsMemoryErr item → lines.new.lines.stage ≡ Failed) }
-    ensures key { IfSome result
-        (λ item. IfOk item (λ pair. IsTrue (is_key (chars (string_bytes pair.0))))) }
+    ensures key { GivesKey result }
     ensures asks { AsksReads (lines.new.lines.stage ≡ Open) lines.old.lines.input
         lines.new.lines.input }
 {
@@ -236,8 +236,7 @@ fn item_of<R: Source, A: Allocator + Clone>(
     ensures input { lines.new.lines.input ≡ lines.old.lines.input }
     ensures stage { lines.new.lines.stage ≡ Open → lines.old.lines.stage ≡ Open }
     ensures memory { IfSome result (λ item. IsMemoryErr item → lines.new.lines.stage ≡ Failed) }
-    ensures key { IfSome result
-        (λ item. IfOk item (λ pair. IsTrue (is_key (chars (string_bytes pair.0))))) }
+    ensures key { GivesKey result }
 {
     let said = said_by(lines, outcome, remembered, env, dialect);
     if is_refused(&said) {
@@ -269,47 +268,110 @@ fn said_by<R: Source, A: Allocator + Clone>(
     parse_line(alloc, lines.line(), remembered, env, dialect)
 }
 
-impl<R: Source + Drop, A: Allocator + Clone> Iter<R, A> {
-    /// Drops a byte order mark at the present place, then sets each name that is absent; a name that is there keeps
-    /// its value (docs/GRAMMAR.md, "Loading").
+impl<R: Source, A: Allocator + Clone> Iter<R, A> {
+    /// Loads what is left: drops a byte order mark at the present place, then sets each name that is absent; a name that
+    /// is there keeps its value (docs/GRAMMAR.md, "Loading").
     ///
-    /// Stops at the first fault and answers it; what stands before it stays set. A value with a NUL that would be set
-    /// is such a fault. An iterator that has ended or failed loads nothing and answers `Ok`.
+    /// Stops at the first fault and returns it; what stands before it stays set. `first_line` and `last_line` are then
+    /// the lines of that fault, or 0 for one that is on no line, and the next call loads what follows it. A value with a
+    /// NUL that would be set is such a fault. After `Ok` nothing is left, and the lines are as they were. An iterator
+    /// that has ended or failed loads nothing and returns `Ok`.
     ///
     /// ```text
-    /// Iter::new(alloc, Bytes::new(b"A=1\nA=2\n"))?.load(&mut env)?;    // A is 1, or what it was before
+    /// let mut file = Iter::new(alloc, Bytes::new(b"A=1\nB=two words\nC=3\n"))?;
+    /// while let Err(error) = file.load_rest(&mut env) {
+    ///     println!(rt; "{}: {error}", file.first_line())?;    // 2: Error parsing line: ..
+    /// }
     /// ```
-    pub fn load(self, env: &mut Environment<A>) -> Result<(), A>
-        ensures shut { ¬ (IsOpen self) → (result ≡ Ok tt) × (env.new ≡ env.old) }
-        ensures told { IsOpen self →
-            LoadsRest load_result self env.old.names result env.new.names }
+    pub fn load_rest(&mut self, env: &mut Environment<A>) -> Result<(), A>
+        ensures shut { ¬ (IsOpen self.old) →
+            (result ≡ Ok tt) × (self.new ≡ self.old) × (env.new ≡ env.old) }
+        ensures told { IsOpen self.old →
+            LoadsRest load_result self.old env.old.names result env.new.names }
         ensures adds { OnlyAdds env.old env.new }
+        ensures stops { IsOpen self.old →
+            Stops load_result self.old env.old.names result self.new }
+        ensures ok { OnOk result (¬ (IsOpen self.new)) }
+        ensures memory { IsMemoryErr result → HasFailed self.new }
+        ensures same { KeepsRemembered self.old self.new }
+        ensures falls { OnErr result (items_measure self.new < items_measure self.old) }
+        ensures asks { AsksBetween self.old self.new }
     {
         self.load_lines(Mode::Keep, env)
     }
 
-    /// As `load`, but each name is set, whether it is there or not.
+    /// As `load_rest`, but each name is set, whether it is there or not.
     ///
     /// ```text
-    /// Iter::new(alloc, Bytes::new(b"A=1\nA=2\n"))?.load_override(&mut env)?;    // A is 2
+    /// let mut file = Iter::new(alloc, Bytes::new(b"A=1\nA=2\n"))?;
+    /// file.load_rest_override(&mut env)?;    // A is 2
     /// ```
-    pub fn load_override(self, env: &mut Environment<A>) -> Result<(), A>
-        ensures shut { ¬ (IsOpen self) → (result ≡ Ok tt) × (env.new ≡ env.old) }
-        ensures told { IsOpen self →
-            LoadsRest override_result self env.old.names result env.new.names }
+    pub fn load_rest_override(&mut self, env: &mut Environment<A>) -> Result<(), A>
+        ensures shut { ¬ (IsOpen self.old) →
+            (result ≡ Ok tt) × (self.new ≡ self.old) × (env.new ≡ env.old) }
+        ensures told { IsOpen self.old →
+            LoadsRest override_result self.old env.old.names result env.new.names }
         ensures changes { ChangesOnlyKeys env.old env.new }
+        ensures stops { IsOpen self.old →
+            Stops override_result self.old env.old.names result self.new }
+        ensures ok { OnOk result (¬ (IsOpen self.new)) }
+        ensures memory { IsMemoryErr result → HasFailed self.new }
+        ensures same { KeepsRemembered self.old self.new }
+        ensures falls { OnErr result (items_measure self.new < items_measure self.old) }
+        ensures asks { AsksBetween self.old self.new }
     {
         self.load_lines(Mode::Replace, env)
     }
 
-    // Drops a byte order mark at the present place, then loads line after line. The values that were remembered before
-    // stay as they are.
-    fn load_lines(mut self, mode: Mode, env: &mut Environment<A>) -> Result<(), A>
-        ensures shut { ¬ (IsOpen self) → (result ≡ Ok tt) × (env.new ≡ env.old) }
-        ensures told { IsOpen self →
-            LoadsRest (run (mode_of mode)) self env.old.names result env.new.names }
+    // Loads what is left in this mode. Refused memory is final, and the lines of a fault are kept.
+    fn load_lines(&mut self, mode: Mode, env: &mut Environment<A>) -> Result<(), A>
+        ensures shut { ¬ (IsOpen self.old) →
+            (result ≡ Ok tt) × (self.new ≡ self.old) × (env.new ≡ env.old) }
+        ensures told { IsOpen self.old →
+            LoadsRest (run (mode_of mode)) self.old env.old.names result env.new.names }
         ensures keeps { mode_of mode ≡ Keep → KeepsNames env.old.names env.new.names }
         ensures changes { ChangesOnlyKeys env.old env.new }
+        ensures stops { IsOpen self.old →
+            Stops (run (mode_of mode)) self.old env.old.names result self.new }
+        ensures ok { OnOk result (¬ (IsOpen self.new)) }
+        ensures memory { IsMemoryErr result → HasFailed self.new }
+        ensures same { KeepsRemembered self.old self.new }
+        ensures falls { OnErr result (items_measure self.new < items_measure self.old) }
+        ensures asks { AsksBetween self.old self.new }
+    {
+        let loaded = self.load_each_line(mode, env);
+        if let Err(error) = &loaded {
+            self.stop(error);
+        }
+        loaded
+    }
+
+    // Keeps the lines of the fault at which a load stopped. Refused memory is final.
+    fn stop(&mut self, error: &Error<A>)
+        ensures { self.new ≡ stopped error.now self.old }
+    {
+        if matches!(error, Error::Memory(_)) {
+            self.lines.fail();
+        }
+        self.item_lines = self.lines.last_lines();
+    }
+
+    // Drops a byte order mark at the present place, then loads line after line. The values that were remembered before
+    // stay as they are.
+    fn load_each_line(&mut self, mode: Mode, env: &mut Environment<A>) -> Result<(), A>
+        ensures shut { ¬ (IsOpen self.old) →
+            (result ≡ Ok tt) × (self.new ≡ self.old) × (env.new ≡ env.old) }
+        ensures told { IsOpen self.old →
+            LoadsRest (run (mode_of mode)) self.old env.old.names result env.new.names }
+        ensures keeps { mode_of mode ≡ Keep → KeepsNames env.old.names env.new.names }
+        ensures changes { ChangesOnlyKeys env.old env.new }
+        ensures stops { IsOpen self.old →
+            Stops (run (mode_of mode)) self.old env.old.names result
+            (stopped_if result self.new) }
+        ensures ok { OnOk result (¬ (IsOpen self.new)) }
+        ensures same { self.new ≡ record self.old { lines = self.new.lines } }
+        ensures falls { OnErr result (items_measure self.new < items_measure self.old) }
+        ensures asks { AsksBetween self.old self.new }
     {
         self.lines.drop_mark()?;
         'loading: while let Some(outcome) = self.lines.advance() {
@@ -327,6 +389,36 @@ impl<R: Source + Drop, A: Allocator + Clone> Iter<R, A> {
     }
 }
 
+impl<R: Source + Drop, A: Allocator + Clone> Iter<R, A> {
+    /// As [`load_rest`](Iter::load_rest), and gives up the iterator.
+    ///
+    /// ```text
+    /// Iter::new(alloc, Bytes::new(b"A=1\nA=2\n"))?.load(&mut env)?;    // A is 1, or what it was before
+    /// ```
+    pub fn load(mut self, env: &mut Environment<A>) -> Result<(), A>
+        ensures shut { ¬ (IsOpen self) → (result ≡ Ok tt) × (env.new ≡ env.old) }
+        ensures told { IsOpen self →
+            LoadsRest load_result self env.old.names result env.new.names }
+        ensures adds { OnlyAdds env.old env.new }
+    {
+        self.load_rest(env)
+    }
+
+    /// As [`load_rest_override`](Iter::load_rest_override), and gives up the iterator.
+    ///
+    /// ```text
+    /// Iter::new(alloc, Bytes::new(b"A=1\nA=2\n"))?.load_override(&mut env)?;    // A is 2
+    /// ```
+    pub fn load_override(mut self, env: &mut Environment<A>) -> Result<(), A>
+        ensures shut { ¬ (IsOpen self) → (result ≡ Ok tt) × (env.new ≡ env.old) }
+        ensures told { IsOpen self →
+            LoadsRest override_result self env.old.names result env.new.names }
+        ensures changes { ChangesOnlyKeys env.old env.new }
+    {
+        self.load_rest_override(env)
+    }
+}
+
 /// The items of an iterator under one environment; `Iter::items` makes it.
 #[derive(Drop)]
 pub struct Items<'a, R: Source, A: Allocator = Global> {
@@ -339,7 +431,9 @@ impl<'a, R: Source, A: Allocator + Clone> Iterator for Items<'a, R, A> {
 
     ghost next_gives = { λ s item t. NextItem s.env.now.names s.file.now item t.file.now
         × AsksBetween s.file.now t.file.now
-        × (t.file.ghost_name ≡ s.file.ghost_name) × (t.env.now ≡ s.env.now) × GivesName item };
+        × (t.file.ghost_name ≡ s.file.ghost_name) × (t.env.now ≡ s.env.now)
+        × GivesKey item × GivesName item × (item ≡ None → ¬ (IsOpen t.file.now))
+        × IfSome item (λ given. IsMemoryErr given → HasFailed t.file.now) };
 
     ghost remaining = { λ s. at_most (items_measure s.file.now) };
 

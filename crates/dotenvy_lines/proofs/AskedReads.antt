@@ -4,9 +4,9 @@ use Rattle.std.proofs.Common.{length-append, append_assoc, append-nil, arith, re
 use Rattle.std.proofs.Common.{subst}
 use Rattle.std.specs.Prelude.{Option, Result, Ok, Err, IsOk, IsErrAnd}
 use Rattle.std.proofs.lemmas.Bool.{false≢true}
-use Rattle.dotenvy_base.proofs.CallLists.{all_of_both, ends_behind}
+use Rattle.dotenvy_base.proofs.CallLists.{all_of_both, ends_behind, last_behind}
 use Rattle.dotenvy_base.specs.declared.errors.Error.{Error}
-use Rattle.dotenvy_base.specs.Calls.{Call, TellsCall, MayGoOn, AllMayGoOn, OnlyLastEnds}
+use Rattle.dotenvy_base.specs.Calls.{Call, TellsCall, MayGoOn, AllMayGoOn, LastMovesNone, OnlyLastEnds}
 use Rattle.dotenvy_lines.specs.declared.lines.Stage.{Stage}
 use Rattle.dotenvy_lines.specs.declared.lines.Stage.TheVariants.{Open, Ended, Failed}
 use Rattle.dotenvy_lines.specs.Lines.{LinesState}
@@ -26,6 +26,7 @@ asks_none goes_on s t calls reads at_end all is = (
     small = tt;
     in_turn = tt;
     ended = λ ended. (refl, at_end ∙ ended);
+    meets_end = λ before after. absurd (false≢true (sym before ∙ sym at_end ∙ after));
   },
   λ goes unended. tt,
 )
@@ -33,16 +34,18 @@ asks_none goes_on s t calls reads at_end all is = (
 -- one read of a source that tells its calls
 pub asked_once : {A : Type 0} (before after : Option (List Call)) (call : Call) (answer : Result Bool (Error A)) →
     TellsCall before after call →
-    call.len ≤ 8192 → (answer ≡ Ok false → MayGoOn call.answer) → AsksOnce before answer after
-asked_once before after call answer tells small goes all is =
+    call.len ≤ 8192 → (answer ≡ Ok false → MayGoOn call.answer) → (answer ≡ Ok true → call.answer ≡ Ok 0) →
+    AsksOnce before answer after
+asked_once before after call answer tells small goes ends all is =
     let told = tells all is in
-    (told.0, call, told.1, told.2, small, goes)
+    (told.0, call, told.1, told.2, small, goes, ends)
 
 -- one read is made where the end was not read
 pub asks_once : {A : Type 0} (goes_on : Type 0) (s t : InputState) (answer : Result Bool (Error A)) →
     s.at_end ≡ false → t.reads + 1 ≡ s.reads →
-    AsksOnce s.calls answer t.calls → (goes_on → t.at_end ≡ false → answer ≡ Ok false) → AsksReads goes_on s t
-asks_once goes_on s t answer unended counted once goes all is =
+    AsksOnce s.calls answer t.calls → (goes_on → t.at_end ≡ false → answer ≡ Ok false) →
+    (t.at_end ≡ true → answer ≡ Ok true) → AsksReads goes_on s t
+asks_once goes_on s t answer unended counted once goes ends all is =
     let one = once all is in (
       one.0,
       one.1 ∷ [],
@@ -53,6 +56,7 @@ asks_once goes_on s t answer unended counted once goes all is =
         small = (one.4, tt);
         in_turn = tt;
         ended = λ ended. cc;
+        meets_end = λ before after. one.6 (ends after);
       },
       λ goes_on unended. (one.5 (goes goes_on unended), tt),
     )
@@ -73,6 +77,7 @@ asks_more goes_on later s t u first goes second all is =
         in_turn = in_turn t.at_end refl one.1 two.1 one.4.in_turn two.4.in_turn (one.5 goes) two.4.ended;
         ended = λ ended. (let a = one.4.ended ended in let b = two.4.ended a.1 in
             (ap (λ calls. calls ++ two.1) a.0 ∙ b.0, b.1));
+        meets_end = meets_end t.at_end refl one.1 two.1 one.4.meets_end two.4.meets_end two.4.ended;
       },
       λ goes_on unended. all_go_on t.at_end refl one.1 two.1 (one.5 goes) (two.5 goes_on unended) two.4.ended unended,
     )
@@ -89,6 +94,16 @@ asks_more goes_on later s t u first goes second all is =
         (t.at_end ≡ true → (ys ≡ []) × (u.at_end ≡ true)) → u.at_end ≡ false → AllMayGoOn (xs ++ ys)
     all_go_on true is xs ys all later none unended = let ended = (none is).1 in cc
     all_go_on false is xs ys all later none unended = all_of_both (λ call. MayGoOn call.answer) xs ys (all is) later
+
+    meets_end : (at_end : Bool) → t.at_end ≡ at_end → (xs ys : List Call) →
+        (s.at_end ≡ false → t.at_end ≡ true → LastMovesNone xs) →
+        (t.at_end ≡ false → u.at_end ≡ true → LastMovesNone ys) →
+        (t.at_end ≡ true → (ys ≡ []) × (u.at_end ≡ true)) → s.at_end ≡ false → u.at_end ≡ true →
+        LastMovesNone (xs ++ ys)
+    meets_end true is xs ys first second none before after =
+        subst (λ zs. LastMovesNone (xs ++ zs)) (sym (none is).0)
+        (subst LastMovesNone (sym (append-nil xs)) (first before is))
+    meets_end false is xs ys first second none before after = last_behind xs ys (second is after)
 
 -- less is said where reading goes on less often
 pub asks_weaker : (goes_on less : Type 0) (s t : InputState) → (less → goes_on) → AsksReads goes_on s t →

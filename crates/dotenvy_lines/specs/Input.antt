@@ -8,7 +8,7 @@ use Rattle.std.specs.declared.io.Error.{Error as IoError}
 use Rattle.std.specs.declared.io.ErrorKind.TheVariants.{Interrupted, Other}
 use Rattle.std.specs.Coded.{Coded, code_by, coded×, coded_ℕ, coded_bool, coded_list, coded_option}
 use Rattle.dotenvy_format.specs.Marks.{byte_order_mark, without_mark}
-use Rattle.dotenvy_base.specs.Calls.{Call, call_code, AllMayGoOn, OnlyLastEnds}
+use Rattle.dotenvy_base.specs.Calls.{Call, call_code, AllMayGoOn, LastMovesNone, OnlyLastEnds}
 use Rattle.dotenvy_base.specs.Source.{Ahead, ahead_code}
 use Rattle.dotenvy_base.specs.declared.errors.Error.{Error}
 use Rattle.dotenvy_base.specs.Errors.{IsMemory, IsIoOf}
@@ -95,12 +95,14 @@ DropsMark a s (Ok _) t =
 DropsMark a s (Err e) t = IsFinal a s (λ bytes. begins_mark bytes ≡ true) e t
 
 -- the reads that were made on the way from s to t: each counts, also one that was interrupted; each
--- asks for 8,192 bytes at most; none follows the end, or a fault that is no interruption
+-- asks for 8,192 bytes at most; none follows the end, or a fault that is no interruption; and the
+-- end is met by a read that gave no byte, and by nothing else
 pub record MakesReads (s t : InputState) (made : List Call) : Type 0 where
   pub counted : length made + t.reads ≡ s.reads
   pub small : AllByRecursion (λ call. call.len ≤ 8192) made
   pub in_turn : OnlyLastEnds made
   pub ended : s.at_end ≡ true → (made ≡ []) × (t.at_end ≡ true)
+  pub meets_end : s.at_end ≡ false → t.at_end ≡ true → LastMovesNone made
 
 -- where the source tells its calls, these were made; where reading goes on, and the end was not
 -- read, more may follow

@@ -1,5 +1,5 @@
 -- What one logical line of a load leaves and answers.
-use Rattle.std.specs.Prelude.{ℕ, ◌≡◌, ◌⊎◌, List, Result}
+use Rattle.std.specs.Prelude.{ℕ, ◌≡◌, ◌⊎◌, List, Result, Ok, Err}
 use Rattle.dotenvy_format.specs.declared.dialect.Dialect.{Dialect}
 use Rattle.dotenvy_base.specs.declared.errors.Error.{Error}
 use Rattle.dotenvy_items.specs.declared.loads.Mode.{Mode as CodeMode}
@@ -12,6 +12,9 @@ use Rattle.dotenvy_base.specs.Environment.{Texts}
 use Rattle.dotenvy_items.specs.Remembered.{Remembered}
 use Rattle.dotenvy_items.specs.Meaning.{values_of, recalled_of}
 use Rattle.dotenvy_items.specs.LoadsRest.{Leaves}
+use Rattle.dotenvy_lines.specs.inside.Splitter.{last_lines}
+use Rattle.dotenvy_items.specs.Iter.{IterState}
+use Rattle.dotenvy_items.specs.inside.ItemStep.{lines_after}
 
 -- the mode that the code names
 abbrev pub mode_of : CodeMode → Mode
@@ -26,3 +29,16 @@ LoadsLine mode dialect remembered line old answer new =
     ⊎ ((outcome : Outcome) × Says dialect line outcome
     × Leaves (run mode (values_of old) (recalled_of remembered) (outcome_entries outcome)) new
     answer)
+
+-- the iterator at whose last line a load stopped by this error: it tells the lines of the error, and
+-- has failed where memory was refused
+abbrev pub stopped : {A : Type 0} → Error A → IterState → IterState
+stopped e t = record t {
+  lines = lines_after e t.lines;
+  item_lines = last_lines (lines_after e t.lines);
+}
+
+-- the same after an error, and the iterator as it is after none
+abbrev pub stopped_if : {A : Type 0} → Result (Unit {0}) (Error A) → IterState → IterState
+stopped_if (Ok _) t = t
+stopped_if (Err e) t = stopped e t

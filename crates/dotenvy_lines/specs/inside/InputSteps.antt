@@ -104,10 +104,12 @@ abbrev pub SkipsLine : {A : Type 0} → Ahead → InputState → Result (Unit {0
 SkipsLine a s (Ok _) t = (line : List ℕ) × TakesLine a s line t
 SkipsLine a s (Err e) t = IsFinal a s (λ bytes. no_line_feed bytes ≡ true) e t
 
--- one read of the source, for at most 8,192 bytes; more may follow, unless it met the end or failed
+-- one read of the source, for at most 8,192 bytes; more may follow, unless it met the end, which is
+-- to give no byte, or failed
 abbrev pub AsksOnce : {A : Type 0} → Option (List Call) → Result Bool (Error A) →
     Option (List Call) → Type 0
 AsksOnce before answer after =
     (all : List Call) → after ≡ Some all →
     (calls : List Call) × (call : Call) × (before ≡ Some calls) × (all ≡ calls ++ call ∷ [])
     × (call.len ≤ 8192) × (answer ≡ Ok false → MayGoOn call.answer)
+    × (answer ≡ Ok true → call.answer ≡ Ok 0)

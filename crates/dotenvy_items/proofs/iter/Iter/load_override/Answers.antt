@@ -1,10 +1,4 @@
-use Rattle.dotenvy_format.specs.Run.{Replace, run}
-use Rattle.dotenvy_format.specs.Loads.{override_result}
-use Rattle.dotenvy_format.proofs.loads.LoadLaws.{run-replace}
-use Rattle.dotenvy_items.proofs.LoadSteps.{loads_by}
 use Rattle.dotenvy_items.proofs.iter.Iter.load_override.Goals as goal
 
-pub returns-clause-told : goal.returns-clause-told
-returns-clause-told g c = λ opened.
-    loads_by (run Replace) override_result c.args.self c.args.env.now.names c.load_lines.new.env.names
-    c.load_lines.result run-replace (c.load_lines.ensures.told opened)
+pub returns-clause-shut : goal.returns-clause-shut
+returns-clause-shut g c = λ shut. let same = c.load_rest_override.ensures.shut shut in (same.0, same.2)

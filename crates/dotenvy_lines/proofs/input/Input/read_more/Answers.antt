@@ -72,7 +72,8 @@ returns-in_err-self-inside-clause-asks g c =
     (subst (λ (told : Option (List Call)).
     AsksOnce told (Err c.in_err-self-inside.field-0.0) (g.R.Source.calls c.read_once.new.reader))
     (ap (λ (v : InputState). v.calls) c.self.view_is) c.in_err-self-inside.ensures.asks)
-    (λ never unended. absurd (false≢true never)))
+    (λ never unended. absurd (false≢true never))
+    (λ ended. absurd (false≢true (sym c.requires.unended ∙ sym (ap (λ (v : InputState). v.at_end) c.self.view_is) ∙ ended))))
 
 pub returns-clause-asks : goal.returns-clause-asks
 returns-clause-asks g c =
@@ -91,4 +92,4 @@ returns-clause-asks g c =
     (subst (λ (told : Option (List Call)).
     AsksOnce {A = g.row.A.Denot} told (Ok c.in_ok-self-inside.field-0) (g.R.Source.calls c.read_once.new.reader))
     (ap (λ (v : InputState). v.calls) c.self.view_is) c.in_ok-self-inside.ensures.asks)
-    (λ goes unended. ap Ok unended)
+    (λ goes unended. ap Ok unended) (λ ended. ap Ok ended)
