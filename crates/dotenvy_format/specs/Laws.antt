@@ -1,9 +1,12 @@
 -- Laws of the format: what holds for every file, whatever its bytes.
 use Rattle.std.specs.Prelude.{◌≡◌, ◌≢◌, ◌<◌, ◌≤◌, ◌⊎◌, ℕ, List, [], ◌∷◌, ◌++◌, length, take, Option}
-use Rattle.std.specs.Prelude.{Some, map, Ok, encode_utf8_all}
+use Rattle.std.specs.Prelude.{Some, map, Ok, encode_utf8_all, IsTrue}
+use Rattle.std.specs.Char.{is_ascii}
+use Rattle.std.specs.List.{list_all}
 use Rattle.dotenvy_format.specs.declared.dialect.Dialect.{Dialect}
 use Rattle.dotenvy_format.specs.PhysicalLines.{AreCut, line_texts}
 use Rattle.dotenvy_format.specs.LogicalLine.{Logical, IsNext}
+use Rattle.dotenvy_format.specs.Statement.{IsStatement}
 use Rattle.dotenvy_format.specs.Value.{Piece, Text, Name, IsValue}
 use Rattle.dotenvy_format.specs.Places.{BeginsStatement, BeginsValue, IsPlace}
 use Rattle.dotenvy_format.specs.Outcome.{Outcome, Says}
@@ -51,6 +54,15 @@ PlacesAreLongest =
     NoLongerBegins BeginsStatement text place)
     × ((dialect : Dialect) (text : List ℕ) (place : ℕ) → IsPlace (BeginsValue dialect) text place →
     NoLongerBegins (BeginsValue dialect) text place)
+
+-- what can be completed to a statement or to a value can be by a text, even one of ASCII characters
+abbrev pub CompletedByText : Type 0
+CompletedByText =
+    ((front : List ℕ) → BeginsStatement front →
+    (more key rest : List ℕ) × IsTrue (list_all is_ascii more) × IsStatement (front ++ more) key rest)
+    × ((dialect : Dialect) (front : List ℕ) → BeginsValue dialect front →
+    (more : List ℕ) × (pieces : List Piece) × IsTrue (list_all is_ascii more)
+    × IsValue dialect (front ++ more) pieces)
 
 -- bytes have one list of entries, and only one
 abbrev pub HasOneReading : Type 0

@@ -3,7 +3,7 @@
 //! A law is the contract of a function that does nothing: a call of it has no effect. The worked files and loads at the
 //! end are examples of the definitions; docs/GRAMMAR.md has such examples for every rule.
 
-ghost use Rattle.dotenvy_format.specs.Laws.{DecidesFront, HasOneDecision, HasOneMeaning, HasOneNext, HasOneOutcome, HasOneReading, LinesAreCut, LoadKeeps, LoadsInTurn, LoadsTwice, NamesDecideItems, OverridesDeclared, PlacesAreLongest, ReadsBack};
+ghost use Rattle.dotenvy_format.specs.Laws.{CompletedByText, DecidesFront, HasOneDecision, HasOneMeaning, HasOneNext, HasOneOutcome, HasOneReading, LinesAreCut, LoadKeeps, LoadsInTurn, LoadsTwice, NamesDecideItems, OverridesDeclared, PlacesAreLongest, ReadsBack};
 ghost use Rattle.dotenvy_format.specs.WorkedFiles.{HaveDecisions, HaveDialects, HaveLines, HaveMarks, HaveOpenQuotes, HaveStatements, HaveValues, HaveWritten};
 ghost use Rattle.dotenvy_format.specs.WorkedLoads.{HaveNuls, HaveRepeats};
 
@@ -31,6 +31,11 @@ pub fn one_outcome()
 /// The place of a fault is as far as the text can be completed: no longer first part of it begins a statement, or a value.
 pub fn places_are_longest()
     ensures { PlacesAreLongest }
+{}
+
+/// The definition of a fault's place asks whether a front can be completed by any list of numbers. Where it can, it can be completed by a text, even one of ASCII characters: so it comes to the same.
+pub fn completed_by_text()
+    ensures { CompletedByText }
 {}
 
 /// Any bytes have one list of entries, and only one.

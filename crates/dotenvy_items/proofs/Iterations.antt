@@ -1,5 +1,5 @@
 -- The items that calls give one after another are those of the definition.
-use Rattle.std.proofs.Common.{◌≡◌, ℕ, ◌+◌, ◌<◌, List, [], ◌∷◌, ◌++◌, length, length-append, Option}
+use Rattle.std.proofs.Common.{◌≡◌, ℕ, List, [], ◌∷◌, ◌++◌, length, length-append, append_assoc, Option}
 use Rattle.std.proofs.Common.{Some, None, Ok, Err, refl, sym, ◌∙◌, ap, subst, inl, inr, ⊎_elim}
 use Rattle.std.proofs.Common.{arith}
 use Rattle.std.specs.Prelude.{unwrap_or, bytes_eq, option_map}
@@ -11,24 +11,25 @@ use Rattle.std.specs.Cmp.Lexicographic.{slice_cmp}
 use Rattle.std.specs.FinMap.{empty, get-empty}
 use Rattle.dotenvy_format.specs.declared.dialect.Dialect.{Dialect}
 use Rattle.dotenvy_base.specs.declared.errors.Error.{Error}
-use Rattle.dotenvy_base.specs.declared.errors.Error.TheVariants.{LineParse, Io as io, EnvVar, Nul, Memory}
+use Rattle.dotenvy_base.specs.declared.errors.Error.TheVariants.{LineParse, Io as io, EnvVar, Nul, Memory as memory_error}
 use Rattle.dotenvy_lines.specs.declared.lines.Stage.TheVariants.{Open, Ended, Failed}
-use Rattle.dotenvy_format.specs.Entries.{Entry, Declares, Fails}
+use Rattle.dotenvy_format.specs.Entries.{Entry, Declares, Fails, Io, Memory}
 use Rattle.dotenvy_format.specs.Items.{LookUp, no_values, meaning, or_else, with_value, items_from, items, text_of}
 use Rattle.dotenvy_base.specs.Environment.{Texts}
 use Rattle.dotenvy_items.specs.Meaning.{values_of, recalled_of}
 use Rattle.std.specs.IoError.{error_kind}
 use Rattle.dotenvy_format.specs.Decided.{HasDecided}
 use Rattle.dotenvy_lines.specs.declared.lines.Stage.{Stage}
-use Rattle.dotenvy_base.specs.Errors.{IsMemory, IsMemoryErr}
 use Rattle.dotenvy_base.specs.Calls.{Call}
 use Rattle.dotenvy_base.specs.Source.{Ahead}
-use Rattle.dotenvy_lines.specs.Input.{InputState, BoundIsMet, IsFinal, end_reads}
-use Rattle.dotenvy_lines.specs.Lines.{LinesState, FailsFor}
-use Rattle.dotenvy_lines.specs.Reading.{HasEntriesLeft, told_fault}
-use Rattle.dotenvy_items.specs.Iter.{IterState, fresh}
+use Rattle.dotenvy_lines.specs.Input.{InputState, IsFinal, end_reads}
+use Rattle.dotenvy_lines.specs.Lines.{FailsFor}
+use Rattle.dotenvy_lines.specs.Reading.{HasEntriesLeft, told_fault, certain_bytes}
+use Rattle.dotenvy_items.specs.Iter.{IterState, TellsLeft, fresh}
 use Rattle.dotenvy_items.specs.NextItem.{Item, SaysItem, entry_item, RemembersEntry, TakesEntry}
 use Rattle.dotenvy_items.specs.Iteration.{GivesItems, NoneRefused, IsReadable, CanRead, SayItems, SayTheSame}
+use Rattle.dotenvy_items.specs.Iteration.{EndsAtBound, AreRead}
+use Rattle.std.specs.declared.io.ErrorKind.TheVariants.{Other}
 use Rattle.dotenvy_format.proofs.loads.LoadRuns.{meaning-text, or_else-text, with_value-text}
 use Rattle.dotenvy_lines.proofs.Inputs.{the_bytes, the_fault}
 use Rattle.dotenvy_lines.proofs.LineEntries.{left_once, left-none, left-fault, left_exists}
@@ -62,41 +63,65 @@ says_first env earlier now (Fails failure) (Ok pair) given later is remembers sa
 says_first env earlier now (Fails failure) (Err e) given later is remembers say =
     (is, subst (SayItems given) (items_from-texts env now earlier later remembers) say)
 
--- where fewer bytes are told than the reads can take, the bound on reads is not met
-not_met : (a : Ahead) (s t : InputState) (P : List ℕ → Type 0) →
-    length a.bytes < s.reads + s.unread + end_reads s.at_end → BoundIsMet a s P t → ⊥
-not_met a s t P few met =
-    let each = met.each_gave in
-    let all = ap length met.cut in omega (arith, few, each, all, length-append met.front met.later)
+-- where fewer bytes are told than the reads can take, no reading stops at the bound on reads
+no_bound : (a : Ahead) (s : IterState) (read : List Entry) → CanRead s a →
+    EndsAtBound s.dialect a (certain_bytes s.lines.input) read → ⊥
+no_bound a s read can ends =
+    let few = can.few in
+    let each = ends.each_gave in
+    let all = ap length ends.cut in omega (arith, few, each, all, length-append ends.bytes ends.later)
 
--- a fault that is told is the last item, where memory is not refused and the bound on reads not met
-told_last : {A : Type 0} (env earlier : LookUp) (dialect : Dialect) (a : Ahead) (s t : InputState)
-    (entries : List Entry) (e : Error A) → HasEntriesLeft dialect a.fault a.bytes entries →
-    length a.bytes < s.reads + s.unread + end_reads s.at_end → (IsMemory e → ⊥) →
-    IsFinal a s (λ bytes. HasDecided dialect bytes []) e t →
-    SayItems (Err e ∷ []) (items_from env earlier (entries ++ told_fault a.fault))
-told_last env earlier dialect a s t entries e has few granted (inl memory) = absurd (granted memory)
-told_last env earlier dialect a s t entries (LineParse text index) has few granted (inr is) = absurd is
-told_last {A = A} env earlier dialect a s t entries (io x) has few granted (inr (inl (told, none))) =
-    subst (λ es. SayItems {A = A} (Err (io x) ∷ []) (items_from env earlier es))
-    (sym (ap (λ es. es ++ told_fault a.fault)
-    (left-fault dialect a.fault (error_kind x) a.bytes entries told has none) ∙ ap told_fault told))
-    (refl, tt)
-told_last env earlier dialect a s t entries (io x) has few granted (inr (inr (kind, met))) =
-    absurd (not_met a s t (λ bytes. HasDecided dialect bytes []) few met)
-told_last env earlier dialect a s t entries (EnvVar v) has few granted (inr is) = absurd is
-told_last env earlier dialect a s t entries (Nul key) has few granted (inr is) = absurd is
-told_last env earlier dialect a s t entries (Memory m) has few granted (inr is) = absurd is
+-- items that end with refused memory are not given where no call was refused any
+no_refusal : {A : Type 0} (env earlier : LookUp) (front : List Entry) (given : List (Item A)) → NoneRefused given →
+    SayItems given (items_from env earlier (front ++ Fails Memory ∷ [])) → ⊥
+no_refusal env earlier [] [] granted say = say
+no_refusal env earlier [] (Ok pair ∷ given) granted say = say.0
+no_refusal env earlier [] (Err e ∷ given) granted say = granted.0 say.0
+no_refusal env earlier (Declares key pieces ∷ front) [] granted say = say
+no_refusal env earlier (Declares key pieces ∷ front) (item ∷ given) granted say =
+    no_refusal env (with_value earlier key (meaning (or_else env earlier) pieces)) front given granted.1 say.1
+no_refusal env earlier (Fails failure ∷ front) [] granted say = say
+no_refusal env earlier (Fails failure ∷ front) (item ∷ given) granted say =
+    no_refusal env earlier front given granted.1 say.1
 
--- an item that is a fault is the last, where memory is not refused and the bound on reads not met
-fails_last : {A : Type 0} (env earlier : LookUp) (dialect : Dialect) (a : Ahead) (s : InputState)
-    (entries : List Entry) (item : Item A) (t : LinesState) → HasEntriesLeft dialect a.fault a.bytes entries →
-    length a.bytes < s.reads + s.unread + end_reads s.at_end → (IsMemoryErr item → ⊥) →
-    FailsFor a s item (λ bytes. HasDecided dialect bytes []) t →
-    (t.stage ≡ Failed) × SayItems (item ∷ []) (items_from env earlier (entries ++ told_fault a.fault))
-fails_last env earlier dialect a s entries (Ok pair) t has few granted fails = absurd fails
-fails_last env earlier dialect a s entries (Err e) t has few granted fails =
-    (fails.0, told_last env earlier dialect a s t.input entries e has few granted fails.1)
+-- items that are given say those of what an iterator reads where these entries are left
+abbrev GivesRead : {A : Type 0} → Texts → IterState → Ahead → List Entry → List (Item A) → Type 0
+GivesRead names s a entries given =
+    (read : List Entry) × AreRead s a entries read
+    × SayItems given (items_from (values_of names) (recalled_of s.remembered) read)
+
+-- a final fault is the last item that is read
+fails_last : {A : Type 0} (names : Texts) (s : IterState) (a : Ahead) (entries : List Entry) (e : Error A)
+    (t : InputState) → HasEntriesLeft s.dialect a.fault a.bytes entries →
+    IsFinal a s.lines.input (λ bytes. HasDecided s.dialect bytes []) e t → GivesRead names s a entries (Err e ∷ [])
+fails_last names s a entries e t has (inl memory) =
+    (Fails Memory ∷ [], inr (inl (record { front = []; back = entries; cut = refl; ends = refl })), (memory, tt))
+fails_last names s a entries (LineParse text index) t has (inr is) = absurd is
+fails_last {A = A} names s a entries (io x) t has (inr (inl (told, none))) = (
+  entries ++ told_fault a.fault,
+  inl refl,
+  subst
+      (λ es. SayItems {A = A} (Err (io x) ∷ []) (items_from (values_of names) (recalled_of s.remembered) es))
+      (sym (ap (λ es. es ++ told_fault a.fault)
+      (left-fault s.dialect a.fault (error_kind x) a.bytes entries told has none) ∙ ap told_fault told))
+      (refl, tt),
+)
+fails_last names s a entries (io x) t has (inr (inr (kind, met))) = (
+  Fails (Io Other) ∷ [],
+  inr (inr (record {
+    bytes = met.front;
+    later = met.later;
+    cut = met.cut;
+    each_gave = met.each_gave;
+    decided = [];
+    has_decided = met.holds;
+    ends = refl;
+  })),
+  (kind, tt),
+)
+fails_last names s a entries (EnvVar v) t has (inr is) = absurd is
+fails_last names s a entries (Nul key) t has (inr is) = absurd is
+fails_last names s a entries (memory_error m) t has (inr is) = absurd is
 
 -- an iterator that is not open gives nothing
 shut_gives : {A : Type 0} (names : Texts) (s : IterState) (given : List (Item A)) → (s.lines.stage ≡ Open → ⊥) →
@@ -122,18 +147,48 @@ nothing_left dialect a b entries same bytes fault has =
     (left-none dialect a.fault a.bytes (the_bytes a b same ∙ bytes) f) in
     ap (λ es. es ++ told_fault a.fault) e ∙ ap told_fault f
 
--- after an entry was taken the iterator can be read on
-can_go_on : (names : Texts) (a : Ahead) (s t : IterState) (entries : List Entry) (entry : Entry) → CanRead s a →
-    (k : TakesEntry names a s entries entry t) → t.lines.stage ≡ Open →
-    CanRead t (record { bytes = k.uses.left; fault = a.fault })
-can_go_on names a s t entries entry can k is_open =
-    let few = can.few in
-    let reads = k.uses.moves.reads in
-    record {
-      is_open = is_open;
-      is_told = (k.uses.moves.is_left, let told = can.is_told in told.1);
-      few = omega (arith, few, reads);
-    }
+-- where an entry was taken and these are read after it, it and these are read
+reads_more : (names : Texts) (a : Ahead) (s t : IterState) (entries read : List Entry) (entry : Entry) →
+    (k : TakesEntry names a s entries entry t) →
+    AreRead t (record { bytes = k.uses.left; fault = a.fault }) k.is_first.later read →
+    AreRead s a entries (entry ∷ read)
+reads_more names a s t entries read entry k (inl all) =
+    inl (ap (λ es. entry ∷ es) all ∙ ap (λ es. es ++ told_fault a.fault) (sym k.is_first.first))
+reads_more names a s t entries read entry k (inr (inl stops)) = inr (inl (record {
+  front = entry ∷ stops.front;
+  back = stops.back;
+  cut = k.is_first.first ∙ ap (λ es. entry ∷ es) stops.cut;
+  ends = ap (λ es. entry ∷ es) stops.ends;
+}))
+reads_more names a s t entries read entry k (inr (inr ends)) = inr (inr (record {
+  bytes = k.uses.used ++ ends.bytes;
+  later = ends.later;
+  cut = k.uses.moves.joins ∙ ap (λ bytes. k.uses.used ++ bytes) ends.cut
+      ∙ sym (append_assoc k.uses.used ends.bytes ends.later);
+  each_gave =
+      let each = ends.each_gave in
+      let reads = k.uses.moves.reads in
+      let all = ap length k.uses.moves.joins in
+      omega (
+        arith,
+        each,
+        reads,
+        all,
+        length-append k.uses.used k.uses.left,
+        length-append k.uses.used ends.bytes,
+      );
+  decided = entry ∷ ends.decided;
+  has_decided = elim k.uses.stays [
+    | inl ended ↦
+        let each = ends.each_gave in
+        let read = ap end_reads ended.2 in
+        let empty = ap length (sym ends.cut ∙ ended.1) in
+        absurd (omega (arith, each, read, empty, length-append ends.bytes ends.later))
+    | inr first ↦
+        first ends.bytes ends.decided (subst (λ d. HasDecided d ends.bytes ends.decided) k.after.dialect ends.has_decided)
+  ];
+  ends = ap (λ es. entry ∷ es) ends.ends;
+}))
 
 -- an iterator that has ended gives nothing, and nothing is left
 ended_says : {A : Type 0} (names : Texts) (s : IterState) (a : Ahead) (entries : List Entry)
@@ -149,43 +204,61 @@ ended_says {A = A} names s a entries given ended empty_left is_left has gives =
     (subst (λ others. SayItems {A = A} others [])
     (sym (shut_gives names s given (ended_shut s.lines.stage ended) gives)) tt)
 
+-- calls give the items of what is read, all and in order, up to a final fault
+pub items_as_read : {A : Type 0} (s : IterState) (a : Ahead) (names : Texts) (entries : List Entry)
+    (given : List (Item A)) → s.lines.stage ≡ Open → TellsLeft s a → HasEntriesLeft s.dialect a.fault a.bytes entries →
+    GivesItems names s given → GivesRead names s a entries given
+items_as_read {A = A} s a names entries [] is_open told has gives =
+    let none = gives.1.0 is_open a told entries has in (
+      entries ++ told_fault a.fault,
+      inl refl,
+      subst (λ es. SayItems {A = A} [] (items_from (values_of names) (recalled_of s.remembered) es))
+          (sym (ap (λ es. es ++ told_fault a.fault) none.0 ∙ ap told_fault none.1)) tt,
+    )
+items_as_read {A = A} s a names entries (item ∷ given) is_open told has (t, next, gives) = ⊎_elim
+    (λ (entry, is, k).
+    let left : Ahead = record { bytes = k.uses.left; fault = a.fault } in
+    let has_left =
+    subst (λ d. HasEntriesLeft d a.fault k.uses.left k.is_first.later) (sym k.after.dialect) k.is_first.has_left in
+    let later : GivesRead names t left k.is_first.later given = ⊎_elim
+    (λ still.
+    items_as_read t left names k.is_first.later given still (k.uses.moves.is_left, told.1) has_left gives)
+    (λ ended. (
+      k.is_first.later ++ told_fault a.fault,
+      inl refl,
+      ended_says names t left k.is_first.later given ended.0 ended.1 k.uses.moves.is_left has_left gives,
+    ))
+    k.after.goes_on in (
+      entry ∷ later.0,
+      reads_more names a s t entries later.0 entry k later.1,
+      says_first (values_of names) (recalled_of s.remembered) (recalled_of t.remembered) entry item given
+          later.0 is k.after.remembers later.2,
+    ))
+    (λ fails. at item gives fails.0)
+    (next.0 is_open a told entries has)
+  where
+    at : (i : Item A) → GivesItems names t given →
+        FailsFor a s.lines.input i (λ bytes. HasDecided s.dialect bytes []) t.lines →
+        GivesRead names s a entries (i ∷ given)
+    at (Ok pair) gives fails = absurd fails
+    at (Err e) gives (failed, final) =
+        subst (λ others. GivesRead names s a entries (Err e ∷ others))
+        (sym (shut_gives names t given (failed_shut t.lines.stage failed) gives))
+        (fails_last names s a entries e t.lines.input has final)
+
 -- calls give the items of what is left, all and in order
 pub items_go_on : {A : Type 0} (s : IterState) (a : Ahead) (names : Texts) (entries : List Entry)
     (given : List (Item A)) → CanRead s a → HasEntriesLeft s.dialect a.fault a.bytes entries →
     GivesItems names s given → NoneRefused given →
     SayItems given (items_from (values_of names) (recalled_of s.remembered) (entries ++ told_fault a.fault))
-items_go_on {A = A} s a names entries [] can has gives granted =
-    let none = gives.1.0 can.is_open a can.is_told entries has in
-    subst (λ es. SayItems {A = A} [] (items_from (values_of names) (recalled_of s.remembered) es))
-    (sym (ap (λ es. es ++ told_fault a.fault) none.0 ∙ ap told_fault none.1)) tt
-items_go_on s a names entries (item ∷ given) can has (t, next, gives) granted = ⊎_elim
-    (λ (entry, is, k).
-    let left : Ahead = record { bytes = k.uses.left; fault = a.fault } in
-    let has_left =
-    subst (λ d. HasEntriesLeft d a.fault k.uses.left k.is_first.later) (sym k.after.dialect) k.is_first.has_left in
-    let later : SayItems given
-    (items_from (values_of names) (recalled_of t.remembered) (k.is_first.later ++ told_fault a.fault)) = ⊎_elim
-    (λ is_open.
-    items_go_on t left names k.is_first.later given (can_go_on names a s t entries entry can k is_open) has_left gives
-    granted.1)
-    (λ ended. ended_says names t left k.is_first.later given ended.0 ended.1 k.uses.moves.is_left has_left gives)
-    k.after.goes_on in
-    subst
-    (λ es.
-    SayItems (item ∷ given)
-    (items_from (values_of names) (recalled_of s.remembered) (es ++ told_fault a.fault))) (sym k.is_first.first)
-    (says_first (values_of names) (recalled_of s.remembered) (recalled_of t.remembered) entry item given
-    (k.is_first.later ++ told_fault a.fault) is k.after.remembers later))
-    (λ fails.
-    let last =
-    fails_last (values_of names) (recalled_of s.remembered) s.dialect a s.lines.input entries item t.lines has
-    can.few granted.0 fails.0 in
-    subst
-    (λ others.
-    SayItems (item ∷ others)
-    (items_from (values_of names) (recalled_of s.remembered) (entries ++ told_fault a.fault)))
-    (sym (shut_gives names t given (failed_shut t.lines.stage last.0) gives)) last.1)
-    (next.0 can.is_open a can.is_told entries has)
+items_go_on s a names entries given can has gives granted =
+    let (read, are, say) = items_as_read s a names entries given can.is_open can.is_told has gives in elim are [
+      | inl all ↦ subst (λ es. SayItems given (items_from (values_of names) (recalled_of s.remembered) es)) all say
+      | inr (inl stops) ↦
+          absurd (no_refusal (values_of names) (recalled_of s.remembered) stops.front given granted
+          (subst (λ es. SayItems given (items_from (values_of names) (recalled_of s.remembered) es)) stops.ends say))
+      | inr (inr ends) ↦ absurd (no_bound a s read can ends)
+    ]
 
 -- a fresh iterator can read what its source tells
 pub can_read_fresh : (dialect : Dialect) (a : Ahead) (calls : Option (List Call)) → IsReadable a →

@@ -10,7 +10,6 @@ use Rattle.std.specs.Option.{option_flatten}
 use Rattle.std.proofs.lemmas.Bool.{true≢false}
 use Rattle.std.proofs.lemmas.Str.{encodes-chars, encodes_same}
 use Rattle.std.specs.declared.io.ErrorKind.{ErrorKind}
-use Rattle.dotenvy_format.specs.declared.dialect.Dialect.{Dialect}
 use Rattle.dotenvy_base.specs.declared.errors.Error.{Error}
 use Rattle.dotenvy_format.specs.Keys.{is_key}
 use Rattle.dotenvy_base.specs.Errors.{IsMemory, IsMemoryErr}
@@ -21,18 +20,16 @@ use Rattle.dotenvy_format.specs.Items.{LookUp, no_values}
 use Rattle.dotenvy_base.specs.Environment.{Texts}
 use Rattle.dotenvy_items.specs.Meaning.{values_of, recalled_of}
 use Rattle.dotenvy_base.specs.Calls.{Call}
-use Rattle.dotenvy_base.specs.Source.{Ahead}
-use Rattle.dotenvy_lines.specs.declared.lines.Stage.TheVariants.{Open}
-use Rattle.dotenvy_items.specs.Iter.{IterState, fresh}
+use Rattle.dotenvy_items.specs.Iter.{IterState}
 use Rattle.dotenvy_format.specs.Loads.{load_result}
-use Rattle.dotenvy_items.specs.LoadsRest.{IsAnswer, Leaves, Rule, LoadsRest, ChangesKeys}
+use Rattle.dotenvy_items.specs.LoadsRest.{IsAnswer, Leaves, ChangesKeys}
 use Rattle.dotenvy_format.specs.Written.{written_bytes}
 use Rattle.dotenvy_items.proofs.KeyBytes.{encodes-key}
 use Rattle.dotenvy_base.specs.Output.{Writes}
 use Rattle.dotenvy_base.specs.Environment.{AreTexts}
 use Rattle.dotenvy_items.specs.Listed.{pairs_of, Lists, WritesLoaded}
 use Rattle.dotenvy_items.specs.Laws.{HoldsLoaded, ListsByRule, ListsLoaded, ListsValues}
-use Rattle.dotenvy_items.proofs.LoadSteps.{fresh_load, refused_by}
+use Rattle.dotenvy_items.proofs.LoadSteps.{refused_by}
 use Rattle.dotenvy_items.proofs.WholeLoads.{fresh_takes_all, load_takes_all}
 use Rattle.dotenvy_lines.specs.Reading.{told_fault}
 
@@ -47,15 +44,6 @@ refused_lists s held last_fault calls old (Err e) is = (
   refused_by Keep load_result s fin.empty e run-keep is,
   (refl, refl),
 )
-
--- a load by a fresh iterator, into an environment that is empty
-pub first_load : {A : Type 0} (rule : Rule) (ahead : Option Ahead) (calls : Option (List Call)) (dialect : Dialect)
-    (s : IterState) (old new : Texts) (answer : Result (Unit {0}) (Error A)) → s ≡ fresh ahead calls dialect →
-    old ≡ fin.empty → (s.lines.stage ≡ Open → LoadsRest rule s old answer new) →
-    LoadsRest rule (fresh ahead calls dialect) fin.empty answer new
-first_load rule ahead calls dialect s old new answer same empty loads =
-    subst (λ names. LoadsRest rule (fresh ahead calls dialect) names answer new) empty
-    (fresh_load rule ahead calls dialect s old new answer same loads)
 
 -- in an empty environment every name is absent
 empty_values : values_of fin.empty ≡ no_values

@@ -13,7 +13,7 @@ use Rattle.dotenvy_base.specs.Errors.{IsMemory}
 use Rattle.dotenvy_base.specs.Environment.{Texts}
 use Rattle.dotenvy_base.specs.Source.{Ahead}
 use Rattle.dotenvy_format.specs.LogicalLine.{Logical, Open as OpenEnd, Broken}
-use Rattle.dotenvy_format.specs.Outcome.{Outcome, Nothing, Pair, Fault, Says}
+use Rattle.dotenvy_format.specs.Outcome.{Outcome, Nothing, Pair, Fault}
 use Rattle.dotenvy_format.specs.Entries.{LineParse, Io, Entry, Declares, Fails, outcome_entries, Gives}
 use Rattle.dotenvy_format.specs.Decided.{HasDecided}
 use Rattle.dotenvy_format.specs.Marks.{without_mark}
@@ -21,11 +21,10 @@ use Rattle.dotenvy_format.specs.Items.{LookUp}
 use Rattle.dotenvy_format.specs.Run.{Mode, run}
 use Rattle.dotenvy_format.specs.Loads.{SameLoad}
 use Rattle.dotenvy_lines.specs.declared.lines.Stage.TheVariants.{Open, Ended, Failed}
-use Rattle.dotenvy_lines.specs.Input.{InputState, IsTold, IsFinal, DropsMark, begins_mark, end_reads}
-use Rattle.dotenvy_lines.specs.Lines.{LinesState, Counts, GoesOn, FailsFor}
+use Rattle.dotenvy_lines.specs.Input.{IsTold, IsFinal, DropsMark, begins_mark, end_reads}
+use Rattle.dotenvy_lines.specs.Lines.{LinesState, GoesOn}
 use Rattle.dotenvy_lines.specs.inside.NextLine.{TakesNext, CountsLine, IsUndecided, AdvanceIs}
 use Rattle.dotenvy_lines.specs.inside.Splitter.{last_lines}
-use Rattle.dotenvy_lines.specs.Reading.{HasEntriesLeft}
 use Rattle.dotenvy_lines.proofs.Inputs.{ahead_of, final_before}
 use Rattle.dotenvy_lines.proofs.LineEntries.{left_exists, decided-none}
 use Rattle.dotenvy_lines.proofs.DroppedMarks.{mark_decides}
@@ -35,7 +34,7 @@ use Rattle.dotenvy_items.specs.Remembered.{Remembered}
 use Rattle.dotenvy_items.specs.Iter.{IterState}
 use Rattle.dotenvy_items.specs.NextItem.{StandsOn}
 use Rattle.dotenvy_items.specs.LoadsRest.{IsAnswer, Rule}
-use Rattle.dotenvy_items.specs.LoadStops.{unmarked, LoadsAll, StopsInLine, DecideLoaded, StopsForGood, StopsIn, Stops}
+use Rattle.dotenvy_items.specs.LoadStops.{unmarked, StopsInLine, DecideLoaded, StopsForGood, StopsIn, Stops}
 use Rattle.dotenvy_items.specs.inside.ItemStep.{lines_after}
 use Rattle.dotenvy_items.specs.inside.LoadStep.{LoadsLine, stopped}
 use Rattle.dotenvy_items.proofs.LoadSteps.{Load, load_of, run_all, run_on, Done, Came, CameTo, came_open}

@@ -1,12 +1,16 @@
 -- What calls of `next_item` give one after another, and when items or results say the same.
-use Rattle.std.specs.Prelude.{ℕ, ◌≢◌, ◌^◌, ◌+◌, ◌<◌, List, [], ◌∷◌, length, Some, None, Result}
-use Rattle.std.specs.declared.io.ErrorKind.TheVariants.{Interrupted}
+use Rattle.std.specs.Prelude.{ℕ, ◌≡◌, ◌≢◌, ◌⊎◌, ◌^◌, ◌+◌, ◌<◌, ◌≤◌, List, [], ◌∷◌, ◌++◌, length, Some}
+use Rattle.std.specs.Prelude.{None, Result}
+use Rattle.std.specs.declared.io.ErrorKind.TheVariants.{Interrupted, Other}
+use Rattle.dotenvy_format.specs.declared.dialect.Dialect.{Dialect}
 use Rattle.dotenvy_base.specs.declared.errors.Error.{Error}
 use Rattle.dotenvy_base.specs.Errors.{IsMemoryErr}
-use Rattle.dotenvy_format.specs.Entries.{Failure}
+use Rattle.dotenvy_format.specs.Entries.{Failure, Entry, Fails, Io}
+use Rattle.dotenvy_format.specs.Decided.{HasDecided}
 use Rattle.dotenvy_base.specs.Environment.{Texts}
 use Rattle.dotenvy_base.specs.Source.{Ahead}
 use Rattle.dotenvy_lines.specs.Input.{end_reads}
+use Rattle.dotenvy_lines.specs.Reading.{StopsAtMemory, certain_bytes, told_fault}
 use Rattle.dotenvy_items.specs.Iter.{IterState, IsOpen, TellsLeft}
 use Rattle.dotenvy_items.specs.NextItem.{Item, SaysItem, NextItem}
 use Rattle.dotenvy_items.specs.LoadsRest.{IsAnswer}
@@ -33,6 +37,24 @@ pub record CanRead (s : IterState) (a : Ahead) : Type 0 where
   pub is_told : TellsLeft s a
   pub few :
       length a.bytes < s.lines.input.reads + s.lines.input.unread + end_reads s.lines.input.at_end
+
+-- a reading of a, of which so many bytes can be read for certain, stops at the bound on reads: after
+-- the entries that the bytes read so far decide, where each read gave a byte at least
+pub record EndsAtBound (dialect : Dialect) (a : Ahead) (certain : ℕ) (read : List Entry) : Type 0 where
+  pub bytes : List ℕ
+  pub later : List ℕ
+  pub cut : a.bytes ≡ bytes ++ later
+  pub each_gave : certain ≤ length bytes
+  pub decided : List Entry
+  pub has_decided : HasDecided dialect bytes decided
+  pub ends : read ≡ decided ++ Fails (Io Other) ∷ []
+
+-- which entries an iterator reads where a is told and these are left: all of them and the fault that
+-- is told; or it stops before, at refused memory or at the bound on reads
+abbrev pub AreRead : IterState → Ahead → List Entry → List Entry → Type 0
+AreRead s a entries read =
+    (read ≡ entries ++ told_fault a.fault)
+    ⊎ (StopsAtMemory entries read ⊎ EndsAtBound s.dialect a (certain_bytes s.lines.input) read)
 
 -- what was given says these items: all, and in order
 abbrev pub SayItems : {A : Type 0} → List (Item A) → List (Result (List ℕ × List ℕ) Failure) →

@@ -19,11 +19,11 @@ use Rattle.dotenvy_format.specs.Marks.{without_mark}
 use Rattle.dotenvy_base.specs.Calls.{Call}
 use Rattle.dotenvy_base.specs.Source.{Ahead}
 use Rattle.dotenvy_lines.specs.Reading.{HasEntriesLeft, told_fault}
-use Rattle.dotenvy_items.specs.Iter.{IterState, fresh}
+use Rattle.dotenvy_items.specs.Iter.{IterState, IsOpen, TellsLeft, fresh}
 use Rattle.dotenvy_items.specs.Listed.{Lists, pairs_of}
 use Rattle.dotenvy_items.specs.LoadsRest.{IsAnswer, Rule, Leaves, LoadsRest}
 use Rattle.dotenvy_items.specs.Iteration.{GivesItems, NoneRefused, IsReadable, CanRead, SayItems}
-use Rattle.dotenvy_items.specs.Iteration.{SayTheSame, AnswerTheSame}
+use Rattle.dotenvy_items.specs.Iteration.{AreRead, SayTheSame, AnswerTheSame}
 use Rattle.dotenvy_items.specs.NextItem.{Item}
 
 -- a fresh iterator gives the items of its source's bytes, all and in order, and last the fault that
@@ -44,6 +44,15 @@ ItemsGoOn A =
     GivesItems names s given → NoneRefused given →
     SayItems given
     (items_from (values_of names) (recalled_of s.remembered) (entries ++ told_fault a.fault))
+
+-- an open iterator, up to a final fault or its end, gives the items of what it reads, all and in order
+abbrev pub ItemsAsRead : Type 0 → Type 0
+ItemsAsRead A =
+    (s : IterState) (a : Ahead) (names : Texts) (entries : List Entry) (given : List (Item A)) →
+    IsOpen s → TellsLeft s a → HasEntriesLeft s.dialect a.fault a.bytes entries →
+    GivesItems names s given →
+    (read : List Entry) × AreRead s a entries read
+    × SayItems given (items_from (values_of names) (recalled_of s.remembered) read)
 
 -- two fresh iterators over the same bytes, with the same fault after them, give the same items
 abbrev pub GiveTheSame : Type 0 → Type 0

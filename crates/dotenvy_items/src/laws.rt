@@ -2,7 +2,7 @@
 //!
 //! A law is the contract of a function that does nothing; to call one has no effect.
 
-ghost use Rattle.dotenvy_items.specs.Laws.{CutsDoNotMatter, ItemsGoOn, ItemsInOrder, ListsByRule, LoadsAgain, LoadsTakeAll, OneEntryALine};
+ghost use Rattle.dotenvy_items.specs.Laws.{CutsDoNotMatter, ItemsAsRead, ItemsGoOn, ItemsInOrder, ListsByRule, LoadsAgain, LoadsTakeAll, OneEntryALine};
 
 use dotenvy_base::source::Sink;
 use std::alloc::Allocator;
@@ -22,6 +22,13 @@ pub fn items_in_order<A: Allocator>()
 /// The same of an iterator that was used before: it gives the items of what is left, where a name that the environment lacks means what is remembered of it, whatever that is.
 pub fn items_go_on<A: Allocator>()
     ensures { ItemsGoOn A }
+{}
+
+/// An iterator that doesn't come to its end gives the items of what it reads, in order, and then its final fault: all items that are left and the fault that is told; or the first of them and then refused memory; or those that the bytes read so far decide and then the bound on reads.
+///
+/// This holds of every number of bytes, also where memory is refused; no read is interrupted.
+pub fn items_as_read<A: Allocator>()
+    ensures { ItemsAsRead A }
 {}
 
 /// A load leaves and answers what its rule says of all that is left: without a byte order mark at its front, and with the fault that is told, if one is, at its end. It stops nowhere before the first fault. This holds of `load` and of `load_override`, on a fresh iterator and on one that was used.

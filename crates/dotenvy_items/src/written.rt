@@ -9,7 +9,7 @@ ghost use Rattle.dotenvy_base.specs.Errors.{IsIoOf};
 ghost use Rattle.dotenvy_format.specs.Written.{needs_backslash, written_character, written_text, written_bytes};
 ghost use Rattle.dotenvy_base.specs.Output.{Sends, Writes};
 ghost use Rattle.dotenvy_base.specs.Environment.{AreTexts};
-ghost use Rattle.dotenvy_items.specs.Iter.{fresh};
+ghost use Rattle.dotenvy_items.specs.Iter.{fresh, AsksBetween, IsOpen};
 ghost use Rattle.dotenvy_items.specs.Listed.{pairs_of, Lists};
 
 use crate::iter::Iter;
@@ -164,8 +164,22 @@ pub fn list_with<R: Source + Drop, W: Sink, A: Allocator + Clone>(
     ensures { Lists (fresh (R.ahead reader) (R.calls reader) dialect)
         W.held W.last_fault W.calls writer.old writer.new result }
 {
+    let mut file = Iter::with_dialect(alloc.clone()?, reader, dialect)?;
+    list_rest(alloc, &mut file, writer)
+}
+
+// Lists what an iterator has left, as `list_with` does of a reader.
+fn list_rest<R: Source, W: Sink, A: Allocator + Clone>(
+    alloc: A,
+    file: &mut Iter<R, A>,
+    writer: &mut W,
+) -> Result<(), A>
+    ensures lists { IsOpen file.old →
+        Lists file.old W.held W.last_fault W.calls writer.old writer.new result }
+    ensures asks { AsksBetween file.old file.new }
+{
     let mut env = Environment::new(alloc.clone()?);
-    Iter::with_dialect(alloc.clone()?, reader, dialect)?.load(&mut env)?;
+    file.load_rest(&mut env)?;
     let text = listing(alloc, &env)?;
     write_all(writer, text.as_bytes(), MOST_WRITES)
 }

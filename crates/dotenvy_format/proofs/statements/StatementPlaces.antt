@@ -1,6 +1,9 @@
 -- Which fronts begin a statement, and the place of a fault before the value.
 use Rattle.std.proofs.Common.{◌≡◌, ℕ, suc, List, [], ◌∷◌, ◌++◌, Option, Some, None, refl, sym, ◌∙◌}
 use Rattle.std.proofs.Common.{ap, append_assoc, subst, take}
+use Rattle.std.specs.Prelude.{IsTrue}
+use Rattle.std.specs.Char.{is_ascii}
+use Rattle.std.specs.List.{list_all}
 use Rattle.dotenvy_format.specs.Characters.{equals_sign}
 use Rattle.dotenvy_format.specs.Statement.{IsStatement}
 use Rattle.dotenvy_format.specs.Places.{BeginsStatement, IsPlace}
@@ -25,13 +28,23 @@ statement_reach (c ∷ cs) m = statement_reach_after (statement_goes m c) (λ n.
 abbrev CompletesStatement : List ℕ → StatementMode → Type 0
 CompletesStatement text m = (more : List ℕ) × (key rest : List ℕ) × (read_statement (text ++ more) m ≡ Some (key, rest))
 
+-- the same by ASCII characters
+abbrev StatementByText : List ℕ → StatementMode → Type 0
+StatementByText text m =
+    (more : List ℕ) × (key rest : List ℕ) × IsTrue (list_all is_ascii more)
+    × (read_statement (text ++ more) m ≡ Some (key, rest))
+
 -- from each mode there is a text that completes a statement
+statement_completes_by_text : (m : StatementMode) → StatementByText [] m
+statement_completes_by_text start = (65 ∷ equals_sign ∷ [], 65 ∷ [], [], refl, refl)
+statement_completes_by_text (in_key first acc) = (equals_sign ∷ [], acc, [], refl, refl)
+statement_completes_by_text (after_key acc) = (equals_sign ∷ [], acc, [], refl, refl)
+statement_completes_by_text after_export = (equals_sign ∷ [], _, [], refl, refl)
+statement_completes_by_text (assigned acc) = ([], acc, [], refl, refl)
+
+-- from each mode some list of numbers completes a statement
 statement_completes : (m : StatementMode) → CompletesStatement [] m
-statement_completes start = (65 ∷ equals_sign ∷ [], 65 ∷ [], [], refl)
-statement_completes (in_key first acc) = (equals_sign ∷ [], acc, [], refl)
-statement_completes (after_key acc) = (equals_sign ∷ [], acc, [], refl)
-statement_completes after_export = (equals_sign ∷ [], _, [], refl)
-statement_completes (assigned acc) = ([], acc, [], refl)
+statement_completes m = let by = statement_completes_by_text m in (by.0, by.1, by.2, by.4)
 
 -- where a character leads to a mode from which a text can be completed, both can be from the mode before it
 statement_goes_on : (m : StatementMode) (c : ℕ) (cs : List ℕ) (n : StatementMode) → statement_goes m c ≡ Some n →
@@ -79,6 +92,32 @@ statement_goes_nowhere after_export c cs g (more, key, rest, h) =
     none_some (key, rest) (sym (ap (λ o. read_on o (λ m. read_statement (cs ++ more) m)) g) ∙ h)
 statement_goes_nowhere (assigned acc) c cs g done = cc
 
+-- where a character leads to a mode, what follows it is read from there, but in what is assigned, which is all text
+statement_by_text_on : (m : StatementMode) (c : ℕ) (cs : List ℕ) (n : StatementMode) → statement_goes m c ≡ Some n →
+    StatementByText cs n → StatementByText (c ∷ cs) m
+statement_by_text_on start c cs n g (more, key, rest, ascii, h) =
+    (more, key, rest, ascii, ap (λ o. read_on o (λ m. read_statement (cs ++ more) m)) g ∙ h)
+statement_by_text_on (in_key first acc) c cs n g (more, key, rest, ascii, h) =
+    (more, key, rest, ascii, ap (λ o. read_on o (λ m. read_statement (cs ++ more) m)) g ∙ h)
+statement_by_text_on (after_key acc) c cs n g (more, key, rest, ascii, h) =
+    (more, key, rest, ascii, ap (λ o. read_on o (λ m. read_statement (cs ++ more) m)) g ∙ h)
+statement_by_text_on after_export c cs n g (more, key, rest, ascii, h) =
+    (more, key, rest, ascii, ap (λ o. read_on o (λ m. read_statement (cs ++ more) m)) g ∙ h)
+statement_by_text_on (assigned acc) c cs n g by = ([], acc, rest_of (c ∷ (cs ++ [])), refl, refl)
+
+-- where what follows a character can be completed by ASCII characters, so can both
+by_text_step : (c : ℕ) (cs : List ℕ) (m : StatementMode) (g : Option StatementMode) → statement_goes m c ≡ g →
+    CompletesStatement (c ∷ cs) m → ((n : StatementMode) → CompletesStatement cs n → StatementByText cs n) →
+    StatementByText (c ∷ cs) m
+by_text_step c cs m None h done later = absurd (statement_goes_nowhere m c cs h done)
+by_text_step c cs m (Some n) h done later =
+    statement_by_text_on m c cs n h (later n (statement_goes_back m c cs n h done))
+
+-- what can be completed can be by ASCII characters
+by_text : (text : List ℕ) (m : StatementMode) → CompletesStatement text m → StatementByText text m
+by_text [] m done = statement_completes_by_text m
+by_text (c ∷ cs) m done = by_text_step c cs m (statement_goes m c) refl done (λ n. by_text cs n)
+
 -- where the place is right for the rest of a text from each mode, it is for the text with its first character
 statement_placed_step : (c : ℕ) (cs : List ℕ) (m : StatementMode) (g : Option StatementMode) → statement_goes m c ≡ g →
     ((n : StatementMode) → Placed CompletesStatement cs n (statement_reach cs n)) →
@@ -109,6 +148,13 @@ statement_place text = let p = statement_placed text start in record {
         read-statement (take (suc (statement_reach text start)) text ++ begins.0) begins.1 begins.2 begins.3,
       );
 }
+
+-- a front of a statement can be completed to one by ASCII characters
+pub statement_by_text : (front : List ℕ) → BeginsStatement front →
+    (more key rest : List ℕ) × IsTrue (list_all is_ascii more) × IsStatement (front ++ more) key rest
+statement_by_text front (more, key, rest, is) =
+    let by = by_text front start (more, key, rest, read-statement (front ++ more) key rest is) in
+    (by.0, by.1, by.2, by.3, statement-read (front ++ by.0) by.1 by.2 by.4)
 
 -- each front of a text that begins a statement begins one
 pub statement_fronts : (text more : List ℕ) → BeginsStatement (text ++ more) → BeginsStatement text

@@ -1,10 +1,10 @@
 -- The place of a fault: no longer front begins a statement or a value, and a text has one place alone.
 use Rattle.std.proofs.Common.{◌≡◌, ℕ, ◌≤◌, ◌<◌, suc, List, ◌++◌, take, drop, sym, ◌∙◌, ap, subst, arith}
 use Rattle.std.proofs.lemmas.List.{take-append-drop, take-take}
-use Rattle.dotenvy_format.specs.Laws.{NoLongerBegins, PlacesAreLongest}
+use Rattle.dotenvy_format.specs.Laws.{CompletedByText, NoLongerBegins, PlacesAreLongest}
 use Rattle.dotenvy_format.specs.Places.{BeginsStatement, BeginsValue, IsPlace}
-use Rattle.dotenvy_format.proofs.statements.StatementPlaces.{statement_fronts}
-use Rattle.dotenvy_format.proofs.values.ValuePlaces.{value_fronts}
+use Rattle.dotenvy_format.proofs.statements.StatementPlaces.{statement_by_text, statement_fronts}
+use Rattle.dotenvy_format.proofs.values.ValuePlaces.{value_by_text, value_fronts}
 
 -- where a text begins what is to come, so does each front of it
 abbrev pub AreFronts : (List ℕ → Type 0) → Type 0
@@ -42,3 +42,7 @@ places_are_longest = (
   no_longer BeginsStatement statement_fronts,
   λ dialect. no_longer (BeginsValue dialect) (value_fronts dialect),
 )
+
+-- what can be completed can be by a text
+pub completed_by_text : CompletedByText
+completed_by_text = (statement_by_text, value_by_text)

@@ -1,5 +1,5 @@
 -- Slices of a text, by its bytes and by its characters.
-use Rattle.std.specs.Prelude.{ℕ, ◌≡◌, Bool, not, ◌&&◌, ◌||◌, ◌==◌, nat_le, nat_lt, List, [], ◌∷◌}
+use Rattle.std.specs.Prelude.{ℕ, ◌≡◌, Bool, not, ◌&&◌, ◌||◌, ◌==◌, nat_le, nat_lt, List, ◌∷◌}
 use Rattle.std.specs.Prelude.{◌++◌, take, IsTrue}
 use Rattle.std.specs.Char.{encode_utf8}
 use Rattle.std.specs.List.{list_all}
