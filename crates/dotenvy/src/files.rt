@@ -6,7 +6,7 @@ ghost use Rattle.dotenvy_base.specs.Find.{IsPathOf};
 ghost use Rattle.dotenvy_items.specs.Iter.{fresh};
 ghost use Rattle.dotenvy_items.specs.LoadsRest.{ChangesOnlyKeys, OnlyAdds};
 
-use crate::find::{Finder, open};
+use crate::find::{open, open_filename};
 use dotenvy_base::environment::Environment;
 use dotenvy_base::errors::Result;
 use dotenvy_base::source::Plain;
@@ -100,7 +100,7 @@ pub fn from_filename_with<A: Allocator + Clone, R: Files + Env + Alloc<A = A>>(
     ensures path { IfOk result (λ p. IsPathOf (path_bytes filename.entry) (path_buf_bytes p)) }
     ensures adds { OnlyAdds env.old env.new }
 {
-    let (path, file) = Finder::new().filename(filename).find(rt, dialect)?;
+    let (path, file) = open_filename(rt, filename, dialect)?;
     file.load(env)?;
     Ok(path)
 }
@@ -118,7 +118,7 @@ pub fn from_filename_override<A: Allocator + Clone, R: Files + Env + Alloc<A = A
     ensures path { IfOk result (λ p. IsPathOf (path_bytes filename.entry) (path_buf_bytes p)) }
     ensures changes { ChangesOnlyKeys env.old env.new }
 {
-    let (path, file) = Finder::new().filename(filename).find(rt, Dialect::V15)?;
+    let (path, file) = open_filename(rt, filename, Dialect::V15)?;
     file.load_override(env)?;
     Ok(path)
 }
@@ -136,7 +136,7 @@ pub fn from_filename_iter<A: Allocator + Clone, R: Files + Env + Alloc<A = A>>(
     ensures ok { IfOk result (λ file. file ≡ fresh None None Dialect.V15) }
     ensures fault { IfErr result IsFileFault }
 {
-    let (_, file) = Finder::new().filename(filename).find(rt, Dialect::V15)?;
+    let (_, file) = open_filename(rt, filename, Dialect::V15)?;
     Ok(file)
 }
 
@@ -153,9 +153,7 @@ pub fn dotenv<A: Allocator + Clone, R: Files + Env + Alloc<A = A>>(
     ensures path { IfOk result (λ p. IsPathOf (codes ".env") (path_buf_bytes p)) }
     ensures adds { OnlyAdds env.old env.new }
 {
-    let (path, file) = Finder::new().find(rt, Dialect::V15)?;
-    file.load(env)?;
-    Ok(path)
+    from_filename(rt, Path::new(".env"), env)
 }
 
 /// [`from_filename_override`] of `.env`.
@@ -170,9 +168,7 @@ pub fn dotenv_override<A: Allocator + Clone, R: Files + Env + Alloc<A = A>>(
     ensures path { IfOk result (λ p. IsPathOf (codes ".env") (path_buf_bytes p)) }
     ensures changes { ChangesOnlyKeys env.old env.new }
 {
-    let (path, file) = Finder::new().find(rt, Dialect::V15)?;
-    file.load_override(env)?;
-    Ok(path)
+    from_filename_override(rt, Path::new(".env"), env)
 }
 
 /// [`from_filename_iter`] of `.env`.
@@ -186,6 +182,5 @@ pub fn dotenv_iter<A: Allocator + Clone, R: Files + Env + Alloc<A = A>>(
     ensures ok { IfOk result (λ file. file ≡ fresh None None Dialect.V15) }
     ensures fault { IfErr result IsFileFault }
 {
-    let (_, file) = Finder::new().find(rt, Dialect::V15)?;
-    Ok(file)
+    from_filename_iter(rt, Path::new(".env"))
 }

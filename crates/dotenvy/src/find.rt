@@ -1,5 +1,5 @@
 //! A file found in the current directory or above it, opened.
-ghost use Rattle.std.specs.Prelude.{◌≡◌, IfErr, IfOk, None, codes};
+ghost use Rattle.std.specs.Prelude.{◌≡◌, IfErr, IfOk, None};
 ghost use Rattle.std.specs.Path.{path_bytes, path_buf_bytes};
 ghost use Rattle.dotenvy_base.specs.Errors.{IsFileFault, IsSystemFault};
 ghost use Rattle.dotenvy_base.specs.Find.{IsPathOf};
@@ -18,60 +18,40 @@ use std::io::ErrorKind;
 use std::path::{Path, PathBuf};
 use std::{env, fs, io};
 
-/// A search for the file of a name, from the current directory up.
-#[derive(Drop)]
-pub(crate) struct Finder<'a> {
-    filename: Path<'a>,
+/// Searches for the file of a name in the current directory and in those above it, and opens it. Links are followed.
+///
+/// Returns the path that was found, and a fresh iterator over the file.
+pub(crate) fn open_filename<A: Allocator + Clone, R: Files + Env + Alloc<A = A>>(
+    rt: &R,
+    filename: Path<'_>,
+    dialect: Dialect,
+) -> Result<(PathBuf<A>, Iter<Plain<R::File>, A>), A>
+    ensures path { IfOk result
+        (λ found. IsPathOf (path_bytes filename.entry) (path_buf_bytes found.0)) }
+    ensures file { IfOk result (λ found. found.1 ≡ fresh None None dialect) }
+    ensures fault { IfErr result IsFileFault }
+{
+    match search_and_open(rt, filename, dialect) {
+        Ok(found) => Ok(found),
+        Err(error) => Err(or_memory(error)),
+    }
 }
 
-impl<'a> Finder<'a> {
-    pub(crate) fn new() -> Finder<'a>
-        ensures { path_bytes result.filename ≡ codes ".env" }
-    {
-        Finder {
-            filename: Path::new(".env"),
-        }
-    }
-
-    pub(crate) fn filename(self, filename: Path<'a>) -> Finder<'a>
-        ensures { path_bytes result.filename ≡ path_bytes filename.entry }
-    {
-        Finder { filename }
-    }
-
-    /// The path of the file that was found, and an iterator over it. Links are followed.
-    pub(crate) fn find<A: Allocator + Clone, R: Files + Env + Alloc<A = A>>(
-        self,
-        rt: &R,
-        dialect: Dialect,
-    ) -> Result<(PathBuf<A>, Iter<Plain<R::File>, A>), A>
-        ensures path { IfOk result (λ found.
-            IsPathOf (path_bytes self.entry.filename) (path_buf_bytes found.0)) }
-        ensures file { IfOk result (λ found. found.1 ≡ fresh None None dialect) }
-        ensures fault { IfErr result IsFileFault }
-    {
-        match self.found(rt, dialect) {
-            Ok(found) => Ok(found),
-            Err(error) => Err(or_memory(error)),
-        }
-    }
-
-    // As `find`, but a fault of a system that had no memory is left as it is.
-    fn found<A: Allocator + Clone, R: Files + Env + Alloc<A = A>>(
-        self,
-        rt: &R,
-        dialect: Dialect,
-    ) -> Result<(PathBuf<A>, Iter<Plain<R::File>, A>), A>
-        ensures path { IfOk result (λ found.
-            IsPathOf (path_bytes self.entry.filename) (path_buf_bytes found.0)) }
-        ensures file { IfOk result (λ found. found.1 ≡ fresh None None dialect) }
-        ensures fault { IfErr result IsSystemFault }
-    {
-        let directory = env::current_dir(rt)?;
-        let path = search_up(rt, directory.as_path(), self.filename)?;
-        let file = open(rt, path.as_path())?;
-        Ok((path, Iter::with_dialect(rt.alloc(), file, dialect)?))
-    }
+// As `open_filename`, but a fault of a system that had no memory is left as it is.
+fn search_and_open<A: Allocator + Clone, R: Files + Env + Alloc<A = A>>(
+    rt: &R,
+    filename: Path<'_>,
+    dialect: Dialect,
+) -> Result<(PathBuf<A>, Iter<Plain<R::File>, A>), A>
+    ensures path { IfOk result
+        (λ found. IsPathOf (path_bytes filename.entry) (path_buf_bytes found.0)) }
+    ensures file { IfOk result (λ found. found.1 ≡ fresh None None dialect) }
+    ensures fault { IfErr result IsSystemFault }
+{
+    let directory = env::current_dir(rt)?;
+    let path = search_up(rt, directory.as_path(), filename)?;
+    let file = open(rt, path.as_path())?;
+    Ok((path, Iter::with_dialect(rt.alloc(), file, dialect)?))
 }
 
 // The path of the file of this name in the current directory or above it. Its own text says where nothing was found.

@@ -1,5 +1,5 @@
 //! The values of an environment, into which the first use loads `.env`.
-ghost use Rattle.std.specs.Prelude.{◌≡◌, ◌⊎◌, Err, IfErr, IfOk, None, OnErr, OnOk, false, true};
+ghost use Rattle.std.specs.Prelude.{◌≡◌, ◌⊎◌, Err, IfErr, IfOk, None, Ok, OnErr, OnOk, false, true};
 ghost use Rattle.std.specs.FinMap as fin;
 ghost use Rattle.dotenvy_base.specs.Environment.{KeepsNames};
 ghost use Rattle.dotenvy_base.specs.Errors.{IsMemory, IsMemoryErr};
@@ -12,6 +12,7 @@ use dotenvy_base::errors::{Error, Result, VarError};
 use std::alloc::{Alloc, Allocator};
 use std::env::Env;
 use std::fs::Files;
+use std::path::PathBuf;
 
 /// The value of a name, after the first use: the first call of `var` or [`vars`] with an environment loads `.env` into it
 /// by [`dotenv`], and sets its mark (docs/GRAMMAR.md, "Finding the file").
@@ -66,8 +67,7 @@ pub fn vars<A: Allocator + Clone, R: Files + Env + Alloc<A = A>>(
     load_once(rt, env).and_then(|()| snapshot(env))
 }
 
-// Loads `.env` where the mark isn't set, and sets it. A fault of the load is no fault of the use, but for refused
-// memory, which leaves the mark as it is.
+// Loads `.env` where the mark isn't set, and sets it, unless memory was refused within the load.
 fn load_once<A: Allocator + Clone, R: Files + Env + Alloc<A = A>>(
     rt: &R,
     env: &mut Environment<A>,
@@ -82,7 +82,18 @@ fn load_once<A: Allocator + Clone, R: Files + Env + Alloc<A = A>>(
     if env.loaded() {
         return Ok(());
     }
-    if let Err(Error::Memory(refused)) = dotenv(rt, env) {
+    let load = dotenv(rt, env);
+    mark_after(load, env)
+}
+
+// Sets the mark after this load. A fault of the load is no fault of the use, but for refused memory, which leaves the
+// mark as it is.
+fn mark_after<A: Allocator>(load: Result<PathBuf<A>, A>, env: &mut Environment<A>) -> Result<(), A>
+    ensures refused { IsMemoryErr load → IsMemoryErr result × (env.new ≡ env.old) }
+    ensures used { IsMemoryErr load
+        ⊎ ((result ≡ Ok tt) × (env.new ≡ record env.old { loaded = true })) }
+{
+    if let Err(Error::Memory(refused)) = load {
         return Err(Error::Memory(refused));
     }
     mark_loaded(env);
