@@ -17,7 +17,7 @@ PAGE = TOP / "docs" / "DEFINITIONS.md"
 
 # The public calls and laws of the headline, by the file that has them.
 HEADLINE = {
-    "dotenvy_items/src/iter.rt": ["next_item", "load", "load_override", "from_read", "from_read_override"],
+    "dotenvy_items/src/iter.rt": ["next_item", "load", "load_override", "load_rest", "load_rest_override", "from_read", "from_read_override"],
     "dotenvy_items/src/laws.rt": ["items_in_order", "cuts_do_not_matter", "lists_by_rule"],
     "dotenvy_format/src/laws.rt": ["loads_in_turn", "reads_back", "one_reading", "one_meaning", "one_outcome", "one_next"],
 }

@@ -70,7 +70,7 @@ def signature(lines):
             text = text[: end.start()]
             break
     text = without_generics(re.sub(r"^.*?\bfn ", "", text))
-    return re.sub(r",? \)", ")", text.replace("( ", "("))
+    return re.sub(r",? \)", ")", text.replace("( ", "(").replace("(mut self", "(self"))
 
 
 def calls_of(file, names):

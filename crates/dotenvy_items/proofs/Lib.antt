@@ -12,5 +12,5 @@ pub mod KeyLookUps
 pub mod EnvChanges
 pub mod LineLoads
 pub mod LoadSteps
-pub mod LoadStops
+pub mod StoppedLoads
 pub mod Nuls

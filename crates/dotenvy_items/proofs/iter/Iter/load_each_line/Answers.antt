@@ -14,7 +14,7 @@ use Rattle.dotenvy_items.specs.Remembered.{remembered_of}
 use Rattle.dotenvy_items.proofs.EnvChanges.{changes_none, changes_twice, keeps_twice}
 use Rattle.dotenvy_items.proofs.LoadSteps.{CameTo, came_start, came_line, loads_line, loads_none}
 use Rattle.dotenvy_items.proofs.LoadSteps.{loads_fault, loads_mark}
-use Rattle.dotenvy_items.proofs.LoadStops.{stops_line, stops_fault, stops_none, stops_mark}
+use Rattle.dotenvy_items.proofs.StoppedLoads.{stops_line, stops_fault, stops_none, stops_mark}
 use Rattle.dotenvy_items.proofs.iter.Iter.load_each_line.Goals as goal
 
 pub returns-in_err-drop_mark-clause-told : goal.returns-in_err-drop_mark-clause-told

@@ -3,7 +3,7 @@ use Rattle.dotenvy_format.specs.Run.{Keep, run}
 use Rattle.dotenvy_format.specs.Loads.{load_result}
 use Rattle.dotenvy_format.proofs.loads.LoadLaws.{run-keep}
 use Rattle.dotenvy_items.proofs.LoadSteps.{loads_by}
-use Rattle.dotenvy_items.proofs.LoadStops.{stops_by}
+use Rattle.dotenvy_items.proofs.StoppedLoads.{stops_by}
 use Rattle.dotenvy_items.proofs.iter.Iter.load_rest.Goals as goal
 
 pub returns-clause-told : goal.returns-clause-told

@@ -2,7 +2,7 @@ use Rattle.dotenvy_format.specs.Run.{Replace, run}
 use Rattle.dotenvy_format.specs.Loads.{override_result}
 use Rattle.dotenvy_format.proofs.loads.LoadLaws.{run-replace}
 use Rattle.dotenvy_items.proofs.LoadSteps.{loads_by}
-use Rattle.dotenvy_items.proofs.LoadStops.{stops_by}
+use Rattle.dotenvy_items.proofs.StoppedLoads.{stops_by}
 use Rattle.dotenvy_items.proofs.iter.Iter.load_rest_override.Goals as goal
 
 pub returns-clause-told : goal.returns-clause-told
