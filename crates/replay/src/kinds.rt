@@ -3,7 +3,7 @@
 use crate::answer::push_answer;
 use crate::scene::Scene;
 use crate::{
-    command, cut, file, layers, notation, reads, refused, refused_call, scene, search, used,
+    command, cut, file, layers, notation, reads, refused, refused_call, rest, scene, search, used,
     written,
 };
 use anyhow::{Context, Result, bail};
@@ -36,6 +36,7 @@ fn play_library(
     match kind {
         "file" => file::play(answers, fields),
         "used" => used::play(answers, fields),
+        "rest" => rest::play(answers, fields),
         "written" => written::play_written(answers, fields),
         "pair" => written::play_pair(answers, fields),
         "list" => written::play_list(answers, fields),

@@ -14,6 +14,7 @@ mod notation;
 mod reads;
 mod refused;
 mod refused_call;
+mod rest;
 mod row;
 mod scene;
 mod search;
