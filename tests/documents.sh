@@ -2,7 +2,7 @@
 # Compares the documents with what is played, built and proved:
 # - crates/replay/data has the examples of docs/GRAMMAR.md, docs/OTHER_LIBRARIES.md and README.md as rows;
 # - crates/replay/stdout has the number of rows of each file, and crates/replay/args names each;
-# - each block of Rust in README.md and docs/LIBRARY.md is in a source file of crates/examples, crates/check_file or
+# - each block of Rust in README.md and docs/LIBRARY.md is in a source file of crates/examples, the other examples or
 #   crates/own_contracts, and so is each line beside one of the Rust crate;
 # - docs/LIBRARY.md has each public call with its signature, and README.md a contract of the code;
 # - docs/DEFINITIONS.md has the definitions on which the headline rests;
@@ -63,7 +63,7 @@ stands_in_examples() {
         if stands_in "$1" "$source"; then
             return 0
         fi
-    done < <(find crates/examples/src crates/check_file/src crates/own_contracts/src -name '*.rt')
+    done < <(find crates/{examples,service_settings,layered_settings,lint_files,own_contracts}/src -name '*.rt')
     return 1
 }
 

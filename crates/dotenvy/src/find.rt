@@ -20,8 +20,14 @@ use std::{env, fs, io};
 
 /// Searches for the file of a name in the current directory and in those above it, and opens it. Links are followed.
 ///
-/// Returns the path that was found, and a fresh iterator over the file.
-pub(crate) fn open_filename<A: Allocator + Clone, R: Files + Env + Alloc<A = A>>(
+/// Returns the path that was found, and a fresh iterator over the file, in this dialect; nothing is read yet, and nothing
+/// is set (docs/GRAMMAR.md, "Finding the file"). The errors are those of [`from_filename`](crate::from_filename).
+///
+/// ```
+/// let (path, mut file) = open_filename(&rt, Path::new(".env"), Dialect::V15)?;
+/// file.load_rest(&mut environment)?;
+/// ```
+pub fn open_filename<A: Allocator + Clone, R: Files + Env + Alloc<A = A>>(
     rt: &R,
     filename: Path<'_>,
     dialect: Dialect,

@@ -148,3 +148,12 @@ GivesKey item =
 -- a pair that is given has a name that an environment can hold
 abbrev pub GivesName : {A : Type 0} → Option (Item A) → Type 0
 GivesName item = IfSome item (λ given. IfOk given (λ pair. IsTrue (name_ok (string_bytes pair.0))))
+
+-- an item without the line that is given with it
+abbrev pub unnumbered : {A : Type 0} → Option (ℕ × Item A) → Option (Item A)
+unnumbered None = None
+unnumbered (Some (line, item)) = Some item
+
+-- the line that is given with an item is the first one that it is on
+abbrev pub IsNumbered : {A : Type 0} → Option (ℕ × Item A) → IterState → Type 0
+IsNumbered item t = IfSome item (λ given. given.0 ≡ t.item_lines.0)

@@ -16,7 +16,7 @@ ghost use Rattle.dotenvy_lines.specs.Lines.{lines_measure};
 ghost use Rattle.dotenvy_items.specs.Remembered.{remembered_of};
 ghost use Rattle.dotenvy_items.specs.inside.ItemStep.{AddsLine, item_lines_then, reading_of};
 ghost use Rattle.dotenvy_items.specs.Iter.{state_of};
-ghost use Rattle.dotenvy_items.specs.NextItem.{GivesKey, GivesName, NextItem};
+ghost use Rattle.dotenvy_items.specs.NextItem.{unnumbered, GivesKey, GivesName, IsNumbered, NextItem};
 ghost use Rattle.dotenvy_items.specs.LoadsRest.{ChangesOnlyKeys, LoadsRest, OnlyAdds};
 ghost use Rattle.dotenvy_items.specs.LoadStops.{Stops};
 ghost use Rattle.dotenvy_items.specs.inside.LoadStep.{mode_of, stopped, stopped_if};
@@ -176,6 +176,24 @@ impl<R: Source, A: Allocator + Clone> Iter<R, A> {
         ensures env { result.env.now ≡ env.now }
     {
         Items { file: self, env }
+    }
+
+    /// As `items`, and each item comes with the physical line on which it begins, counted from 1, as `first_line` says:
+    /// it is 0 for an item that is on no line.
+    ///
+    /// ```text
+    /// for (line, item) in file.numbered_items(&env) {
+    ///     if let Err(error) = item {
+    ///         println!(rt; "{line}: {error}")?;
+    ///     }
+    /// }
+    /// ```
+    pub fn numbered_items<'a>(&'a mut self, env: &'a Environment<A>) -> NumberedItems<'a, R, A>
+        ensures file { (result.file.now ≡ self.old)
+            × (result.file.ghost_name ≡ self.entry.ghost_name) }
+        ensures env { result.env.now ≡ env.now }
+    {
+        NumberedItems { file: self, env }
     }
 }
 
@@ -439,6 +457,31 @@ impl<'a, R: Source, A: Allocator + Clone> Iterator for Items<'a, R, A> {
 
     fn next(&mut self) -> Option<Result<(String<A>, String<A>), A>> {
         self.file.next_item(self.env)
+    }
+}
+
+/// The items of an iterator under one environment, each with its first line; `Iter::numbered_items` makes it.
+#[derive(Drop)]
+pub struct NumberedItems<'a, R: Source, A: Allocator = Global> {
+    file: &'a mut Iter<R, A>,
+    env: &'a Environment<A>,
+}
+
+impl<'a, R: Source, A: Allocator + Clone> Iterator for NumberedItems<'a, R, A> {
+    type Item = (u64, Result<(String<A>, String<A>), A>);
+
+    ghost next_gives = { λ s item t. NextItem s.env.now.names s.file.now (unnumbered item) t.file.now
+        × IsNumbered item t.file.now × AsksBetween s.file.now t.file.now
+        × (t.file.ghost_name ≡ s.file.ghost_name) × (t.env.now ≡ s.env.now)
+        × GivesKey (unnumbered item) × GivesName (unnumbered item)
+        × (item ≡ None → ¬ (IsOpen t.file.now))
+        × IfSome (unnumbered item) (λ given. IsMemoryErr given → HasFailed t.file.now) };
+
+    ghost remaining = { λ s. at_most (items_measure s.file.now) };
+
+    fn next(&mut self) -> Option<(u64, Result<(String<A>, String<A>), A>)> {
+        let item = self.file.next_item(self.env)?;
+        Some((self.file.first_line(), item))
     }
 }
 

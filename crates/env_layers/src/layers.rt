@@ -11,7 +11,7 @@ ghost use Rattle.env_layers.specs.Missing.{absent_names, lent_texts, AnswersRequ
 
 use crate::missing::Missing;
 use dotenvy::{
-    Dialect, Environment, Result, Source, from_filename_with, from_read, from_read_override,
+    Dialect, Environment, Result, Source, from_read, from_read_override, open_filename,
 };
 use std::alloc::{Alloc, AllocError, Allocator, Global};
 use std::env::Env;
@@ -122,9 +122,33 @@ impl<A: Allocator + Clone> Layers<A> {
         ensures refused { OnErr result (self.new ≡ self.old) }
         ensures adds { OnlyAdds self.old self.new }
     {
-        let mut copy = self.env.try_clone()?;
-        let path = from_filename_with(rt, filename, dialect, &mut copy)?;
-        self.env = copy;
+        self.add_file_with(rt, filename, dialect, Mode::Keep)
+    }
+
+    /// As [`add_file`](Layers::add_file), and the mode says what becomes of a name that is there.
+    ///
+    /// ```
+    /// layers.add_file_with(&rt, Path::new("local.env"), Dialect::V15, Mode::Override)?;
+    /// ```
+    pub fn add_file_with<R: Files + Env + Alloc<A = A>>(
+        &mut self,
+        rt: &R,
+        filename: Path<'_>,
+        dialect: Dialect,
+        mode: Mode,
+    ) -> Result<PathBuf<A>, A>
+        ensures path { IfOk result (λ p. IsPathOf (path_bytes filename.entry) (path_buf_bytes p)) }
+        ensures refused { OnErr result (self.new ≡ self.old) }
+        ensures keeps { mode ≡ Mode.Keep → KeepsNames self.old.names self.new.names }
+        ensures changes { ChangesOnlyKeys self.old self.new }
+    {
+        let mut layered = self.env.try_clone()?;
+        let (path, file) = open_filename(rt, filename, dialect)?;
+        match mode {
+            Mode::Keep => file.load(&mut layered)?,
+            Mode::Override => file.load_override(&mut layered)?,
+        }
+        self.env = layered;
         Ok(path)
     }
 
