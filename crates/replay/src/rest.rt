@@ -1,5 +1,8 @@
 //! Rows of kind `rest`: a file is loaded by an iterator that is kept, call after call, to its end.
 
+ghost use Rattle.std.specs.Prelude.{◌<◌, OnErr};
+ghost use Rattle.dotenvy.specs.Iter.{items_measure};
+
 use crate::answer::push_answer;
 use crate::file::{CUTS, dialect, environment};
 use crate::row::refuse_count;
@@ -30,7 +33,9 @@ fn load_rest(
     file: &mut Iter<PlayedReader<'_>>,
     into: &mut Environment,
     replaces: bool,
-) -> dotenvy::Result<()> {
+) -> dotenvy::Result<()>
+    ensures { OnErr result (items_measure file.new < items_measure file.old) }
+{
     if replaces {
         file.load_rest_override(into)
     } else {
@@ -44,7 +49,7 @@ impl Rest<'_> {
         let mut file = Iter::with_dialect(alloc, reader, self.dialect)?;
         let mut into = environment(alloc, self.environment)?;
         let mut faults = Vec::new(alloc);
-        while let Err(error) = load_rest(&mut file, &mut into, replaces) {
+        'calls: while let Err(error) = load_rest(&mut file, &mut into, replaces) {
             let (first, last) = (file.first_line(), file.last_line());
             let text = fault(alloc, &error)?;
             faults.push(format!(in alloc; "{first}-{last} {text}")?)?;
