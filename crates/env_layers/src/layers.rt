@@ -10,9 +10,7 @@ ghost use Rattle.env_layers.specs.Layers.{AddsLayer};
 ghost use Rattle.env_layers.specs.Missing.{absent_names, lent_texts, AnswersRequire, HoldsTexts};
 
 use crate::missing::Missing;
-use dotenvy::{
-    Dialect, Environment, Result, Source, from_read, from_read_override, open_filename,
-};
+use dotenvy::{Dialect, Environment, Result, Source, from_read, from_read_override, open_filename};
 use std::alloc::{Alloc, AllocError, Allocator, Global};
 use std::env::Env;
 use std::fs::Files;
@@ -142,13 +140,13 @@ impl<A: Allocator + Clone> Layers<A> {
         ensures keeps { mode ≡ Mode.Keep → KeepsNames self.old.names self.new.names }
         ensures changes { ChangesOnlyKeys self.old self.new }
     {
-        let mut layered = self.env.try_clone()?;
+        let mut copy = self.env.try_clone()?;
         let (path, file) = open_filename(rt, filename, dialect)?;
         match mode {
-            Mode::Keep => file.load(&mut layered)?,
-            Mode::Override => file.load_override(&mut layered)?,
+            Mode::Keep => file.load(&mut copy)?,
+            Mode::Override => file.load_override(&mut copy)?,
         }
-        self.env = layered;
+        self.env = copy;
         Ok(path)
     }
 
