@@ -1,10 +1,14 @@
 -- How a run of the program ends.
-use Rattle.std.specs.Prelude.{ℕ, ◌≡◌, Result, Ok, Err}
+use Rattle.std.specs.Prelude.{ℕ, ◌≡◌, List, Result, Ok, Err}
+use Rattle.std.specs.declared.io.Error.{Error as SystemError}
+use Rattle.std.specs.declared.process.status.ExitStatus.{ExitStatus}
+use Rattle.dotenvy.specs.Environment.{Texts}
 use Rattle.dotenvy.specs.Error.{Error}
 use Rattle.dotenvy_command.specs.declared.failure.Failure.{Failure}
 use Rattle.dotenvy_command.specs.declared.failure.Failure.TheVariants.{Usage, Load, Start}
 use Rattle.dotenvy_command.specs.Answers.{SaysUsage}
 use Rattle.dotenvy_command.specs.Failures.{IsMemoryFailure}
+use Rattle.dotenvy_command.specs.Started.{IsOfStart, Made}
 use Rattle.dotenvy_command.specs.Words as words
 
 -- the run ends because the words are refused for this reason, unless an allocation failed
@@ -39,3 +43,12 @@ abbrev pub IsRunFault : {A : Type 0} → Failure A → Type 0
 IsRunFault (Usage usage) = ⊥
 IsRunFault (Load error) = Unit {0}
 IsRunFault (Start fault) = Unit {0}
+
+-- if the run comes to a start, it ends as this does: of a command of these words, in some environment
+abbrev pub RunsCommand : {A : Type 0} → (Made → Result ExitStatus SystemError → Type 0) →
+    List (List ℕ) → Result ℕ (Failure A) → Type 0
+RunsCommand ends words (Ok status) = (names : Texts) × IsOfStart ends words names (Ok status)
+RunsCommand ends words (Err (Start fault)) =
+    (names : Texts) × IsOfStart ends words names (Err fault)
+RunsCommand ends words (Err (Usage usage)) = Unit {0}
+RunsCommand ends words (Err (Load error)) = Unit {0}

@@ -4,5 +4,6 @@
 pub mod command_line;
 pub mod failure;
 pub mod laws;
+pub mod prepared;
 pub mod run;
 mod start;

@@ -4,11 +4,12 @@ ghost use Rattle.std.specs.Prelude.{◌≡◌, ◌≢◌, ◌⊎◌, [], Err, If
 ghost use Rattle.dotenvy.specs.Iter.{fresh};
 ghost use Rattle.dotenvy.specs.Listed.{Lists};
 ghost use Rattle.dotenvy_command.specs.Answers.{texts};
-ghost use Rattle.dotenvy_command.specs.Ends.{EndsAs, EndsByUsage, IsEarly, IsRunFault, IsUsage};
+ghost use Rattle.dotenvy_command.specs.Ends.{EndsAs, EndsByUsage, IsEarly, IsRunFault, IsUsage, RunsCommand};
 ghost use Rattle.dotenvy_command.specs.Words.{CommandLine as Line, Usage as Refusal, HasUsage};
 
 use crate::command_line::{CommandLine, command_line};
 use crate::failure::{Failure, Usage};
+use crate::prepared::Starter;
 use crate::start::start;
 use dotenvy::{Dialect, Environment, Sink, Source, list_with};
 use env_layers::Layers;
@@ -16,7 +17,6 @@ use std::alloc::{Alloc, Allocator};
 use std::env::Env;
 use std::fs::Files;
 use std::path::Path;
-use std::process::Processes;
 
 /// Does what the words ask for, and returns the status to end with (docs/COMMAND.md).
 ///
@@ -24,7 +24,7 @@ use std::process::Processes;
 /// `.env`, to the environment of the process, starts the command in that environment, and waits for its end.
 ///
 /// With the word `--list` and a reader of the lines `B=2`, `A=1` and `A=3` it writes the lines `A="1"` and `B="2"`.
-pub fn run<A: Allocator + Clone, R: Files + Env + Processes + Alloc<A = A>, S: Source, W: Sink>(
+pub fn run<A: Allocator + Clone, R: Files + Env + Starter + Alloc<A = A>, S: Source, W: Sink>(
     rt: &R,
     words: &[String<A>],
     reader: &mut S,
@@ -46,6 +46,10 @@ pub fn run<A: Allocator + Clone, R: Files + Env + Processes + Alloc<A = A>, S: S
     ensures command { (line : Line) → HasUsage (texts words.now) (Ok line) → line.list ≡ false
         → (IsEarly result ⊎ IfErr result IsRunFault)
         × (reader.new ≡ reader.old) × (writer.new ≡ writer.old) }
+
+    // Its status, or the error of its start, is that of the command that the words ask for.
+    ensures runs { (line : Line) → HasUsage (texts words.now) (Ok line) → line.list ≡ false
+        → RunsCommand (R.ends rt.now) line.command result }
 {
     let line = command_line(rt.alloc(), words)?;
     if line.list {
@@ -70,11 +74,12 @@ fn list<A: Allocator + Clone, S: Source, W: Sink>(
 }
 
 // Starts the command of the line in the environment of its files. The line has to have a command.
-fn run_command<A: Allocator + Clone, R: Files + Env + Processes + Alloc<A = A>>(
+fn run_command<A: Allocator + Clone, R: Files + Env + Starter + Alloc<A = A>>(
     rt: &R,
     line: &CommandLine<A>,
 ) -> Result<u8, Failure<A>>
-    ensures { line.now.command.items ≢ [] → IfErr result IsRunFault }
+    ensures fault { line.now.command.items ≢ [] → IfErr result IsRunFault }
+    ensures runs { RunsCommand (R.ends rt.now) (texts line.now.command.items) result }
 {
     let Some((program, arguments)) = line.command.split_first() else {
         return Err(Failure::Usage(Usage::MissingCommand));

@@ -3,7 +3,7 @@ use Rattle.std.proofs.lemmas.Result.{err_from_is_err_and}
 use Rattle.dotenvy.specs.Iter.{fresh}
 use Rattle.dotenvy.specs.Listed.{Lists}
 use Rattle.dotenvy_command.specs.Answers.{texts}
-use Rattle.dotenvy_command.specs.Ends.{EndsAs}
+use Rattle.dotenvy_command.specs.Ends.{EndsAs, RunsCommand}
 use Rattle.dotenvy_command.proofs.RunEnds.{asks_for, lists_both, not_refused, only_memory, says_usage}
 use Rattle.dotenvy_command.proofs.run.run.Goals as goal
 use Rattle.std.proofs.Common.{Err}
@@ -65,3 +65,14 @@ returns-clause-early g c = search rules
 
 pub returns-clause-command : goal.returns-clause-command
 returns-clause-command g c = search rules
+
+pub returns-then-line-clause-runs : goal.returns-then-line-clause-runs
+returns-then-line-clause-runs g c = λ line is unlisted.
+    absurd (lists_both (texts c.args.words.now) line c.in_ok-line.line c.in_ok-line.ensures is
+    (c.if-line.true ∙ ap not (sym unlisted)))
+
+pub returns-clause-runs : goal.returns-clause-runs
+returns-clause-runs g c = λ line is unlisted.
+    subst (λ l. RunsCommand (g.R.Starter.ends c.args.rt.now) l.command c.run_command.result)
+    (sym (asks_for (texts c.args.words.now) line c.in_ok-line.line c.in_ok-line.ensures is))
+    c.run_command.ensures.runs

@@ -2,7 +2,7 @@ use Rattle.std.proofs.Common.{◌≡◌, false, None}
 use Rattle.std.specs.Process.{clears_env, command_args, command_dir, command_program}
 use Rattle.dotenvy_command.specs.Answers.{texts}
 use Rattle.dotenvy_command.proofs.CommandNames.{SetsWithLeft}
-use Rattle.dotenvy_command.proofs.start.command_in.Given as goal
+use Rattle.dotenvy_command.proofs.prepared.Prepared.new.Given as goal
 
 -- the names so far are set, those left are not, and the rest of the command stays
 abbrev pub invariant-names : goal.invariant-names

@@ -4,7 +4,7 @@ use Rattle.std.proofs.lemmas.Iterator.{YieldsList-from_slice}
 use Rattle.std.proofs.lemmas.Iterator.Adapters.{fact_from_extend}
 use Rattle.std.specs.Process.{command_args}
 use Rattle.dotenvy_command.proofs.CommandNames.{SetsWithLeft, none_set, one_set}
-use Rattle.dotenvy_command.proofs.start.command_in.Goals as goal
+use Rattle.dotenvy_command.proofs.prepared.Prepared.new.Goals as goal
 
 pub names-init : goal.names-init
 names-init g c =
