@@ -102,23 +102,31 @@ row -f many.env sh -c 'env | grep -c "^N[0-9]*=file$"'
 # What no file system has a place for. Of words this long only what comes of them is shown.
 long=$(printf '%05000d' 0)
 
-# Names that no file can be read by. A directory and a link to nothing let the search go on, up to the root; each other
-# one ends it. The script runs as one whom a mode can keep out, and gives the modes back, so that it can run again.
+# Names that no file can be read by. A directory, a link to nothing and a FIFO let the search go on, up to the root; each
+# other one ends it. The script runs as one whom a mode can keep out, and gives the modes back, so that it can run again.
 mkdir -p folder shut
 : >locked.env
-rm -f loop.env nothing.env
+rm -f loop.env nothing.env fifo.env
 ln -s loop.env loop.env
 ln -s absent.env nothing.env
+mkfifo fifo.env
 chmod 000 locked.env shut
 row -f folder echo started
 row -f . echo started
 row -f nothing.env echo started
+row -f fifo.env echo started
 row -f locked.env echo started
 row -f shut/first.env echo started
 row -f loop.env echo started
 row -f first.env/x echo started
 row -f "$long" echo started | tail -n 2
 chmod 700 locked.env shut
+
+# A file that may be read and not written.
+echo 'X=read' >kept.env
+chmod 444 kept.env
+row -f kept.env sh -c 'echo "$X"'
+chmod 644 kept.env
 
 # Commands that can't be started: a directory, a file that is no program, a script that names no interpreter, one whose
 # interpreter is absent, any command with a variable that is too large, names that are too long, in PATH and beside.

@@ -93,7 +93,7 @@ pub fn play_run(answers: &mut Vec<Comparison>, scene: &mut Scene, fields: &[&str
     };
     let alloc = *answers.allocator();
     scene.set_up(steps)?;
-    let words = words(alloc, words_field)?;
+    let words = words(alloc, scene.placed(words_field)?.as_str())?;
     let input = reader::steps(alloc, input)?;
     let mut reader = Telling::new(alloc, PlayedReader::new(&input, Cut::Whole));
     let mut writer = Plain::new(PlayedWriter::new(alloc, writer::steps(alloc, output)?));

@@ -13,9 +13,11 @@ use std::os::unix::fs::symlink;
 use std::path::PathBuf;
 use std::{env, fs};
 use support::answers::{fault, pairs};
-use support::notation::{bytes, kind, list, text};
+use support::file::FailingRead;
+use support::notation::{bytes, list, text};
 use support::process::Start;
 use support::system::PlayedSystem;
+use support::system_fault::SystemFault;
 
 /// Where calls on files are played: a folder of their own, which is the current directory, and a system that may fail.
 #[derive(Drop)]
@@ -68,13 +70,14 @@ impl Scene {
         Ok(all)
     }
 
+    /// What is written, with the folder's path in place of `%@`.
+    pub fn placed(&self, written: &str) -> Result<String> {
+        Ok(written.replace(self.rt.alloc(), "%@", self.folder.as_str())?)
+    }
+
     /// The text that a text stands for, with the folder's path in place of `%@`.
     pub fn text(&self, written: &str) -> Result<String> {
-        let alloc = self.rt.alloc();
-        text(
-            alloc,
-            written.replace(alloc, "%@", self.folder.as_str())?.as_str(),
-        )
+        text(self.rt.alloc(), self.placed(written)?.as_str())
     }
 
     fn path(&self, written: &str) -> Result<PathBuf> {
@@ -111,9 +114,14 @@ impl Scene {
         let (name, more) = word_and_rest(rest);
         match word {
             "at" => self.system.directory = Some(self.path(name)?.into_string()),
-            "lost" => self.system.lost = Some(kind(name)?),
-            "closed" => self.system.closed = Some(kind(name)?),
-            "hidden" => self.system.hidden = Some((self.path(name)?.into_string(), kind(more)?)),
+            "lost" => self.system.lost = Some(SystemFault::read(name)?),
+            "closed" => self.system.closed = Some(SystemFault::read(name)?),
+            "sealed" => self.system.sealed = Some(SystemFault::read(name)?),
+            "broken" => self.system.broken = Some(failing_read(name, more)?),
+            "hidden" => {
+                let path = self.path(name)?.into_string();
+                self.system.hidden = Some((path, SystemFault::read(more)?));
+            }
             "mended" => self.system = PlayedSystem::new(self.rt),
             "entry" => {
                 let entry = bytes(self.rt.alloc(), rest)?;
@@ -128,14 +136,22 @@ impl Scene {
     }
 }
 
+// The read behind this many bytes, with this fault.
+fn failing_read(after: &str, fault: &str) -> Result<FailingRead> {
+    Ok(FailingRead {
+        after: after.parse()?,
+        fault: SystemFault::read(fault)?,
+    })
+}
+
 // What becomes of a command, where the step says that.
 fn start_of(word: &str, name: &str) -> Result<Option<Start>> {
     Ok(Some(match word {
         "runs" => Start::Runs,
         "exits" => Start::Ends(i32::from(name.parse::<u8>()?) * 256),
         "killed" => Start::Ends(i32::from(name.parse::<u8>()?)),
-        "fails" => Start::Fails(kind(name)?),
-        "unseen" => Start::IsLost(kind(name)?),
+        "fails" => Start::Fails(SystemFault::read(name)?),
+        "unseen" => Start::IsLost(SystemFault::read(name)?),
         _ => return Ok(None),
     }))
 }
@@ -177,6 +193,14 @@ impl Act<'_> {
         match step {
             "fresh" => self.environment = environment(self.scene.rt.alloc(), self.names)?,
             "print faults" => self.prints = true,
+            "looks" => {
+                let looks = self.scene.system.take_looks();
+                self.answers.append(&mut self.scene.all_below(&looks)?)?;
+            }
+            "openings" => {
+                let openings = self.scene.system.take_notes();
+                self.answers.append(&mut self.scene.all_below(&openings)?)?;
+            }
             _ => self.call(step)?,
         }
         Ok(())

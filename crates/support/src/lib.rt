@@ -4,11 +4,13 @@
 
 pub mod answers;
 pub mod environment;
+pub mod file;
 pub mod looks;
 pub mod notation;
 pub mod process;
 pub mod reader;
 pub mod system;
+pub mod system_fault;
 pub mod telling;
 pub mod writer;
 

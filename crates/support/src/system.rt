@@ -1,9 +1,11 @@
 //! A system that fails where a test wants it, in a current directory and with entries of the process that a test wants. It
-//! notes what is opened and started.
+//! notes at what it looks, and what is opened and started.
 
 ghost use Rattle.std.specs.Io.{WritesAtMost};
 
+use crate::file::{FailingRead, PlayedFile};
 use crate::process::{PlayedProcess, Start, described};
+use crate::system_fault::SystemFault;
 use std::alloc::{Alloc, Allocator, Global};
 use std::cell::RefCell;
 use std::env::{Env, FillError};
@@ -19,16 +21,21 @@ pub struct PlayedSystem {
     rt: HostRuntime,
     /// The current directory, if it is another one.
     pub directory: Option<String>,
-    /// The kind of the fault of asking for the current directory, if that fails.
-    pub lost: Option<ErrorKind>,
-    /// The kind of the fault of each opening, if they fail.
-    pub closed: Option<ErrorKind>,
-    /// A path at which looks fail, and the kind of their fault.
-    pub hidden: Option<(String, ErrorKind)>,
+    /// The fault of asking for the current directory, if that fails.
+    pub lost: Option<SystemFault>,
+    /// The fault of each opening, if they fail.
+    pub closed: Option<SystemFault>,
+    /// The fault of each opening that asks for more than to read, if these fail.
+    pub sealed: Option<SystemFault>,
+    /// A read of each opened file, if one is to fail.
+    pub broken: Option<FailingRead>,
+    /// A path at which looks fail, and their fault.
+    pub hidden: Option<(String, SystemFault)>,
     /// The entries of the process.
     pub entries: Vec<Vec<u8>>,
     /// What becomes of a command.
     pub start: Start,
+    looks: RefCell<Vec<String>>,
     notes: RefCell<Vec<String>>,
 }
 
@@ -40,9 +47,12 @@ impl PlayedSystem {
             directory: None,
             lost: None,
             closed: None,
+            sealed: None,
+            broken: None,
             hidden: None,
             entries: Vec::new(rt.alloc()),
             start: Start::Ends(0),
+            looks: RefCell::new(Vec::new(rt.alloc())),
             notes: RefCell::new(Vec::new(rt.alloc())),
         }
     }
@@ -50,22 +60,28 @@ impl PlayedSystem {
     /// As `new`, but no file is found, since there is no current directory.
     pub fn without_files(rt: HostRuntime) -> PlayedSystem {
         let mut system = PlayedSystem::new(rt);
-        system.lost = Some(ErrorKind::NotFound);
+        system.lost = Some(SystemFault::Kind(ErrorKind::NotFound));
         system
     }
 
+    /// The paths at which was looked since the last call.
+    pub fn take_looks(&mut self) -> Vec<String> {
+        mem::replace(self.looks.get_mut(), Vec::new(self.rt.alloc()))
+    }
+
     /// The paths that were opened since the last call, and the commands that were started, as
-    /// `start [sh][-c][exit] A=[1] P=[0]`.
+    /// `start [sh][-c][exit] A=[1] P=[0]`. Those that failed are among them.
     pub fn take_notes(&mut self) -> Vec<String> {
         mem::replace(self.notes.get_mut(), Vec::new(self.rt.alloc()))
     }
+}
 
-    fn note(&self, text: String) -> io::Result<()> {
-        let Ok(mut notes) = self.notes.try_borrow_mut() else {
-            return Err(io::Error::from(ErrorKind::Other));
-        };
-        Ok(notes.push(text)?)
-    }
+// Adds a text to those that are noted.
+fn note(notes: &RefCell<Vec<String>>, text: String) -> io::Result<()> {
+    let Ok(mut notes) = notes.try_borrow_mut() else {
+        return Err(io::Error::from(ErrorKind::Other));
+    };
+    Ok(notes.push(text)?)
 }
 
 impl Processes for PlayedSystem {
@@ -79,12 +95,13 @@ impl Processes for PlayedSystem {
         stderr: &Stdio,
     ) -> io::Result<Child<PlayedProcess>> {
         let alloc = self.rt.alloc();
-        self.note(format!(in alloc; "start {}", described(alloc, command)?)?)?;
+        let text = format!(in alloc; "start {}", described(alloc, command)?)?;
+        note(&self.notes, text)?;
         let process = match self.start {
             Start::Runs => PlayedProcess::ended(self.rt.spawn(command, stdin, stdout, stderr)?),
             Start::Ends(status) => PlayedProcess::with(status),
-            Start::Fails(kind) => return Err(io::Error::from(kind)),
-            Start::IsLost(kind) => PlayedProcess::lost(kind),
+            Start::Fails(fault) => return Err(fault.error()),
+            Start::IsLost(fault) => PlayedProcess::lost(fault),
         };
         Ok(Child::from_parts(process, None, None, None))
     }
@@ -116,7 +133,7 @@ impl Env for PlayedSystem {
 
     fn current_dir(&self, buf: &mut [u8]) -> io::Result<usize> {
         match (self.lost, &self.directory) {
-            (Some(kind), _) => Err(io::Error::from(kind)),
+            (Some(fault), _) => Err(fault.error()),
             (None, None) => self.rt.current_dir(buf),
             (None, Some(directory)) => match fill(directory.as_bytes(), buf) {
                 Ok(length) => Ok(length),
@@ -138,21 +155,25 @@ fn fill(bytes: &[u8], buf: &mut [u8]) -> Result<usize, FillError>
 }
 
 impl Files for PlayedSystem {
-    type File = File;
+    type File = PlayedFile;
 
     type Dir = File;
 
-    fn open_file(&self, how: &OpenOptions, path: &str) -> io::Result<File> {
-        self.note(String::from_str(self.rt.alloc(), path)?)?;
-        match self.closed {
-            Some(kind) => Err(io::Error::from(kind)),
-            None => self.rt.open_file(how, path),
+    fn open_file(&self, how: &OpenOptions, path: &str) -> io::Result<PlayedFile> {
+        note(&self.notes, String::from_str(self.rt.alloc(), path)?)?;
+        if let Some(fault) = self.closed {
+            return Err(fault.error());
+        }
+        match self.sealed {
+            Some(fault) if asks_for_more(how) => Err(fault.error()),
+            _ => Ok(PlayedFile::new(self.rt.open_file(how, path)?, self.broken)),
         }
     }
 
     fn metadata(&self, path: &str) -> io::Result<Metadata> {
+        note(&self.looks, String::from_str(self.rt.alloc(), path)?)?;
         match &self.hidden {
-            Some((hidden, kind)) if hidden.as_str() == path => Err(io::Error::from(*kind)),
+            Some((hidden, fault)) if hidden.as_str() == path => Err(fault.error()),
             _ => self.rt.metadata(path),
         }
     }
@@ -188,6 +209,15 @@ impl Files for PlayedSystem {
     fn remove_dir_all<B: Allocator>(&self, _alloc: B, _path: &str) -> io::Result<()> {
         unsupported()
     }
+}
+
+// Whether more is asked for than to read.
+fn asks_for_more(how: &OpenOptions) -> bool {
+    how.asks_write()
+        || how.asks_append()
+        || how.asks_truncate()
+        || how.asks_create()
+        || how.asks_create_new()
 }
 
 fn unsupported<T>() -> io::Result<T> {
