@@ -54,3 +54,19 @@ pub fn push_front(
     push_compared(answers, what, "before a refusal", wanted, got)?;
     Ok(())
 }
+
+/// Adds the states that refusals left: those that the fields stand for are wanted, in this order.
+pub fn push_states(
+    answers: &mut Vec<Comparison>,
+    what: &'static str,
+    states: &[&str],
+    met: Vec<String>,
+) -> Result<()> {
+    let alloc = *answers.allocator();
+    let mut wanted = Vec::new(alloc);
+    for state in states {
+        wanted.push(texts(alloc, state)?.join(alloc, "; ")?)?;
+    }
+    push_compared(answers, what, "left by refusals", wanted, met)?;
+    Ok(())
+}

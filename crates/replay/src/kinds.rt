@@ -3,8 +3,8 @@
 use crate::answer::push_answer;
 use crate::scene::Scene;
 use crate::{
-    command, cut, file, layers, notation, reads, refused, refused_call, rest, scene, search, used,
-    written,
+    command, cut, file, layers, notation, reads, refused, refused_call, refused_reads,
+    refused_words, rest, scene, search, used, written,
 };
 use anyhow::{Context, Result, bail};
 use comparison::{Comparison, differences};
@@ -41,7 +41,7 @@ fn play_library(
         "pair" => written::play_pair(answers, fields),
         "list" => written::play_list(answers, fields),
         "writes" => written::play_writes(answers, fields),
-        "reads" => reads::play(answers, fields),
+        "reads" => reads::play(answers, rt, fields),
         "first" => reads::play_first(answers, fields),
         "search" => search::play(answers, fields),
         "layers" => layers::play(answers, fields),
@@ -51,6 +51,8 @@ fn play_library(
         "refused_load" => refused::play_load(answers, fields),
         "refused_list" => refused::play_list(answers, fields),
         "requests" => refused::play_requests(answers, fields),
+        "refused_reads" => refused_reads::play(answers, rt, fields),
+        "refused_words" => refused_words::play(answers, fields),
         "bytes" => notation::play_bytes(answers, fields),
         "steps" => notation::play_steps(answers, fields),
         "process" => scene::play_process(answers, rt, fields),

@@ -11,14 +11,18 @@ mod file;
 mod kinds;
 mod layers;
 mod notation;
+mod reader_call;
 mod reads;
 mod refused;
 mod refused_call;
+mod refused_reads;
+mod refused_words;
 mod rest;
 mod row;
 mod scene;
 mod search;
 mod used;
+mod words;
 mod written;
 
 use anyhow::{Context, Result, bail};

@@ -1,15 +1,36 @@
-//! Rows of the kinds `reads` and `first`: which reads are made for items, for the first of them, and for a load.
+//! Rows of the kinds `reads` and `first`: which reads are made for items, for the first of them, and by each call that loads
+//! or lists a reader.
 
 use crate::answer::{is_asked, push_answer};
-use crate::file::{dialect, listing, load_or_override};
+use crate::file::dialect;
+use crate::reader_call::{FIRST_LISTINGS, FIRST_LOADS, LISTINGS, LOADS, ReaderCall};
 use crate::row::refuse_count;
-use anyhow::{Result, bail};
+use anyhow::{Context, Result, bail};
 use comparison::Comparison;
-use dotenvy::{Dialect, Environment, Iter, Source};
+use dotenvy::{Dialect, Environment, Iter, Plain, Source};
 use std::alloc::Global;
 use support::answers::{items, next_item};
 use support::reader::{Cut, PlayedReader, Step, steps};
+use support::system::PlayedSystem;
 use support::telling::{Telling, spelled};
+use support::writer;
+use support::writer::PlayedWriter;
+
+// The steps of a writer, and what the reads of a call are called that writes to it.
+type Writer = (&'static str, &'static str);
+
+// Takes all that it is given. A load writes nothing.
+const TAKING: Writer = ("", "reads of");
+
+// Fail at once, after a byte, and by a write that takes nothing.
+const FAILING: [Writer; 3] = [
+    ("fail BrokenPipe", "reads before a write that fails, of"),
+    (
+        "take 1; fail BrokenPipe",
+        "reads before a write that fails behind a byte, of",
+    ),
+    ("take 0", "reads before a write that takes nothing, of"),
+];
 
 // Sees that three items more and a load give nothing.
 fn see_no_more<S: Source + Drop>(alloc: Global, mut entries: Iter<S>) -> Result<()> {
@@ -34,23 +55,6 @@ fn of_items(alloc: Global, dialect: Dialect, steps: &[Step]) -> Result<Vec<Strin
         items(alloc, &mut entries, &Environment::new(alloc))?;
         see_no_more(alloc, entries)?;
     }
-    spelled(alloc, telling.into_calls())
-}
-
-// The reads of one of the loads.
-fn of_load(alloc: Global, dialect: Dialect, steps: &[Step], replaces: bool) -> Result<Vec<String>> {
-    let mut telling = Telling::new(alloc, PlayedReader::new(steps, Cut::Whole));
-    let mut environment = Environment::new(alloc);
-    {
-        let entries = Iter::with_dialect(alloc, &mut telling, dialect)?;
-        let _ = load_or_override(entries, &mut environment, replaces);
-    }
-    spelled(alloc, telling.into_calls())
-}
-
-fn of_listing(alloc: Global, dialect: Dialect, steps: &[Step]) -> Result<Vec<String>> {
-    let mut telling = Telling::new(alloc, PlayedReader::new(steps, Cut::Whole));
-    let _ = listing(alloc, &mut telling, dialect)?;
     spelled(alloc, telling.into_calls())
 }
 
@@ -80,9 +84,9 @@ pub fn play_first(answers: &mut Vec<Comparison>, fields: &[&str]) -> Result<()> 
 }
 
 /// Plays a row of kind `reads`.
-pub fn play(answers: &mut Vec<Comparison>, fields: &[&str]) -> Result<()> {
+pub fn play(answers: &mut Vec<Comparison>, rt: HostRuntime, fields: &[&str]) -> Result<()> {
     let alloc = *answers.allocator();
-    let [dialect_field, steps_field, items, loads] = fields else {
+    let [dialect_field, steps_field, items, calls] = fields else {
         return refuse_count(fields, 4);
     };
     let dialect = dialect(dialect_field)?;
@@ -91,21 +95,69 @@ pub fn play(answers: &mut Vec<Comparison>, fields: &[&str]) -> Result<()> {
         let got = of_items(alloc, dialect, &steps)?;
         push_answer(answers, "reads", "of items", items, got)?;
     }
-    push_loads(answers, dialect, &steps, loads)
+    if is_asked(calls) {
+        let asked = Asked {
+            rt,
+            dialect,
+            steps,
+            wanted: calls,
+        };
+        asked.push_all(answers)?;
+    }
+    Ok(())
 }
 
-// Adds the reads of both loads and of a listing, which are the same.
-fn push_loads(
-    answers: &mut Vec<Comparison>,
+// The reads that are wanted of each call.
+#[derive(Drop)]
+struct Asked<'a> {
+    rt: HostRuntime,
     dialect: Dialect,
-    steps: &[Step],
-    loads: &str,
-) -> Result<()> {
-    let alloc = *answers.allocator();
-    let got = of_load(alloc, dialect, steps, false)?;
-    push_answer(answers, "reads", "of load", loads, got)?;
-    let got = of_load(alloc, dialect, steps, true)?;
-    push_answer(answers, "reads", "of load_override", loads, got)?;
-    let got = of_listing(alloc, dialect, steps)?;
-    push_answer(answers, "reads", "of list_with", loads, got)
+    steps: Vec<Step>,
+    wanted: &'a str,
+}
+
+impl Asked<'_> {
+    // Adds the reads of each call that loads or lists. A listing is written after all reads, so a write that fails changes none.
+    fn push_all(&self, answers: &mut Vec<Comparison>) -> Result<()> {
+        self.push_of(answers, TAKING, &LOADS)?;
+        if self.dialect == Dialect::V15 {
+            self.push_of(answers, TAKING, &FIRST_LOADS)?;
+        }
+        self.push_listings(answers, TAKING)?;
+        for writer in FAILING {
+            self.push_listings(answers, writer)?;
+        }
+        Ok(())
+    }
+
+    fn push_listings(&self, answers: &mut Vec<Comparison>, writer: Writer) -> Result<()> {
+        self.push_of(answers, writer, &LISTINGS)?;
+        if self.dialect == Dialect::V15 {
+            self.push_of(answers, writer, &FIRST_LISTINGS)?;
+        }
+        Ok(())
+    }
+
+    // Adds the reads of the calls of these names.
+    fn push_of(
+        &self,
+        answers: &mut Vec<Comparison>,
+        (steps, what): Writer,
+        names: &[&'static str],
+    ) -> Result<()> {
+        for name in names {
+            let call = ReaderCall::named(name, self.dialect).context("no call")?;
+            push_answer(answers, what, name, self.wanted, self.reads(call, steps)?)?;
+        }
+        Ok(())
+    }
+
+    // The reads of a call, which writes, if it does, to a writer of these steps.
+    fn reads(&self, call: ReaderCall, writer: &str) -> Result<Vec<String>> {
+        let alloc = self.rt.alloc();
+        let mut telling = Telling::new(alloc, PlayedReader::new(&self.steps, Cut::Whole));
+        let mut writer = Plain::new(PlayedWriter::new(alloc, writer::steps(alloc, writer)?));
+        let _ = call.make(&PlayedSystem::new(self.rt), &mut telling, &mut writer);
+        spelled(alloc, telling.into_calls())
+    }
 }

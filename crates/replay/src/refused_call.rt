@@ -1,6 +1,6 @@
 //! Rows of kind `refused_call`: a call in a folder, each of its requests for memory refused in turn.
 
-use crate::answer::{push_answer, push_compared, push_front};
+use crate::answer::{push_answer, push_front, push_states};
 use crate::call::Call;
 use crate::refused::{MOST_REQUESTS, unless_refused};
 use crate::scene::{Scene, state, word_and_rest};
@@ -11,7 +11,7 @@ use std::alloc::Global;
 use support::Rationed;
 use support::answers::fault;
 use support::environment::environment_of;
-use support::notation::{pairs, texts};
+use support::notation::pairs;
 use support::system::PlayedSystem;
 
 type Ration<'r> = &'r Rationed<Global>;
@@ -120,22 +120,12 @@ impl Refused<'_> {
                 Run::Refused(state) if met.last() == Some(&state) => {}
                 Run::Refused(state) => met.push(state)?,
                 Run::Done => {
-                    return push_states(answers, states, met);
+                    return push_states(answers, "states", states, met);
                 }
             }
         }
         bail!("each run met a refusal")
     }
-}
-
-fn push_states(answers: &mut Vec<Comparison>, states: &[&str], met: Vec<String>) -> Result<()> {
-    let alloc = *answers.allocator();
-    let mut wanted = Vec::new(alloc);
-    for state in states {
-        wanted.push(texts(alloc, state)?.join(alloc, "; ")?)?;
-    }
-    push_compared(answers, "states", "left by refusals", wanted, met)?;
-    Ok(())
 }
 
 /// Plays a row, and adds its answers.

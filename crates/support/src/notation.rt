@@ -66,20 +66,67 @@ pub fn pair(alloc: Global, written: &str) -> Result<(String, String)> {
     Ok((text(alloc, name)?, text(alloc, value)?))
 }
 
+// Each kind of std's faults, and its name there.
+const KINDS: [(&str, ErrorKind); 42] = [
+    ("NotFound", ErrorKind::NotFound),
+    ("PermissionDenied", ErrorKind::PermissionDenied),
+    ("ConnectionRefused", ErrorKind::ConnectionRefused),
+    ("ConnectionReset", ErrorKind::ConnectionReset),
+    ("HostUnreachable", ErrorKind::HostUnreachable),
+    ("NetworkUnreachable", ErrorKind::NetworkUnreachable),
+    ("ConnectionAborted", ErrorKind::ConnectionAborted),
+    ("NotConnected", ErrorKind::NotConnected),
+    ("AddrInUse", ErrorKind::AddrInUse),
+    ("AddrNotAvailable", ErrorKind::AddrNotAvailable),
+    ("NetworkDown", ErrorKind::NetworkDown),
+    ("BrokenPipe", ErrorKind::BrokenPipe),
+    ("AlreadyExists", ErrorKind::AlreadyExists),
+    ("WouldBlock", ErrorKind::WouldBlock),
+    ("NotADirectory", ErrorKind::NotADirectory),
+    ("IsADirectory", ErrorKind::IsADirectory),
+    ("DirectoryNotEmpty", ErrorKind::DirectoryNotEmpty),
+    ("ReadOnlyFilesystem", ErrorKind::ReadOnlyFilesystem),
+    ("FilesystemLoop", ErrorKind::FilesystemLoop),
+    ("StaleNetworkFileHandle", ErrorKind::StaleNetworkFileHandle),
+    ("InvalidInput", ErrorKind::InvalidInput),
+    ("InvalidData", ErrorKind::InvalidData),
+    ("TimedOut", ErrorKind::TimedOut),
+    ("WriteZero", ErrorKind::WriteZero),
+    ("StorageFull", ErrorKind::StorageFull),
+    ("NotSeekable", ErrorKind::NotSeekable),
+    ("QuotaExceeded", ErrorKind::QuotaExceeded),
+    ("FileTooLarge", ErrorKind::FileTooLarge),
+    ("ResourceBusy", ErrorKind::ResourceBusy),
+    ("ExecutableFileBusy", ErrorKind::ExecutableFileBusy),
+    ("Deadlock", ErrorKind::Deadlock),
+    ("CrossesDevices", ErrorKind::CrossesDevices),
+    ("TooManyLinks", ErrorKind::TooManyLinks),
+    ("InvalidFilename", ErrorKind::InvalidFilename),
+    ("ArgumentListTooLong", ErrorKind::ArgumentListTooLong),
+    ("Interrupted", ErrorKind::Interrupted),
+    ("Unsupported", ErrorKind::Unsupported),
+    ("UnexpectedEof", ErrorKind::UnexpectedEof),
+    ("OutOfMemory", ErrorKind::OutOfMemory),
+    ("InProgress", ErrorKind::InProgress),
+    ("Other", ErrorKind::Other),
+    ("Uncategorized", ErrorKind::Uncategorized),
+];
+
 /// A kind of fault, by its name in std.
 pub fn kind(name: &str) -> Result<ErrorKind> {
-    match name {
-        "BrokenPipe" => Ok(ErrorKind::BrokenPipe),
-        "Interrupted" => Ok(ErrorKind::Interrupted),
-        "InvalidData" => Ok(ErrorKind::InvalidData),
-        "NotADirectory" => Ok(ErrorKind::NotADirectory),
-        "NotFound" => Ok(ErrorKind::NotFound),
-        "Other" => Ok(ErrorKind::Other),
-        "OutOfMemory" => Ok(ErrorKind::OutOfMemory),
-        "PermissionDenied" => Ok(ErrorKind::PermissionDenied),
-        "TimedOut" => Ok(ErrorKind::TimedOut),
-        "WouldBlock" => Ok(ErrorKind::WouldBlock),
-        _ => bail!("no kind of fault is called {name}"),
+    for (known, kind) in KINDS {
+        if known == name {
+            return Ok(kind);
+        }
+    }
+    bail!("no kind of fault is called {name}")
+}
+
+/// What a text such as `take 1 x5` says so often: here `take 1` and 5. A text without a number is said once.
+pub fn repeated<'a>(written: &'a str) -> Result<(&'a str, usize)> {
+    match written.split_once(" x") {
+        Some((once, times)) => Ok((once, times.parse()?)),
+        None => Ok((written, 1)),
     }
 }
 

@@ -1,6 +1,6 @@
 //! A reader that plays a list of steps: bytes, interruptions, faults and ends (docs/ROWS.md, "Steps").
 
-use crate::notation::{bytes, kind, list};
+use crate::notation::{bytes, kind, list, repeated};
 use anyhow::Result;
 use dotenvy::Source;
 use std::alloc::Global;
@@ -18,21 +18,34 @@ pub enum Step {
     End,
 }
 
-/// The steps of a list such as `A=1%0a; fail TimedOut; end`.
+/// The steps of a list such as `A=1%0a; fail Interrupted x3; fail TimedOut; end`.
 pub fn steps(alloc: Global, field: &str) -> Result<Vec<Step>> {
     let mut steps = Vec::new(alloc);
     for written in list(alloc, field)? {
-        steps.push(read_step(alloc, written)?)?;
+        push_steps(&mut steps, written)?;
     }
     Ok(steps)
 }
 
-fn read_step(alloc: Global, written: &str) -> Result<Step> {
+// Adds what `fail Interrupted x3`, `fail TimedOut`, `end` or bytes say.
+fn push_steps(steps: &mut Vec<Step>, written: &str) -> Result<()> {
+    let alloc = *steps.allocator();
     match (written, written.strip_prefix("fail ")) {
-        ("end", _) => Ok(Step::End),
-        (_, Some(name)) => Ok(Step::Fail(kind(name)?)),
-        _ => Ok(Step::Give(bytes(alloc, written)?)),
+        ("end", _) => steps.push(Step::End)?,
+        (_, Some(failing)) => push_failing(steps, failing)?,
+        _ => steps.push(Step::Give(bytes(alloc, written)?))?,
     }
+    Ok(())
+}
+
+// Adds reads that fail: `Interrupted x3`.
+fn push_failing(steps: &mut Vec<Step>, failing: &str) -> Result<()> {
+    let (name, times) = repeated(failing)?;
+    let kind = kind(name)?;
+    for _ in 0..times {
+        steps.push(Step::Fail(kind))?;
+    }
+    Ok(())
 }
 
 /// How the bytes of the steps are cut.

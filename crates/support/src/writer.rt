@@ -1,6 +1,6 @@
 //! A writer that plays a list of steps: short writes, interruptions and faults (docs/ROWS.md, "Steps").
 
-use crate::notation::{kind, list};
+use crate::notation::{kind, list, repeated};
 use anyhow::{Context, Result};
 use std::alloc::Global;
 use std::io::{ErrorKind, Write};
@@ -24,16 +24,19 @@ pub fn steps(alloc: Global, field: &str) -> Result<Vec<Step>> {
     Ok(steps)
 }
 
-// Adds what `take 1 x5`, `take 1` or `fail BrokenPipe` says.
+// Adds what `take 1 x5`, `take 1`, `fail Interrupted x3` or `fail BrokenPipe` says.
 fn push_steps(steps: &mut Vec<Step>, written: &str) -> Result<()> {
-    if let Some(name) = written.strip_prefix("fail ") {
-        return Ok(steps.push(Step::Fail(kind(name)?))?);
-    }
-    let numbers = written.strip_prefix("take ").context("a step of a writer")?;
-    let (most, times) = numbers.split_once(" x").unwrap_or((numbers, "1"));
-    let (most, times): (usize, usize) = (most.parse()?, times.parse()?);
+    let (once, times) = repeated(written)?;
+    let step = match once.strip_prefix("fail ") {
+        Some(name) => Step::Fail(kind(name)?),
+        None => Step::Take(
+            once.strip_prefix("take ")
+                .context("a step of a writer")?
+                .parse()?,
+        ),
+    };
     for _ in 0..times {
-        steps.push(Step::Take(most))?;
+        steps.push(step)?;
     }
     Ok(())
 }

@@ -18,6 +18,8 @@ mod first_use;
 #[cfg(test)]
 mod lines;
 #[cfg(test)]
+mod memory;
+#[cfg(test)]
 mod missing;
 #[cfg(test)]
 mod output;

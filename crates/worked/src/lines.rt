@@ -204,14 +204,23 @@ fn the_bound_on_reads(rt: HostRuntime) -> std::result::Result<(), Fail> {
     Ok(())
 }
 
-// So many bytes, one a read, as reads are allowed.
+// Three reads, of which each gives one byte or is interrupted: the lines that these bytes decide, the fault, and nothing more.
 #[test]
 fn three_reads(rt: HostRuntime) -> std::result::Result<(), Fail> {
     let alloc = rt.alloc();
-    for (bytes, wanted) in [("A=1", "<Other>"), ("A=%0a", "[A=]<Other>")] {
+    for (bytes, wanted) in [
+        ("A=1", "<Other>"),
+        ("A=%0a", "[A=]<Other>"),
+        ("A=%0aB=1%0a", "[A=]<Other>"),
+        ("fail Interrupted; A=%0a", "<Other>"),
+        ("%0a; fail Interrupted x2; A=%0a", "[]<Other>"),
+    ] {
         let steps = steps(alloc, bytes)?;
-        let all = listed_by(alloc, PlayedReader::new(&steps, Cut::ByByte), 3)?;
-        sees_text(&rt, all, wanted);
+        let reader = PlayedReader::new(&steps, Cut::ByByte);
+        sees_text(&rt, listed_by(alloc, reader, 3)?, wanted);
+        let reader = PlayedReader::new(&steps, Cut::ByByte);
+        let mut splitter = Splitter::with_limit(alloc, reader, 3)?;
+        sees_text(&rt, listed_in_place(alloc, &mut splitter)?, wanted);
     }
     Ok(())
 }
