@@ -27,6 +27,9 @@ enum Finding {
     FromFilenameOverride,
     FromFilenameWith(Dialect),
     AddFile(Dialect),
+    AddFileWith(Dialect, Mode),
+    /// The opened file is loaded.
+    OpenFilename(Dialect),
     Dotenv,
     DotenvOverride,
 }
@@ -73,6 +76,11 @@ fn form_named(name: &str) -> Option<Form> {
         "from_filename_next" => Form::Find(Finding::FromFilenameWith(Dialect::Next)),
         "add_file_v15" => Form::Find(Finding::AddFile(Dialect::V15)),
         "add_file_next" => Form::Find(Finding::AddFile(Dialect::Next)),
+        "add_file_keep" => Form::Find(Finding::AddFileWith(Dialect::V15, Mode::Keep)),
+        "add_file_override" => Form::Find(Finding::AddFileWith(Dialect::V15, Mode::Override)),
+        "add_file_override_next" => Form::Find(Finding::AddFileWith(Dialect::Next, Mode::Override)),
+        "open_filename_v15" => Form::Find(Finding::OpenFilename(Dialect::V15)),
+        "open_filename_next" => Form::Find(Finding::OpenFilename(Dialect::Next)),
         "dotenv" => Form::Find(Finding::Dotenv),
         "dotenv_override" => Form::Find(Finding::DotenvOverride),
         "from_path_iter" => Form::Open(Opening::FromPath),
@@ -174,6 +182,17 @@ impl<'a> Call<'a> {
                 let answer = layers.add_file(rt, name, dialect);
                 *environment = layers.into_environment();
                 answer
+            }
+            Finding::AddFileWith(dialect, mode) => {
+                let mut layers = taken(rt, environment);
+                let answer = layers.add_file_with(rt, name, dialect, mode);
+                *environment = layers.into_environment();
+                answer
+            }
+            Finding::OpenFilename(dialect) => {
+                let (path, mut file) = dotenvy::open_filename(rt, name, dialect)?;
+                file.load_rest(environment)?;
+                Ok(path)
             }
             Finding::Dotenv => dotenvy::dotenv(rt, environment),
             Finding::DotenvOverride => dotenvy::dotenv_override(rt, environment),
