@@ -109,6 +109,15 @@ impl Scene {
         Ok(())
     }
 
+    // Gives the process this entry, so many times.
+    fn push_entries(&mut self, count: usize, written: &str) -> Result<()> {
+        let entry = bytes(self.rt.alloc(), written)?;
+        for _ in 0..count {
+            self.system.entries.push(entry.clone()?)?;
+        }
+        Ok(())
+    }
+
     // Plays a step on the system.
     fn play_on_system(&mut self, word: &str, rest: &str) -> Result<bool> {
         let (name, more) = word_and_rest(rest);
@@ -123,10 +132,8 @@ impl Scene {
                 self.system.hidden = Some((path, SystemFault::read(more)?));
             }
             "mended" => self.system = PlayedSystem::new(self.rt),
-            "entry" => {
-                let entry = bytes(self.rt.alloc(), rest)?;
-                self.system.entries.push(entry)?;
-            }
+            "entry" => self.push_entries(1, rest)?,
+            "entries" => self.push_entries(name.parse()?, more)?,
             _ => match start_of(word, name)? {
                 Some(start) => self.system.start = start,
                 None => return Ok(false),
