@@ -33,8 +33,8 @@ fn is_done(
 ) -> Result<bool> {
     let alloc = *answers.allocator();
     let plenty = Rationed::refusing(alloc, u64::MAX);
-    let copies = copies(alloc, &plenty, words)?;
     let ration = Rationed::refusing(alloc, number);
+    let copies = copies(alloc, &plenty, words)?;
     let got = asked(alloc, command_line(&ration, &copies))?;
     if ration.has_refused() {
         push_answer(answers, "words", "at a refusal", "out of memory", got)?;
