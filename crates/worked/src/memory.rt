@@ -114,7 +114,7 @@ fn a_listing_takes_its_length(rt: HostRuntime) -> std::result::Result<(), Fail> 
         let few = in_use_of_a_listing(rt.alloc(), dialect, 100)?;
         let many = in_use_of_a_listing(rt.alloc(), dialect, 900)?;
         let of_the_value = 800 * 16;
-        assert_eq!(rt; many - few, of_the_value + of_the_value);
+        assert_eq!(rt; many.checked_sub(few), Some(of_the_value + of_the_value));
     }
     Ok(())
 }
