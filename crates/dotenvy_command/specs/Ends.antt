@@ -44,7 +44,7 @@ IsRunFault (Usage usage) = ⊥
 IsRunFault (Load error) = Unit {0}
 IsRunFault (Start fault) = Unit {0}
 
--- if the run comes to a start, it ends as this does: of a command of these words, in some environment
+-- a status, or an error of a start, is what came of the start of a command of these words, with some names set
 abbrev pub RunsCommand : {A : Type 0} → (Made → Result ExitStatus SystemError → Type 0) →
     List (List ℕ) → Result ℕ (Failure A) → Type 0
 RunsCommand ends words (Ok status) = (names : Texts) × IsOfStart ends words names (Ok status)

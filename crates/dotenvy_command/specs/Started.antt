@@ -11,8 +11,7 @@ use Rattle.std.specs.declared.process.command.Command.{Command}
 use Rattle.std.specs.declared.process.status.ExitStatus.{ExitStatus}
 use Rattle.dotenvy.specs.Environment.{Texts}
 
--- what a command says of its start: the words, that is the program and its arguments; the name that it is told is its own;
--- the directory; whether it inherits no variable; and which ones it sets or removes
+-- what a command says of its start: its words, which are program and arguments, its own name, directory and variables
 pub record Made : Type 0 where
   pub words : List (List ℕ)
   pub own_name : Option (List ℕ)
@@ -42,7 +41,7 @@ abbrev pub EndsWith : Option ℤ → ℕ → Type 0
 EndsWith (Some code) status = code ≡ pos status
 EndsWith None status = status ≡ 1
 
--- what came of the start of such a command is the result: its status, or the error; or an allocation failed
+-- the result is what came of the start of such a command: its status, or the error; or an allocation failed
 abbrev pub IsOfStart : (Made → Result ExitStatus Error → Type 0) → List (List ℕ) → Texts →
     Result ℕ Error → Type 0
 IsOfStart ends words names (Ok status) =
