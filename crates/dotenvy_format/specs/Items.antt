@@ -2,7 +2,7 @@
 use Rattle.std.specs.Prelude.{ℕ, List, [], ◌∷◌, ◌++◌, Option, Some, None, Result, Ok, Err}
 use Rattle.std.specs.Prelude.{unwrap_or, bytes_eq, if◌then◌else◌}
 use Rattle.std.specs.Option.{option_or}
-use Rattle.dotenvy_format.specs.Value.{Piece, Text, Name}
+use Rattle.dotenvy_format.specs.Value.{Piece, Text, Name, LastBackslash}
 use Rattle.dotenvy_format.specs.Entries.{Failure, Entry, Declares, Fails}
 
 -- what names stand for: the text of each name that has one
@@ -17,11 +17,13 @@ no_values name = None
 abbrev pub text_of : LookUp → List ℕ → List ℕ
 text_of look_up name = unwrap_or (look_up name) []
 
--- the pieces joined, with each name replaced by what it stands for
+-- the pieces joined, with each name replaced by what it stands for, and no last backslash
 abbrev pub meaning : LookUp → List Piece → List ℕ
 meaning look_up [] = []
 meaning look_up (Text text ∷ pieces) = text ++ meaning look_up pieces
-meaning look_up (Name name ∷ pieces) = text_of look_up name ++ meaning look_up pieces
+meaning look_up (Name name after ∷ pieces) =
+    text_of look_up name ++ (after ++ meaning look_up pieces)
+meaning look_up (LastBackslash ∷ pieces) = meaning look_up pieces
 
 -- the look-up in a list of pairs, where the first pair with a key counts
 abbrev pub first_value : List (List ℕ × List ℕ) → LookUp

@@ -7,7 +7,7 @@ use Rattle.dotenvy_format.specs.declared.dialect.Dialect.{Dialect}
 use Rattle.dotenvy_format.specs.PhysicalLines.{AreCut, line_texts}
 use Rattle.dotenvy_format.specs.LogicalLine.{Logical, IsNext}
 use Rattle.dotenvy_format.specs.Statement.{IsStatement}
-use Rattle.dotenvy_format.specs.Value.{Piece, Text, Name, IsValue}
+use Rattle.dotenvy_format.specs.Value.{Piece, Text, Name, LastBackslash, IsValue}
 use Rattle.dotenvy_format.specs.Places.{BeginsStatement, BeginsValue, IsPlace}
 use Rattle.dotenvy_format.specs.Outcome.{Outcome, Says}
 use Rattle.dotenvy_format.specs.Entries.{Entry, Declares, Fails, HasEntries}
@@ -129,7 +129,8 @@ OverridesDeclared =
 abbrev pub AgreeOn : LookUp → LookUp → List Piece → Type 0
 AgreeOn env other [] = Unit {0}
 AgreeOn env other (Text text ∷ pieces) = AgreeOn env other pieces
-AgreeOn env other (Name name ∷ pieces) = (env name ≡ other name) × AgreeOn env other pieces
+AgreeOn env other (Name name after ∷ pieces) = (env name ≡ other name) × AgreeOn env other pieces
+AgreeOn env other (LastBackslash ∷ pieces) = AgreeOn env other pieces
 
 -- two environments have the same value for each name in these entries
 abbrev pub AgreeIn : LookUp → LookUp → List Entry → Type 0

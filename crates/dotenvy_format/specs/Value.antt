@@ -9,10 +9,11 @@ use Rattle.dotenvy_format.specs.Characters.{begins_passing, line_feed, letter_n,
 use Rattle.dotenvy_format.specs.Characters.{single_quote, double_quote, dollar, backslash}
 use Rattle.dotenvy_format.specs.Characters.{left_brace, right_brace}
 
--- a piece of what a value means: a text, or a name, which is replaced by what it stands for
+-- a piece of what a value means: a text; a name, replaced by what it stands for, with the character that ends it, if it has one; or a last backslash, which means nothing
 pub data Piece : Type 0 where
   Text : List ℕ → Piece
-  Name : List ℕ → Piece
+  Name : List ℕ → List ℕ → Piece
+  LastBackslash : Piece
 
 -- a part: a character; a backslash and a character; `${name}`; `$name` and the character that ends it; or `$name` alone
 pub data Part : Type 0 where
@@ -77,9 +78,9 @@ escape_meaning c = if c == letter_n then line_feed else c
 abbrev pub part_pieces : Part → List Piece
 part_pieces (plain c) = Text (c ∷ []) ∷ []
 part_pieces (escape c) = Text (escape_meaning c ∷ []) ∷ []
-part_pieces (braced name) = Name name ∷ []
-part_pieces (bare name c) = Name name ∷ Text (c ∷ []) ∷ []
-part_pieces (bare_before name) = Name name ∷ []
+part_pieces (braced name) = Name name [] ∷ []
+part_pieces (bare name c) = Name name (c ∷ []) ∷ []
+part_pieces (bare_before name) = Name name [] ∷ []
 
 -- the pieces that a segment means
 abbrev pub segment_pieces : Segment → List Piece
@@ -87,11 +88,11 @@ segment_pieces (unquoted_part p) = part_pieces p
 segment_pieces (single inner) = Text inner ∷ []
 segment_pieces (double inner) = flat_map part_pieces inner
 
--- the pieces that the end of a value means: a name, or nothing
+-- the pieces that the end of a value means: a last backslash, a name, or nothing
 abbrev pub close_pieces : Close → List Piece
 close_pieces nothing = []
-close_pieces lone_backslash = []
-close_pieces (bare_name name) = Name name ∷ []
+close_pieces lone_backslash = LastBackslash ∷ []
+close_pieces (bare_name name) = Name name [] ∷ []
 close_pieces (tail blank blanks comment) = []
 
 -- a character that means itself inside double quotes

@@ -3,7 +3,7 @@ use Prim.Native.String.{String}
 use Rattle.std.specs.Prelude.{◌≡◌, ℕ, List, [], ◌∷◌, ◌++◌, codes, encode_utf8_all}
 use Rattle.std.specs.declared.io.ErrorKind.TheVariants.{InvalidData}
 use Rattle.dotenvy_format.specs.declared.dialect.Dialect.TheVariants.{V15, Next}
-use Rattle.dotenvy_format.specs.Value.{Piece, Text, Name}
+use Rattle.dotenvy_format.specs.Value.{Piece, Text, Name, LastBackslash}
 use Rattle.dotenvy_format.specs.Outcome.{Says, Pair, Fault}
 use Rattle.dotenvy_format.specs.Entries.{Entry, Declares, Fails, LineParse, Io, HasEntries}
 use Rattle.dotenvy_format.specs.Marks.{without_mark}
@@ -24,7 +24,11 @@ text_piece characters = Text (codes characters)
 
 -- a piece that means what this name stands for
 abbrev pub name_of : String → Piece
-name_of name = Name (codes name)
+name_of name = Name (codes name) []
+
+-- a piece that means what this name stands for, and then these characters
+abbrev pub name_before : String → String → Piece
+name_before name after = Name (codes name) (codes after)
 
 -- a declaration of a key
 abbrev pub declares : String → List Piece → Entry
@@ -71,10 +75,10 @@ HaveLines =
     (broken_line ∷ declares "B" (text_piece "2" ∷ []) ∷ [])
     -- a backslash before a line feed does not join lines: it is left at the end of the value, where it means nothing
     × HasEntries V15 (file "K=a\\\nL=1\n")
-    (declares "K" (text_piece "a" ∷ []) ∷ declares "L" (text_piece "1" ∷ []) ∷ [])
-    × HasEntries V15 (file "K=a\\ \n") (declares "K" (text_piece "a" ∷ []) ∷ [])
+    (declares "K" (text_piece "a" ∷ LastBackslash ∷ []) ∷ declares "L" (text_piece "1" ∷ []) ∷ [])
+    × HasEntries V15 (file "K=a\\ \n") (declares "K" (text_piece "a" ∷ LastBackslash ∷ []) ∷ [])
     × HasEntries V15 (file "K=a\\\r\nL=1\n")
-    (declares "K" (text_piece "a" ∷ []) ∷ declares "L" (text_piece "1" ∷ []) ∷ [])
+    (declares "K" (text_piece "a" ∷ LastBackslash ∷ []) ∷ declares "L" (text_piece "1" ∷ []) ∷ [])
     -- a backslash takes the quote after it, even in single quotes
     × HasEntries V15 (file "K='a\\'\nB=2\n") (fault_in "K='a\\'\nB=2\n" 11 ∷ [])
     -- an open end is one fault, from its first line to the end of the input
@@ -121,8 +125,8 @@ HaveValues =
     (declares "A" (name_of "" ∷ [])
     ∷ declares "B" (name_of "" ∷ text_piece "x" ∷ [])
     ∷ declares "C" (name_of "" ∷ name_of "x" ∷ [])
-    ∷ declares "D" (text_piece "a" ∷ name_of "" ∷ text_piece "-" ∷ text_piece "b" ∷ [])
-    ∷ declares "E" (name_of "A" ∷ text_piece " " ∷ text_piece "b" ∷ [])
+    ∷ declares "D" (text_piece "a" ∷ name_before "" "-" ∷ text_piece "b" ∷ [])
+    ∷ declares "E" (name_before "A" " " ∷ text_piece "b" ∷ [])
     ∷ fault_in "${A" 2
     ∷ [])
 
@@ -135,7 +139,7 @@ HaveOpenQuotes =
     × Says V15 (codes "KEY=é'é") (Fault (codes "é'é") 4)
     × Says V15 (codes "KEY=\"é\\") (Fault (codes "\"é\\") 3)
     -- outside quotes a quote after a bare name is text; in double quotes it closes them
-    × Says Next (codes "F=$A\"") (Pair (codes "F") (name_of "A" ∷ text_piece "\"" ∷ []))
+    × Says Next (codes "F=$A\"") (Pair (codes "F") (name_before "A" "\"" ∷ []))
     × Says Next (codes "E=\"$\"x") (Pair (codes "E") (name_of "" ∷ text_piece "x" ∷ []))
 
 -- one file under each dialect
@@ -151,8 +155,8 @@ HaveDialects =
     × HasEntries Next (file "K=$A\"\n") (fault_in "K=$A\"\n" 6 ∷ [])
     -- a bare name may hold `_`
     × HasEntries V15 (file "K=$A_B-\n")
-    (declares "K" (name_of "A" ∷ text_piece "_" ∷ text_piece "B" ∷ text_piece "-" ∷ []) ∷ [])
-    × HasEntries Next (file "K=$A_B-\n") (declares "K" (name_of "A_B" ∷ text_piece "-" ∷ []) ∷ [])
+    (declares "K" (name_before "A" "_" ∷ text_piece "B" ∷ text_piece "-" ∷ []) ∷ [])
+    × HasEntries Next (file "K=$A_B-\n") (declares "K" (name_before "A_B" "-" ∷ []) ∷ [])
 
 -- byte order marks
 abbrev pub HaveMarks : Type 0

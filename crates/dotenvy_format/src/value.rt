@@ -19,6 +19,8 @@ pub enum Piece<'a> {
     Text(&'a str),
     /// What the name stands for, and then the text `after`, which is one character or empty.
     Name { name: &'a str, after: &'a str },
+    /// Nothing: a backslash at the end of the value.
+    LastBackslash,
 }
 
 /// A piece, and where the value goes on.
@@ -107,14 +109,28 @@ fn escaped(c: char) -> Option<&'static str>
 #[inline(always)]
 fn at_end(text: &str, quoting: Quoting) -> NextPiece<'_>
     requires { text.now ≡ [] }
-    ensures after_part { (dialect : _) →
+    ensures next { (dialect : _) →
         NextPieceIs dialect (base (quoting_of quoting)) (chars text.now) result }
     ensures shorter { IsShorter (chars text.now) result }
-    ensures after_backslash { (dialect : _) →
-        NextPieceIs dialect (escaping (quoting_of quoting)) (chars text.now) result }
 {
     match quoting {
         Quoting::Unquoted => NextPiece::End,
+        Quoting::DoubleQuoted => NextPiece::Unfinished,
+    }
+}
+
+// Nothing is left after a backslash. Outside double quotes the value may end so.
+fn last_backslash(text: &str, quoting: Quoting) -> NextPiece<'_>
+    requires { text.now ≡ [] }
+    ensures { (dialect : _) →
+        NextPieceIs dialect (escaping (quoting_of quoting)) (chars text.now) result }
+{
+    match quoting {
+        Quoting::Unquoted => NextPiece::Piece(Given {
+            piece: Piece::LastBackslash,
+            rest: text,
+            quoting,
+        }),
         Quoting::DoubleQuoted => NextPiece::Unfinished,
     }
 }
@@ -126,7 +142,7 @@ fn escape_one(left: &str, quoting: Quoting) -> NextPiece<'_>
         NextPieceIs dialect (escaping (quoting_of quoting)) (chars left.now) result }
 {
     match split_first(left) {
-        None => at_end(left, quoting),
+        None => last_backslash(left, quoting),
         Some((first, rest)) => match escaped(first) {
             Some(meant) => NextPiece::Piece(Given {
                 piece: Piece::Text(meant),

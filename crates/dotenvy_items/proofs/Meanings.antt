@@ -10,7 +10,7 @@ use Rattle.std.proofs.lemmas.List.{append-nil}
 use Rattle.std.proofs.lemmas.Str.{encodes-chars, encodes-append}
 use Rattle.dotenvy_format.specs.declared.dialect.Dialect.{Dialect}
 use Rattle.dotenvy_format.specs.Characters.{byte_len}
-use Rattle.dotenvy_format.specs.Value.{unquoted, Piece, Text, Name}
+use Rattle.dotenvy_format.specs.Value.{unquoted, Piece, Text, Name, LastBackslash}
 use Rattle.dotenvy_format.specs.Items.{LookUp, meaning}
 use Rattle.dotenvy_base.specs.Environment.{Texts}
 use Rattle.dotenvy_items.specs.Remembered.{Remembered, recalled}
@@ -26,9 +26,11 @@ pub meaning-append : (look_up : LookUp) (p q : List Piece) →
 meaning-append look_up [] q = refl
 meaning-append look_up (Text text ∷ p) q =
     ap (λ t. text ++ t) (meaning-append look_up p q) ∙ sym (append_assoc text (meaning look_up p) (meaning look_up q))
-meaning-append look_up (Name name ∷ p) q =
-    ap (λ t. unwrap_or (look_up name) [] ++ t) (meaning-append look_up p q)
-    ∙ sym (append_assoc (unwrap_or (look_up name) []) (meaning look_up p) (meaning look_up q))
+meaning-append look_up (Name name after ∷ p) q =
+    ap (λ t. unwrap_or (look_up name) [] ++ t) (ap (λ t. after ++ t) (meaning-append look_up p q)
+    ∙ sym (append_assoc after (meaning look_up p) (meaning look_up q)))
+    ∙ sym (append_assoc (unwrap_or (look_up name) []) (after ++ meaning look_up p) (meaning look_up q))
+meaning-append look_up (LastBackslash ∷ p) q = meaning-append look_up p q
 
 -- the text that is found by bytes is the one that is found by characters
 pub looked_up : (names : Texts) (remembered : Remembered) (name text : List ℕ) → IsUtf8 name → IsUtf8 text →

@@ -42,6 +42,7 @@ impl<'a, A: Allocator> Names<'a, A> {
         match piece {
             Piece::Text(text) => text.len(),
             Piece::Name { name, after } => self.look_up(name).len().saturating_add(after.len()),
+            Piece::LastBackslash => 0,
         }
     }
 
@@ -85,6 +86,7 @@ impl<'a, A: Allocator> Names<'a, A> {
                 text.push_str(self.look_up(name)).unwrap();
                 text.push_str(after).unwrap();
             }
+            Piece::LastBackslash => {}
         }
     }
 

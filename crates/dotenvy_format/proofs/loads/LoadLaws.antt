@@ -4,7 +4,7 @@ use Rattle.std.proofs.Common.{Some, None, Err, refl, sym, ◌∙◌, ap}
 use Rattle.std.specs.Prelude.{is_none, bytes_eq, if◌then◌else◌}
 use Rattle.std.specs.Option.{option_or}
 use Rattle.std.specs.Cmp.Lexicographic.{same_text}
-use Rattle.dotenvy_format.specs.Value.{Piece, Text, Name}
+use Rattle.dotenvy_format.specs.Value.{Piece, Text, Name, LastBackslash}
 use Rattle.dotenvy_format.specs.Entries.{Entry, Declares, Fails, Nul}
 use Rattle.dotenvy_format.specs.Items.{LookUp, meaning, or_else, first_value, with_value}
 use Rattle.dotenvy_format.specs.Run.{Loaded, Keep, Replace, after_declaration, run, has_nul}
@@ -17,7 +17,8 @@ pub meaning-same : (l k : LookUp) (pieces : List Piece) → ((n : List ℕ) → 
     meaning l pieces ≡ meaning k pieces
 meaning-same l k [] same = refl
 meaning-same l k (Text text ∷ pieces) same = ap (λ rest. text ++ rest) (meaning-same l k pieces same)
-meaning-same l k (Name name ∷ pieces) same = rw (same name, meaning-same l k pieces same) refl
+meaning-same l k (Name name after ∷ pieces) same = rw (same name, meaning-same l k pieces same) refl
+meaning-same l k (LastBackslash ∷ pieces) same = meaning-same l k pieces same
 
 -- the first value of a name in two lists of pairs is that in the first, else that in the second
 first_value-append : (xs ys : List (List ℕ × List ℕ)) (n : List ℕ) →

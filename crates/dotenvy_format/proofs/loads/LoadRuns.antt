@@ -4,7 +4,7 @@ use Rattle.std.proofs.Common.{Some, None, Ok, Err, refl, sym, ◌∙◌, ap}
 use Rattle.std.specs.Prelude.{bytes_eq, unwrap_or, is_none, if◌then◌else◌}
 use Rattle.std.specs.Option.{option_or}
 use Rattle.std.specs.Cmp.Lexicographic.{same_text}
-use Rattle.dotenvy_format.specs.Value.{Piece, Text, Name}
+use Rattle.dotenvy_format.specs.Value.{Piece, Text, Name, LastBackslash}
 use Rattle.dotenvy_format.specs.Outcome.{Outcome, Nothing, Pair, Fault}
 use Rattle.dotenvy_format.specs.Entries.{Failure, Entry, Declares, Fails, Nul, outcome_entries}
 use Rattle.dotenvy_format.specs.Items.{LookUp, meaning, or_else, with_value, text_of}
@@ -16,7 +16,8 @@ pub meaning-text : (l k : LookUp) (pieces : List Piece) → ((n : List ℕ) → 
     meaning l pieces ≡ meaning k pieces
 meaning-text l k [] same = refl
 meaning-text l k (Text text ∷ pieces) same = ap (λ rest. text ++ rest) (meaning-text l k pieces same)
-meaning-text l k (Name name ∷ pieces) same = rw (same name, meaning-text l k pieces same) refl
+meaning-text l k (Name name after ∷ pieces) same = rw (same name, meaning-text l k pieces same) refl
+meaning-text l k (LastBackslash ∷ pieces) same = meaning-text l k pieces same
 
 -- the second of two look-ups counts where the first lacks a name, and there an absent name counts as the empty text
 pub or_else-text : (x y a b : Option (List ℕ)) → x ≡ y → (is_none x ≡ true → unwrap_or a [] ≡ unwrap_or b []) →

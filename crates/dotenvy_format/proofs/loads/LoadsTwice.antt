@@ -5,7 +5,7 @@ use Rattle.std.specs.Prelude.{◌⊎◌, is_none, bytes_eq, if◌then◌else◌}
 use Rattle.std.specs.Option.{option_or}
 use Rattle.std.specs.Cmp.Lexicographic.{same_text}
 use Rattle.std.proofs.lemmas.Slice.Eq.{bytes_eq-Decides}
-use Rattle.dotenvy_format.specs.Value.{Piece, Text, Name}
+use Rattle.dotenvy_format.specs.Value.{Piece, Text, Name, LastBackslash}
 use Rattle.dotenvy_format.specs.Entries.{Failure, Entry, Declares, Fails, Nul}
 use Rattle.dotenvy_format.specs.Items.{LookUp, no_values, meaning, or_else, with_value, items_from, items}
 use Rattle.dotenvy_format.specs.Run.{Loaded, Keep, Replace, after_declaration, run, has_nul}
@@ -241,7 +241,9 @@ meaning-agree : (a b earlier : LookUp) (pieces : List Piece) → AgreeOn a b pie
 meaning-agree a b earlier [] agree = refl
 meaning-agree a b earlier (Text text ∷ pieces) agree =
     ap (λ rest. text ++ rest) (meaning-agree a b earlier pieces agree)
-meaning-agree a b earlier (Name name ∷ pieces) agree = rw (agree.0, meaning-agree a b earlier pieces agree.1) refl
+meaning-agree a b earlier (Name name after ∷ pieces) agree =
+    rw (agree.0, meaning-agree a b earlier pieces agree.1) refl
+meaning-agree a b earlier (LastBackslash ∷ pieces) agree = meaning-agree a b earlier pieces agree
 
 -- after the same earlier values, environments that agree on the names in entries give the same items
 items_from-agree : (a b earlier : LookUp) (entries : List Entry) → AgreeIn a b entries →

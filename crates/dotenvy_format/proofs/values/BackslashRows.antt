@@ -20,7 +20,7 @@ use Rattle.dotenvy_format.specs.inside.Slices.{quoting_of}
 use Rattle.dotenvy_format.specs.Value.{Quoting, unquoted, double_quoted, Piece, Text}
 use Rattle.dotenvy_format.specs.Items.{LookUp, meaning}
 use Rattle.dotenvy_format.specs.inside.ReadValue.{base, escaping, value_goes}
-use Rattle.dotenvy_format.specs.inside.NextPiece.{IsReadTo, GivesPiece}
+use Rattle.dotenvy_format.specs.inside.NextPiece.{IsReadTo, GivesPiece, without_texts}
 use Rattle.dotenvy_format.proofs.Basics.{and_left, and_right, same_from}
 use Rattle.dotenvy_format.proofs.values.NextPiece.{one, read_further}
 
@@ -115,6 +115,12 @@ row_read dialect q (suc half) (c ∷ d ∷ row) cs h len =
     (row_read dialect q half row cs (and_right (is_backslash d) (list_all is_backslash row) later)
     (omega (arith, len))))
 
+-- pieces that are each a backslash are all texts
+without_texts-texts : (n : ℕ) → without_texts (texts n) ≡ []
+unfolding texts
+without_texts-texts zero = refl
+without_texts-texts (suc n) = without_texts-texts n
+
 -- as many texts of one backslash as a row has mean that row
 texts_mean : (look_up : LookUp) (row : List ℕ) (n : ℕ) → list_all is_backslash row ≡ true → length row ≡ n
     → row ≡ meaning look_up (texts n)
@@ -153,6 +159,7 @@ gives_backslashes dialect q text half meant rest utf8 most m r =
           (chars rest.now)) (sym spelled)
           (row_read dialect (quoting_of q) half (take n text) (chars rest.now) row_all row_len);
       follows = subst IsUtf8 (sym r) (IsUtf8-drop text n utf8 boundary);
+      names = without_texts-texts (suc half);
       means = λ look_up. m ∙ sym (encoded (take (half + 1) text) meant_all)
           ∙ ap encode_utf8_all (texts_mean look_up (take (half + 1) text) (suc half) meant_all
           (meant_len ∙ omega arith));

@@ -5,11 +5,12 @@ use Rattle.std.proofs.Common.{subst, arith, length, length-append, append_assoc}
 use Rattle.std.specs.Prelude.{◌==◌, if◌then◌else◌}
 use Rattle.std.specs.List.{list_all}
 use denote.Ref.{Bor}
-use Rattle.std.proofs.Math.Utf8.{encode}
+use Rattle.std.proofs.Math.Utf8.{encode, scalar, scalars}
 use Rattle.std.specs.Char.{encode_utf8}
 use Rattle.std.specs.Str.{chars, encode_utf8_all, IsUtf8}
 use Rattle.std.proofs.lemmas.List.{append-nil}
-use Rattle.std.proofs.lemmas.Str.{encodes-chars, encodes-append}
+use Rattle.std.proofs.lemmas.Bool.{and_from}
+use Rattle.std.proofs.lemmas.Str.{chars-encodes, scalars-chars, encodes-chars, encodes-append}
 use Rattle.dotenvy_format.specs.declared.dialect.Dialect.{Dialect}
 use Rattle.dotenvy_format.specs.declared.text.Quoting.{Quoting as CodeQuoting}
 use Rattle.dotenvy_format.specs.declared.text.Quoting.TheVariants.{Unquoted, DoubleQuoted}
@@ -18,6 +19,7 @@ use Rattle.dotenvy_format.specs.declared.value.Kind.TheVariants.{Backslash, Sing
 use Rattle.dotenvy_format.specs.declared.value.Kind.TheVariants.{DoubleQuote, Dollar, SpaceOrTab}
 use Rattle.dotenvy_format.specs.declared.value.Kind.TheVariants.{Plain}
 use Rattle.dotenvy_format.specs.declared.value.Piece.TheVariants.{Text as CodeText, Name as CodeName}
+use Rattle.dotenvy_format.specs.declared.value.Piece.TheVariants.{LastBackslash as CodeBackslash}
 use Rattle.dotenvy_format.specs.declared.value.NextPiece.{NextPiece}
 use Rattle.dotenvy_format.specs.declared.value.NextPiece.TheVariants.{Piece as GivesNext, End, Unfinished, Fault}
 use Rattle.dotenvy_format.specs.Characters.{single_quote, double_quote, dollar, backslash}
@@ -25,7 +27,7 @@ use Rattle.dotenvy_format.specs.Characters.{left_brace, right_brace, hash, is_sp
 use Rattle.dotenvy_format.specs.Characters.{is_name_character, is_empty_or_comment, begins_with}
 use Rattle.dotenvy_format.specs.Characters.{begins_passing}
 use Rattle.dotenvy_format.specs.inside.Slices.{quoting_of, IsSpan}
-use Rattle.dotenvy_format.specs.Value.{Quoting, unquoted, double_quoted, Piece, Text, Name}
+use Rattle.dotenvy_format.specs.Value.{Quoting, unquoted, double_quoted, Piece, Text, Name, LastBackslash}
 use Rattle.dotenvy_format.specs.Value.{is_plain, is_escape, is_left_by_name, escape_meaning}
 use Rattle.dotenvy_format.specs.Items.{LookUp, meaning, text_of}
 use Rattle.dotenvy_format.specs.inside.ReadValue.{ValueMode, base, escaping, in_single, naming}
@@ -34,7 +36,7 @@ use Rattle.dotenvy_format.specs.inside.ReadValue.{read_value, goes_outside, goes
 use Rattle.dotenvy_format.specs.inside.ReadValue.{with_pieces, ValueStep, value_goes}
 use Rattle.dotenvy_format.specs.inside.ReadValue.{value_reach_after, value_reach}
 use Rattle.dotenvy_format.specs.inside.NextPiece.{other_quoting, is_empty, kind_of, IsReadTo}
-use Rattle.dotenvy_format.specs.inside.NextPiece.{GivesPiece, StopsAt, NextPieceIs, IsShorter}
+use Rattle.dotenvy_format.specs.inside.NextPiece.{GivesPiece, StopsAt, NextPieceIs, IsShorter, without_texts}
 use Rattle.dotenvy_format.proofs.Basics.{and_left, and_right, not_is, when_true, when_false, same_from}
 use Rattle.dotenvy_format.proofs.values.Values.{given-given, given-nil, stepped, plain_goes}
 use Rattle.dotenvy_format.proofs.values.Values.{comment_read, before_left, brace_not_left}
@@ -98,6 +100,7 @@ next_after dialect m n text left (GivesNext next) a h =
           h.is_read;
       follows = h.follows;
       means = h.means;
+      names = h.names;
     }
 next_after dialect m n text left Unfinished a h = stop_after dialect m n text left [] [] a h
 next_after dialect m n text left (Fault rest) a h = stop_after dialect m n text left (chars rest.now) [] a h
@@ -215,6 +218,7 @@ gives_single dialect text front rest cut = record {
       (sym cut.spelled) (single_read dialect (chars front.now) (chars rest.now) cut.none_before);
   follows = cut.rest_utf8;
   means = λ look_up. text_bytes look_up front.now cut.front_utf8;
+  names = refl;
 }
 
 -- A braced name, and one that lacks its end.
@@ -226,12 +230,12 @@ collects_braced dialect q held c h = when_false _ _ (c == right_brace) (not_is (
 -- in braces, a text without `}` and then the brace are read as a name, and end the braces
 braced_read : (dialect : Dialect) (q : Quoting) (name rest : List ℕ) →
     list_all (λ c. not (c == right_brace)) name ≡ true →
-    IsReadTo dialect (bracing q []) (name ++ right_brace ∷ rest) (Name name ∷ []) (base q) rest
+    IsReadTo dialect (bracing q []) (name ++ right_brace ∷ rest) (Name name [] ∷ []) (base q) rest
 braced_read dialect q name rest h =
     read_further dialect (bracing q []) (bracing q name) (base q) (name ++ right_brace ∷ rest) (right_brace ∷ rest) rest
-    [] (Name name ∷ [])
+    [] (Name name [] ∷ [])
     (collected_run dialect (bracing q) (λ c. not (c == right_brace)) (collects_braced dialect q) [] name
-    (right_brace ∷ rest) h) (one dialect (bracing q name) (base q) right_brace rest (Name name ∷ []) refl)
+    (right_brace ∷ rest) h) (one dialect (bracing q name) (base q) right_brace rest (Name name [] ∷ []) refl)
 
 -- in braces, a text without `}` is a fault at its end
 pub braced_open : (dialect : Dialect) (q : Quoting) (name : List ℕ) →
@@ -244,7 +248,7 @@ braced_open dialect q name h =
 
 -- the bytes of what a name stands for, with none after them, are those of the name's meaning
 name_bytes : (look_up : LookUp) (name follows : List ℕ) → follows ≡ [] →
-    encode_utf8_all (text_of look_up name) ++ follows ≡ encode_utf8_all (meaning look_up (Name name ∷ []))
+    encode_utf8_all (text_of look_up name) ++ follows ≡ encode_utf8_all (meaning look_up (Name name [] ∷ []))
 name_bytes look_up name follows h =
     ap (λ t. encode_utf8_all (text_of look_up name) ++ t) h
     ∙ append-nil (encode_utf8_all (text_of look_up name))
@@ -253,10 +257,15 @@ name_bytes look_up name follows h =
 -- what a name stands for, then the bytes of a character, is the meaning of the name and of that character
 name_and_bytes : (look_up : LookUp) (name follows : List ℕ) (c : ℕ) → follows ≡ encode_utf8 c →
     encode_utf8_all (text_of look_up name) ++ follows
-    ≡ encode_utf8_all (meaning look_up (Name name ∷ Text (c ∷ []) ∷ []))
+    ≡ encode_utf8_all (meaning look_up (Name name (c ∷ []) ∷ []))
 name_and_bytes look_up name follows c h =
     ap (λ t. encode_utf8_all (text_of look_up name) ++ t) (h ∙ sym (append-nil (encode_utf8 c)))
     ∙ sym (encodes-append (text_of look_up name) (c ∷ []))
+
+-- a name with the text after it, which has these characters, is the piece that the code returns
+named : (name follows : Bor (List ℕ)) (after : List ℕ) → chars follows.now ≡ after →
+    without_texts (Name (chars name.now) after ∷ []) ≡ Name (chars name.now) (chars follows.now) ∷ []
+named name follows after h = ap (λ cs. Name (chars name.now) cs ∷ []) (sym h)
 
 -- in braces, a text cut at the first `}` gives the name before it, and goes on after the brace
 pub gives_braced : (dialect : Dialect) (q : CodeQuoting) (text : List ℕ) (name follows rest : Bor (List ℕ)) →
@@ -264,15 +273,16 @@ pub gives_braced : (dialect : Dialect) (q : CodeQuoting) (text : List ℕ) (name
     GivesPiece dialect (bracing (quoting_of q) []) (chars text)
     (record { piece = CodeName name follows; rest = rest; quoting = q })
 gives_braced dialect q text name follows rest cut none = record {
-  pieces = Name (chars name.now) ∷ [];
+  pieces = Name (chars name.now) [] ∷ [];
   is_read =
       subst
       (λ t.
-      IsReadTo dialect (bracing (quoting_of q) []) t (Name (chars name.now) ∷ []) (base (quoting_of q))
+      IsReadTo dialect (bracing (quoting_of q) []) t (Name (chars name.now) [] ∷ []) (base (quoting_of q))
       (chars rest.now)) (sym cut.spelled)
       (braced_read dialect (quoting_of q) (chars name.now) (chars rest.now) cut.none_before);
   follows = cut.rest_utf8;
   means = λ look_up. name_bytes look_up (chars name.now) follows.now none;
+  names = named name follows [] (no_characters follows.now none);
 }
 
 -- after a backslash, an escape gives what it means, and a part may begin after it
@@ -291,6 +301,7 @@ gives_escape dialect q text c meant rest u e h m = record {
       (chars rest.now) (Text (escape_meaning c ∷ []) ∷ []) (when_true _ _ (is_escape c) h));
   follows = u;
   means = λ look_up. m;
+  names = refl;
 }
 
 -- after a backslash, a character that is no escape is a fault where it is
@@ -300,10 +311,19 @@ no_escape dialect q text rest c e h =
     subst (λ t. StopsAt dialect (escaping q) t t) (sym e)
     (stop dialect (escaping q) c rest (when_false _ _ (is_escape c) h))
 
--- outside quotes, the value may end after a backslash, which then means nothing
-pub escape_ends : (dialect : Dialect) (text : List ℕ) → text ≡ [] →
-    read_value dialect (chars text) (escaping unquoted) ≡ Some []
-escape_ends dialect text e = ap (λ t. read_value dialect t (escaping unquoted)) (no_characters text e)
+-- outside quotes, a text that ends after a backslash gives that backslash, and nothing is left
+pub escape_ends : (dialect : Dialect) (left : Bor (List ℕ)) → IsUtf8 left.now → left.now ≡ [] →
+    GivesPiece dialect (escaping unquoted) (chars left.now)
+    (record { piece = CodeBackslash; rest = left; quoting = Unquoted })
+escape_ends dialect left u e = record {
+  pieces = LastBackslash ∷ [];
+  is_read =
+      subst (λ t. IsReadTo dialect (escaping unquoted) t (LastBackslash ∷ []) (base unquoted) t)
+      (sym (no_characters left.now e)) (record { front = []; spelled = refl; reads = refl; counts = refl });
+  follows = u;
+  means = λ look_up. refl;
+  names = refl;
+}
 
 -- in double quotes, a text that ends after a backslash is a fault at its end
 pub escape_open : (dialect : Dialect) (text : List ℕ) → text ≡ [] →
@@ -356,6 +376,11 @@ meaning-each : (look_up : LookUp) (cs : List ℕ) → meaning look_up (each_text
 meaning-each look_up [] = refl
 meaning-each look_up (c ∷ cs) = ap (λ t. c ∷ t) (meaning-each look_up cs)
 
+-- texts of one character each are all texts
+without_texts-each : (cs : List ℕ) → without_texts (each_text cs) ≡ []
+without_texts-each [] = refl
+without_texts-each (c ∷ cs) = without_texts-each cs
+
 -- a row of plain characters gives a text for each, and a part may begin after it
 plain_read : (dialect : Dialect) (q : Quoting) (front rest : List ℕ) → list_all (is_plain q) front ≡ true →
     IsReadTo dialect (base q) (front ++ rest) (each_text front) (base q) rest
@@ -383,6 +408,7 @@ gives_plain dialect q text front rest u v is = record {
       (plain_read dialect (quoting_of q) (chars front.now) (chars rest.now) is.pass);
   follows = v;
   means = λ look_up. sym (ap encode_utf8_all (meaning-each look_up (chars front.now)) ∙ encodes-chars front.now u);
+  names = without_texts-each (chars front.now);
 }
 
 -- A bare name, and what stands after it.
@@ -392,13 +418,14 @@ pub name_ends : (dialect : Dialect) (name follows left : Bor (List ℕ)) → IsU
     GivesPiece dialect (naming unquoted (chars name.now)) (chars left.now)
     (record { piece = CodeName name follows; rest = left; quoting = Unquoted })
 name_ends dialect name follows left u e none = record {
-  pieces = Name (chars name.now) ∷ [];
+  pieces = Name (chars name.now) [] ∷ [];
   is_read =
       subst
-      (λ t. IsReadTo dialect (naming unquoted (chars name.now)) t (Name (chars name.now) ∷ []) (base unquoted) t)
+      (λ t. IsReadTo dialect (naming unquoted (chars name.now)) t (Name (chars name.now) [] ∷ []) (base unquoted) t)
       (sym (no_characters left.now e)) (record { front = []; spelled = refl; reads = refl; counts = refl });
   follows = u;
   means = λ look_up. name_bytes look_up (chars name.now) follows.now none;
+  names = named name follows [] (no_characters follows.now none);
 }
 
 -- in double quotes, a text that ends after a bare name is a fault at its end
@@ -417,7 +444,7 @@ place_with pieces (Some (m, more)) next = refl
 -- a bare name is read alone where its next character is one that it leaves to what follows
 left_read : (dialect : Dialect) (q : Quoting) (name cs : List ℕ) (c : ℕ) → is_name_character dialect c ≡ false →
     is_left_by_name dialect q c ≡ true →
-    IsReadTo dialect (naming q name) (c ∷ cs) (Name name ∷ []) (base q) (c ∷ cs)
+    IsReadTo dialect (naming q name) (c ∷ cs) (Name name [] ∷ []) (base q) (c ∷ cs)
 left_read dialect q name cs c h k = record {
   front = [];
   spelled = refl;
@@ -425,7 +452,7 @@ left_read dialect q name cs c h k = record {
   counts =
       ap (λ g. value_reach_after g (λ n. value_reach dialect cs n))
       (when_false _ _ (is_name_character dialect c) h ∙ when_true _ _ (is_left_by_name dialect q c) k)
-      ∙ place_with (Name name ∷ []) (goes_base q c) (λ n. value_reach dialect cs n)
+      ∙ place_with (Name name [] ∷ []) (goes_base q c) (λ n. value_reach dialect cs n)
       ∙ omega arith;
 }
 
@@ -444,15 +471,16 @@ pub name_left : (dialect : Dialect) (q : CodeQuoting) (name follows left : Bor (
     GivesPiece dialect (naming (quoting_of q) (chars name.now)) (chars left.now)
     (record { piece = CodeName name follows; rest = left; quoting = q })
 name_left dialect q name follows left cs c u e ended h none = record {
-  pieces = Name (chars name.now) ∷ [];
+  pieces = Name (chars name.now) [] ∷ [];
   is_read =
       subst
       (λ t.
-      IsReadTo dialect (naming (quoting_of q) (chars name.now)) t (Name (chars name.now) ∷ [])
+      IsReadTo dialect (naming (quoting_of q) (chars name.now)) t (Name (chars name.now) [] ∷ [])
       (base (quoting_of q)) t) (sym e) (left_read dialect (quoting_of q) (chars name.now) cs c
       (no_name_first dialect (chars left.now) cs c e ended) h);
   follows = u;
   means = λ look_up. name_bytes look_up (chars name.now) follows.now none;
+  names = named name follows [] (no_characters follows.now none);
 }
 
 -- the character after a name begins no braced name, unless the name is empty and it is `{`
@@ -461,22 +489,28 @@ no_brace_first : (name text cs : List ℕ) (c : ℕ) → text ≡ c ∷ cs →
 no_brace_first [] text cs c e h = not_is (c == left_brace) (subst (λ t. not (begins_with left_brace t) ≡ true) e h)
 no_brace_first (d ∷ name) text cs c e h = refl
 
+-- the first character of a text is the one character of its UTF-8
+one_character : (text cs : List ℕ) (c : ℕ) → IsUtf8 text → chars text ≡ c ∷ cs → chars (encode_utf8 c) ≡ c ∷ []
+one_character text cs c u e =
+    let is_scalar = and_left (scalar c) (scalars cs) (ap scalars (sym e) ∙ scalars-chars text u) in
+    ap chars (sym (append-nil (encode_utf8 c))) ∙ chars-encodes (c ∷ []) (and_from (scalar c) true is_scalar refl)
+
 -- a bare name before any other character that ends it gives the name and that character, and goes on after
 pub name_then : (dialect : Dialect) (q : CodeQuoting) (name follows left rest : Bor (List ℕ)) (c : ℕ) →
     IsUtf8 rest.now → chars left.now ≡ c ∷ chars rest.now →
     not (begins_passing (is_name_character dialect) (chars left.now)) ≡ true →
     not (is_empty (chars name.now) && begins_with left_brace (chars left.now)) ≡ true →
-    is_left_by_name dialect (quoting_of q) c ≡ false → follows.now ≡ encode_utf8 c →
+    is_left_by_name dialect (quoting_of q) c ≡ false → follows.now ≡ encode_utf8 c → IsUtf8 left.now →
     GivesPiece dialect (naming (quoting_of q) (chars name.now)) (chars left.now)
     (record { piece = CodeName name follows; rest = rest; quoting = q })
-name_then dialect q name follows left rest c u e ended no_brace h f = record {
-  pieces = Name (chars name.now) ∷ Text (c ∷ []) ∷ [];
+name_then dialect q name follows left rest c u e ended no_brace h f v = record {
+  pieces = Name (chars name.now) (c ∷ []) ∷ [];
   is_read =
       subst
       (λ t.
-      IsReadTo dialect (naming (quoting_of q) (chars name.now)) t (Name (chars name.now) ∷ Text (c ∷ []) ∷ [])
+      IsReadTo dialect (naming (quoting_of q) (chars name.now)) t (Name (chars name.now) (c ∷ []) ∷ [])
       (base (quoting_of q)) (chars rest.now)) (sym e) (one dialect (naming (quoting_of q) (chars name.now))
-      (base (quoting_of q)) c (chars rest.now) (Name (chars name.now) ∷ Text (c ∷ []) ∷ [])
+      (base (quoting_of q)) c (chars rest.now) (Name (chars name.now) (c ∷ []) ∷ [])
       (when_false _ _ (is_name_character dialect c)
       (no_name_first dialect (chars left.now) (chars rest.now) c e ended)
       ∙ when_false _ _ (is_left_by_name dialect (quoting_of q) c) h
@@ -484,6 +518,7 @@ name_then dialect q name follows left rest c u e ended no_brace h f = record {
       (no_brace_first (chars name.now) (chars left.now) (chars rest.now) c e no_brace)));
   follows = u;
   means = λ look_up. name_and_bytes look_up (chars name.now) follows.now c f;
+  names = named name follows (c ∷ []) (ap chars f ∙ one_character left.now (chars rest.now) c v e);
 }
 
 -- a name character after a bare name is a part of the name
@@ -576,6 +611,7 @@ gives_quotes dialect q to text quotes rest nothing u is e none = record {
       (quotes_read dialect q (chars quotes.now) (chars rest.now) is.pass));
   follows = u;
   means = λ look_up. none;
+  names = refl;
 }
 
 -- a row of double quotes has as many bytes as characters

@@ -7,7 +7,7 @@ use Rattle.std.specs.List.{list_all}
 use Rattle.dotenvy_format.specs.declared.dialect.Dialect.{Dialect}
 use Rattle.dotenvy_format.specs.declared.dialect.Dialect.TheVariants.{V15, Next}
 use Rattle.dotenvy_format.specs.Characters.{single_quote, double_quote, right_brace}
-use Rattle.dotenvy_format.specs.Value.{Quoting, unquoted, double_quoted, Piece, Text, Name}
+use Rattle.dotenvy_format.specs.Value.{Quoting, unquoted, double_quoted, Piece, Text, Name, LastBackslash}
 use Rattle.dotenvy_format.specs.Value.{is_left_by_name, ends_name, IsValue}
 use Rattle.dotenvy_format.proofs.bytes.NameCharacters.{space_no_name}
 use Rattle.dotenvy_format.specs.Places.{BeginsValue, IsPlace}
@@ -43,18 +43,18 @@ space_ends dialect q (c ∷ name) = rw (space_no_name dialect, space_not_left di
 completes_by_text : (dialect : Dialect) (m : ValueMode) → CompletesByText dialect [] m
 completes_by_text dialect (base unquoted) = ([], [], refl, refl)
 completes_by_text dialect (base double_quoted) = (double_quote ∷ [], [], refl, refl)
-completes_by_text dialect (escaping unquoted) = ([], [], refl, refl)
+completes_by_text dialect (escaping unquoted) = ([], LastBackslash ∷ [], refl, refl)
 completes_by_text dialect (escaping double_quoted) = (110 ∷ double_quote ∷ [], Text (10 ∷ []) ∷ [], refl, refl)
 completes_by_text dialect (in_single inner) = (single_quote ∷ [], Text inner ∷ [], refl, refl)
-completes_by_text dialect (naming unquoted name) = ([], Name name ∷ [], refl, refl)
+completes_by_text dialect (naming unquoted name) = ([], Name name [] ∷ [], refl, refl)
 completes_by_text dialect (naming double_quoted name) = (
   32 ∷ double_quote ∷ [],
-  Name name ∷ Text (32 ∷ []) ∷ [],
+  Name name (32 ∷ []) ∷ [],
   refl,
   read_bare_end dialect double_quoted name 32 (double_quote ∷ []) (space_ends dialect double_quoted name),
 )
-completes_by_text dialect (bracing unquoted name) = (right_brace ∷ [], Name name ∷ [], refl, refl)
-completes_by_text dialect (bracing double_quoted name) = (right_brace ∷ double_quote ∷ [], Name name ∷ [], refl, refl)
+completes_by_text dialect (bracing unquoted name) = (right_brace ∷ [], Name name [] ∷ [], refl, refl)
+completes_by_text dialect (bracing double_quoted name) = (right_brace ∷ double_quote ∷ [], Name name [] ∷ [], refl, refl)
 completes_by_text dialect in_tail = ([], [], refl, refl)
 completes_by_text dialect in_comment = ([], [], refl, refl)
 

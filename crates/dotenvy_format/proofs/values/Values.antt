@@ -115,16 +115,16 @@ read_name dialect q acc (c ∷ name) cs h =
 read_braced : (dialect : Dialect) (q : Quoting) (acc name cs : List ℕ) →
     list_all (λ c. not (c == right_brace)) name ≡ true →
     read_value dialect (name ++ right_brace ∷ cs) (bracing q acc)
-    ≡ given (Name (acc ++ name) ∷ []) (read_value dialect cs (base q))
+    ≡ given (Name (acc ++ name) [] ∷ []) (read_value dialect cs (base q))
 read_braced dialect q acc [] cs h =
-    ap (λ n. given (Name n ∷ []) (read_value dialect cs (base q))) (sym (append-nil acc))
+    ap (λ n. given (Name n [] ∷ []) (read_value dialect cs (base q))) (sym (append-nil acc))
 read_braced dialect q acc (c ∷ name) cs h =
     silent dialect (bracing q acc) c (name ++ right_brace ∷ cs) (bracing q (acc ++ c ∷ []))
     (when_false _ _ (c == right_brace) (not_is (c == right_brace)
     (and_left (not (c == right_brace)) (list_all (λ c. not (c == right_brace)) name) h)))
     ∙ read_braced dialect q (acc ++ c ∷ []) name cs
     (and_right (not (c == right_brace)) (list_all (λ c. not (c == right_brace)) name) h)
-    ∙ ap (λ n. given (Name n ∷ []) (read_value dialect cs (base q))) (append_assoc acc (c ∷ []) name)
+    ∙ ap (λ n. given (Name n [] ∷ []) (read_value dialect cs (base q))) (append_assoc acc (c ∷ []) name)
 
 -- a text in single quotes goes up to the next single quote, and is given before what is read after it
 read_single : (dialect : Dialect) (acc inner cs : List ℕ) → list_all (λ c. not (c == single_quote)) inner ≡ true →
@@ -140,21 +140,21 @@ read_single dialect acc (c ∷ inner) cs h =
     (and_right (not (c == single_quote)) (list_all (λ c. not (c == single_quote)) inner) h)
     ∙ ap (λ n. given (Text n ∷ []) (read_value dialect cs (base unquoted))) (append_assoc acc (c ∷ []) inner)
 
--- a character that ends a bare name gives the name, then itself, before what is read after it
+-- a character that ends a bare name gives the name with itself, before what is read after it
 pub read_bare_end : (dialect : Dialect) (q : Quoting) (name : List ℕ) (c : ℕ) (cs : List ℕ) →
     ends_name dialect q name c ≡ true →
     read_value dialect (c ∷ cs) (naming q name)
-    ≡ given (Name name ∷ Text (c ∷ []) ∷ []) (read_value dialect cs (base q))
+    ≡ given (Name name (c ∷ []) ∷ []) (read_value dialect cs (base q))
 read_bare_end dialect q [] c cs h =
     let t = not_or (is_name_character dialect c || is_left_by_name dialect q c) (c == left_brace) h in
     let u = not_or (is_name_character dialect c) (is_left_by_name dialect q c) (rw t.0 refl) in
-    stepped dialect (naming q []) c cs (Some (base q, Name [] ∷ Text (c ∷ []) ∷ []))
+    stepped dialect (naming q []) c cs (Some (base q, Name [] (c ∷ []) ∷ []))
     (when_false _ _ (is_name_character dialect c) u.0
     ∙ when_false _ _ (is_left_by_name dialect q c) u.1
     ∙ when_false _ _ (c == left_brace) t.1)
 read_bare_end dialect q (d ∷ name) c cs h =
     let u = not_or (is_name_character dialect c) (is_left_by_name dialect q c) h in
-    stepped dialect (naming q (d ∷ name)) c cs (Some (base q, Name (d ∷ name) ∷ Text (c ∷ []) ∷ []))
+    stepped dialect (naming q (d ∷ name)) c cs (Some (base q, Name (d ∷ name) (c ∷ []) ∷ []))
     (when_false _ _ (is_name_character dialect c) u.0 ∙ when_false _ _ (is_left_by_name dialect q c) u.1)
 
 -- what a name is left by is no name character
@@ -172,13 +172,13 @@ left_no_name dialect q c h = at (c == dollar) refl h
 
 -- a bare name before a character that it leaves is given before what is read from that character on
 pub before_left : (dialect : Dialect) (q : Quoting) (name cs : List ℕ) → is_before_left dialect q cs ≡ true →
-    read_value dialect cs (naming q name) ≡ given (Name name ∷ []) (read_value dialect cs (base q))
+    read_value dialect cs (naming q name) ≡ given (Name name [] ∷ []) (read_value dialect cs (base q))
 before_left dialect q name [] h = cc
 before_left dialect q name (c ∷ cs) h =
-    stepped dialect (naming q name) c cs (with_pieces (Name name ∷ []) (goes_base q c))
+    stepped dialect (naming q name) c cs (with_pieces (Name name [] ∷ []) (goes_base q c))
     (when_false _ _ (is_name_character dialect c) (left_no_name dialect q c h)
     ∙ when_true _ _ (is_left_by_name dialect q c) h)
-    ∙ sym (given-after (Name name ∷ []) (goes_base q c) (λ n. read_value dialect cs n))
+    ∙ sym (given-after (Name name [] ∷ []) (goes_base q c) (λ n. read_value dialect cs n))
 
 -- no bare name leaves a left brace to what follows
 pub brace_not_left : (dialect : Dialect) (q : Quoting) → is_left_by_name dialect q left_brace ≡ false
@@ -285,7 +285,7 @@ read_tail dialect blank blanks comment first h k =
 
 -- outside quotes a bare name that ends the value gives that name
 read_last_name : (dialect : Dialect) (name : List ℕ) → list_all (is_name_character dialect) name ≡ true →
-    read_value dialect name (naming unquoted []) ≡ Some (Name name ∷ [])
+    read_value dialect name (naming unquoted []) ≡ Some (Name name [] ∷ [])
 read_last_name dialect name h =
     ap (λ t. read_value dialect t (naming unquoted [])) (sym (append-nil name))
     ∙ read_name dialect unquoted [] name [] h
@@ -633,11 +633,11 @@ naming_step : (dialect : Dialect) (q : Quoting) (name : List ℕ) (c : ℕ) (cs 
       | true ↦ Some (naming q (name ++ c ∷ []), [])
       | false ↦
           elim o [
-            | true ↦ with_pieces (Name name ∷ []) (goes_base q c)
+            | true ↦ with_pieces (Name name [] ∷ []) (goes_base q c)
             | false ↦
                 elim b [
                   | true ↦ Some (bracing q [], [])
-                  | false ↦ Some (base q, Name name ∷ Text (c ∷ []) ∷ [])
+                  | false ↦ Some (base q, Name name (c ∷ []) ∷ [])
                 ]
           ]
     ]) (λ n. read_value dialect cs n))
@@ -647,14 +647,14 @@ naming_step dialect q name c cs true o b hn ho hb ok later =
 naming_step dialect q name c cs false true b hn ho hb ok later =
     let r = read_after (goes_base q c) (λ n. read_value dialect cs n) in
     subst (IsValueRead dialect (naming q name) (c ∷ cs))
-    (given-after (Name name ∷ []) (goes_base q c) (λ n. read_value dialect cs n))
-    (to_naming dialect q name (c ∷ cs) (given (Name name ∷ []) r)
+    (given-after (Name name [] ∷ []) (goes_base q c) (λ n. read_value dialect cs n))
+    (to_naming dialect q name (c ∷ cs) (given (Name name [] ∷ []) r)
     (part_first dialect q (bare_before name) (c ∷ cs) r (ok, ho) (base_step dialect q c cs later)))
 naming_step dialect q name c cs false false true hn ho hb ok later = braces dialect q name c cs hb later
 naming_step dialect q name c cs false false false hn ho hb ok later =
-    to_naming dialect q name (c ∷ cs) (given (Name name ∷ Text (c ∷ []) ∷ []) (read_value dialect cs (base q)))
+    to_naming dialect q name (c ∷ cs) (given (Name name (c ∷ []) ∷ []) (read_value dialect cs (base q)))
     (base_at dialect q ((dollar ∷ (name ++ c ∷ [])) ++ cs) (dollar ∷ (name ++ c ∷ cs))
-    (given (Name name ∷ Text (c ∷ []) ∷ []) (read_value dialect cs (base q)))
+    (given (Name name (c ∷ []) ∷ []) (read_value dialect cs (base q)))
     (ap (λ t. dollar ∷ t) (append_assoc name (c ∷ []) cs)) (part_first dialect q (bare name c) cs
     (read_value dialect cs (base q)) (ok, ends dialect q name c hn ho hb) (later (base q) tt)))
 
@@ -662,14 +662,14 @@ naming_step dialect q name c cs false false false hn ho hb ok later =
 bracing_step : (dialect : Dialect) (q : Quoting) (name : List ℕ) (c : ℕ) (cs : List ℕ) (b : Bool) →
     (c == right_brace) ≡ b → IsValueMode dialect (bracing q name) → ValueLater dialect cs →
     IsValueRead dialect (bracing q name) (c ∷ cs) (read_after (elim b [
-      | true ↦ Some (base q, Name name ∷ [])
+      | true ↦ Some (base q, Name name [] ∷ [])
       | false ↦ Some (bracing q (name ++ c ∷ []), [])
     ]) (λ n. read_value dialect cs n))
 bracing_step dialect q name c cs true h ok later =
     rw (same_from c right_brace h) (to_bracing dialect q name (right_brace ∷ cs)
-    (given (Name name ∷ []) (read_value dialect cs (base q))) (base_at dialect q
+    (given (Name name [] ∷ []) (read_value dialect cs (base q))) (base_at dialect q
     ((dollar ∷ left_brace ∷ (name ++ right_brace ∷ [])) ++ cs) (dollar ∷ left_brace ∷ (name ++ right_brace ∷ cs))
-    (given (Name name ∷ []) (read_value dialect cs (base q)))
+    (given (Name name [] ∷ []) (read_value dialect cs (base q)))
     (ap (λ t. dollar ∷ left_brace ∷ t) (append_assoc name (right_brace ∷ []) cs))
     (part_first dialect q (braced name) cs (read_value dialect cs (base q)) ok (later (base q) tt))))
 bracing_step dialect q name c cs false h ok later =
@@ -738,7 +738,7 @@ ends_read dialect (escaping unquoted) ok = close_value dialect lone_backslash tt
 ends_read dialect (escaping double_quoted) ok = tt
 ends_read dialect (in_single inner) ok = tt
 ends_read dialect (naming unquoted name) ok =
-    subst (λ t. IsValue dialect (dollar ∷ t) (Name name ∷ [])) (sym (append-nil name))
+    subst (λ t. IsValue dialect (dollar ∷ t) (Name name [] ∷ [])) (sym (append-nil name))
     (close_value dialect (bare_name name) ok)
 ends_read dialect (naming double_quoted name) ok = tt
 ends_read dialect (bracing q name) ok = tt

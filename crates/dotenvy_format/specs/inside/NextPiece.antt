@@ -11,12 +11,14 @@ use Rattle.dotenvy_format.specs.declared.value.Kind.TheVariants.{Backslash, Sing
 use Rattle.dotenvy_format.specs.declared.value.Kind.TheVariants.{DoubleQuote, Dollar, SpaceOrTab}
 use Rattle.dotenvy_format.specs.declared.value.Kind.TheVariants.{Plain}
 use Rattle.dotenvy_format.specs.declared.value.Piece.{Piece as CodePiece}
-use Rattle.dotenvy_format.specs.declared.value.Piece.TheVariants.{Text, Name}
+use Rattle.dotenvy_format.specs.declared.value.Piece.TheVariants.{Text as GivesText, Name as GivesName}
+use Rattle.dotenvy_format.specs.declared.value.Piece.TheVariants.{LastBackslash as GivesBackslash}
 use Rattle.dotenvy_format.specs.declared.value.Given.{Given}
 use Rattle.dotenvy_format.specs.declared.value.NextPiece.{NextPiece}
 use Rattle.dotenvy_format.specs.declared.value.NextPiece.TheVariants.{Piece as GivesNext, End, Unfinished, Fault}
 use Rattle.dotenvy_format.specs.Characters.{single_quote, double_quote, dollar, backslash, is_space_or_tab}
-use Rattle.dotenvy_format.specs.Value.{Quoting, unquoted, double_quoted, Piece, is_escape, escape_meaning}
+use Rattle.dotenvy_format.specs.Value.{Quoting, unquoted, double_quoted, Piece, Text, Name}
+use Rattle.dotenvy_format.specs.Value.{LastBackslash, is_escape, escape_meaning}
 use Rattle.dotenvy_format.specs.inside.Slices.{quoting_of}
 use Rattle.dotenvy_format.specs.Items.{LookUp, meaning, text_of}
 use Rattle.dotenvy_format.specs.inside.ReadValue.{ValueMode, base, given, read_value, value_reach}
@@ -52,9 +54,23 @@ Escapes c result =
 
 -- the bytes that a piece, as the code returns it, means
 abbrev pub piece_bytes : LookUp → CodePiece → List ℕ
-piece_bytes look_up (Text text) = text.now
-piece_bytes look_up (Name name after) =
+piece_bytes look_up (GivesText text) = text.now
+piece_bytes look_up (GivesName name after) =
     encode_utf8_all (text_of look_up (chars name.now)) ++ after.now
+piece_bytes look_up GivesBackslash = []
+
+-- the pieces that are no text
+abbrev pub without_texts : List Piece → List Piece
+without_texts [] = []
+without_texts (Text text ∷ pieces) = without_texts pieces
+without_texts (Name name after ∷ pieces) = Name name after ∷ without_texts pieces
+without_texts (LastBackslash ∷ pieces) = LastBackslash ∷ without_texts pieces
+
+-- a piece, as the code returns it, as one that is no text, if it isn't one
+abbrev pub named_piece : CodePiece → List Piece
+named_piece (GivesText text) = []
+named_piece (GivesName name after) = Name (chars name.now) (chars after.now) ∷ []
+named_piece GivesBackslash = LastBackslash ∷ []
 
 -- reading the text from mode m gives these pieces first, and then goes on with the rest from mode n
 pub record IsReadTo (dialect : Dialect) (m : ValueMode) (text : List ℕ) (pieces : List Piece)
@@ -64,7 +80,7 @@ pub record IsReadTo (dialect : Dialect) (m : ValueMode) (text : List ℕ) (piece
   pub reads : read_value dialect text m ≡ given pieces (read_value dialect rest n)
   pub counts : value_reach dialect text m ≡ length front + value_reach dialect rest n
 
--- the code's piece means the pieces that are read, whatever names stand for, and the value goes on where it says
+-- the code's piece means the pieces that are read, whatever names stand for, has the names and backslash of these, and the value goes on where it says
 pub record GivesPiece (dialect : Dialect) (m : ValueMode) (text : List ℕ) (next : Given)
     : Type 0 where
   pub pieces : List Piece
@@ -73,6 +89,7 @@ pub record GivesPiece (dialect : Dialect) (m : ValueMode) (text : List ℕ) (nex
   pub follows : IsUtf8 next.rest.now
   pub means : (look_up : LookUp) →
       piece_bytes look_up next.piece ≡ encode_utf8_all (meaning look_up pieces)
+  pub names : without_texts pieces ≡ named_piece next.piece
 
 -- the text is no value: it can be completed up to what is left, and no further
 pub record StopsAt (dialect : Dialect) (m : ValueMode) (text left : List ℕ) : Type 0 where

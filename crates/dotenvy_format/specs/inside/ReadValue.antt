@@ -4,7 +4,7 @@ use Rattle.dotenvy_format.specs.declared.dialect.Dialect.{Dialect}
 use Rattle.dotenvy_format.specs.Characters.{is_space_or_tab, is_name_character, single_quote}
 use Rattle.dotenvy_format.specs.Characters.{double_quote, dollar, backslash, left_brace}
 use Rattle.dotenvy_format.specs.Characters.{right_brace, hash}
-use Rattle.dotenvy_format.specs.Value.{Quoting, unquoted, double_quoted, Piece, Text, Name}
+use Rattle.dotenvy_format.specs.Value.{Quoting, unquoted, double_quoted, Piece, Text, Name, LastBackslash}
 use Rattle.dotenvy_format.specs.Value.{escape_meaning, is_escape, is_left_by_name}
 
 -- the mode: what reading is in the middle of
@@ -38,8 +38,8 @@ is_brace_first (d ∷ name) c = false
 -- the pieces that the end of the text completes, or `None` if the value lacks its end
 abbrev pub value_at_end : ValueMode → ValueReading
 value_at_end (base unquoted) = Some []
-value_at_end (escaping unquoted) = Some []
-value_at_end (naming unquoted name) = Some (Name name ∷ [])
+value_at_end (escaping unquoted) = Some (LastBackslash ∷ [])
+value_at_end (naming unquoted name) = Some (Name name [] ∷ [])
 value_at_end in_tail = Some []
 value_at_end in_comment = Some []
 value_at_end (base double_quoted) = None
@@ -91,17 +91,17 @@ value_goes dialect (naming q name) c =
       | true ↦ Some (naming q (name ++ c ∷ []), [])
       | false ↦
           elim (is_left_by_name dialect q c) [
-            | true ↦ with_pieces (Name name ∷ []) (goes_base q c)
+            | true ↦ with_pieces (Name name [] ∷ []) (goes_base q c)
             | false ↦
                 elim (is_brace_first name c) [
                   | true ↦ Some (bracing q [], [])
-                  | false ↦ Some (base q, Name name ∷ Text (c ∷ []) ∷ [])
+                  | false ↦ Some (base q, Name name (c ∷ []) ∷ [])
                 ]
           ]
     ]
 value_goes dialect (bracing q name) c =
     elim (c == right_brace) [
-      | true ↦ Some (base q, Name name ∷ [])
+      | true ↦ Some (base q, Name name [] ∷ [])
       | false ↦ Some (bracing q (name ++ c ∷ []), [])
     ]
 value_goes dialect in_tail c =

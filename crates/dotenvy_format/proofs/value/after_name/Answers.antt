@@ -28,4 +28,4 @@ returns-else-is_left_by_name c =
     c.in-Some.ensures.follows c.in-Some.ensures.characters c.requires.ended c.requires.no_brace
     (sym c.if-is_left_by_name.ensures) (c.split_at.ensures.front
     ∙ ap (λ n. take n c.args.left.now) c.len_utf8.ensures.value
-    ∙ take_first c.args.left.now c.in-Some.rest.now c.in-Some.first c.in-Some.ensures.bytes)
+    ∙ take_first c.args.left.now c.in-Some.rest.now c.in-Some.first c.in-Some.ensures.bytes) c.utf8.left

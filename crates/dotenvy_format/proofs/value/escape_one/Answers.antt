@@ -4,7 +4,7 @@ use Rattle.dotenvy_format.proofs.values.NextPiece.{gives_escape, no_escape}
 use Rattle.dotenvy_format.proofs.value.escape_one.Goals as goal
 
 pub returns-in-None : goal.returns-in-None
-returns-in-None c = c.at_end.ensures.after_backslash
+returns-in-None c = c.last_backslash.ensures
 
 pub returns-in-Some-escaped : goal.returns-in-Some-escaped
 returns-in-Some-escaped c =

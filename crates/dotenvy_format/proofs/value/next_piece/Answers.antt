@@ -8,7 +8,7 @@ use Rattle.dotenvy_format.proofs.values.NextPiece.{goes_as, next_after, first_re
 use Rattle.dotenvy_format.proofs.value.next_piece.Goals as goal
 
 pub returns-in-None-clause-next : goal.returns-in-None-clause-next
-returns-in-None-clause-next c = c.at_end.ensures.after_part c.args.dialect
+returns-in-None-clause-next c = c.at_end.ensures.next c.args.dialect
 
 pub returns-in-None-clause-shorter : goal.returns-in-None-clause-shorter
 returns-in-None-clause-shorter c = c.at_end.ensures.shorter
