@@ -197,6 +197,20 @@ impl<R: Source, A: Allocator + Clone> Iter<R, A> {
     }
 }
 
+/// The logical lines that an iterator has left, and their dialect. What it remembers is given up.
+pub fn into_lines<R: Source + Drop, A: Allocator>(iter: Iter<R, A>) -> (Splitter<R, A>, Dialect)
+    ensures lines { result.0.lines ≡ iter.lines }
+    ensures dialect { result.1 ≡ iter.dialect }
+{
+    let Iter {
+        lines,
+        remembered: _,
+        dialect,
+        item_lines: _,
+    } = iter;
+    (lines, dialect)
+}
+
 // The lines on which the last item stands, once this one was given, if it was.
 fn lines_then<R: Source, A: Allocator + Clone>(
     item: &Option<Result<Pair<A>, A>>,

@@ -17,9 +17,11 @@ use std::alloc::Allocator;
 
 /// The texts that the names of a line stand for.
 #[derive(Drop)]
-pub(crate) struct Names<'a, A: Allocator> {
-    pub(crate) env: &'a Environment<A>,
-    pub(crate) remembered: &'a Remembered<A>,
+pub struct Names<'a, A: Allocator> {
+    /// The values that count first.
+    pub env: &'a Environment<A>,
+    /// The values that were remembered.
+    pub remembered: &'a Remembered<A>,
 }
 
 impl<'a, A: Allocator> Names<'a, A> {

@@ -23,25 +23,31 @@ pub(crate) type Pair<A> = (String<A>, String<A>);
 
 pub(crate) type ParsedLine<A> = Result<Option<Pair<A>>, A>;
 
-// A value as it is written, and how many bytes it means.
+/// A value, and how many bytes it means.
 #[derive(Clone, Copy)]
-pub(crate) struct Value<'a> {
-    text: &'a str,
-    len: usize,
+pub struct Value<'a> {
+    /// The value as it is written.
+    pub text: &'a str,
+    /// The length of what it means, or the greatest `usize` where that is less.
+    pub len: usize,
 }
 
-// A key and its value, or `None` where nothing or a comment is assigned.
+/// A key and its value.
 #[derive(Clone, Copy)]
-pub(crate) struct Declaration<'a> {
-    pub(crate) key: &'a str,
-    value: Option<Value<'a>>,
+pub struct Declaration<'a> {
+    /// The key.
+    pub key: &'a str,
+    /// The value, or `None` where nothing or a comment is assigned.
+    pub value: Option<Value<'a>>,
 }
 
-// A text that is no statement or no value, and the index of its fault.
+/// A text that is no statement or no value.
 #[derive(Clone, Copy)]
-pub(crate) struct Fault<'a> {
-    pub(crate) text: &'a str,
-    pub(crate) index: usize,
+pub struct Fault<'a> {
+    /// The text.
+    pub text: &'a str,
+    /// The index of its fault: in bytes or in characters, as docs/GRAMMAR.md says in "Faults and their places".
+    pub index: usize,
 }
 
 // The texts of a declaration: those that are answered, and those that are remembered.
@@ -101,7 +107,7 @@ fn scan_assigned<'a, A: Allocator>(
 }
 
 /// The first pass, which takes no memory: nothing, a declaration with the length of its value's meaning, or the fault.
-pub(crate) fn scan_line<'a, A: Allocator>(
+pub fn scan_line<'a, A: Allocator>(
     line: &'a str,
     names: &Names<'_, A>,
     dialect: Dialect,

@@ -8,12 +8,7 @@ use std::collections::HashMap;
 use std::hash::{BuildHasherDefault, FoldHasher};
 
 /// The last value of each key that was declared, and `None` where nothing was assigned to it.
-pub(crate) type Remembered<A> = HashMap<
-    String<A>,
-    Option<String<A>>,
-    BuildHasherDefault<FoldHasher>,
-    A,
->;
+pub type Remembered<A> = HashMap<String<A>, Option<String<A>>, BuildHasherDefault<FoldHasher>, A>;
 
 /// The remembered text of a name.
 pub(crate) fn recall<'a, A: Allocator>(remembered: &'a Remembered<A>, name: &str) -> Option<&'a str>

@@ -176,6 +176,13 @@ impl<R: Source, A: Allocator + Clone> Splitter<R, A> {
         matches!(self.stage, Stage::Open)
     }
 
+    /// Whether a final fault ended the iteration.
+    pub fn has_failed(&self) -> bool
+        ensures { IsTrue result ↔ (self.now.lines.stage ≡ Stage.Failed) }
+    {
+        matches!(self.stage, Stage::Failed)
+    }
+
     /// The text that `advance` left: that of the last logical line, or the empty text for a line that was skipped.
     pub fn line(&self) -> &str
         ensures { result.now ≡ self.now.line }
