@@ -5,5 +5,6 @@ pub mod command_line;
 pub mod failure;
 pub mod laws;
 pub mod prepared;
+pub mod process_words;
 pub mod run;
 mod start;

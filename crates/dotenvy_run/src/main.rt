@@ -2,33 +2,16 @@
 #![tactic(auto)]
 
 use dotenvy::Plain;
+use dotenvy_command::process_words::{no_words_text, process_words};
 use dotenvy_command::run::run;
+use std::io;
 use std::process::ExitCode;
-use std::rt::Env;
-use std::{env, io};
-
-/// The words of the command line, without the program's name.
-fn words<R: AllocGlobal + Env>(rt: &R) -> io::Result<Vec<String>> {
-    let mut words = Vec::new(rt.alloc());
-    for word in env::args(rt)?.skip(1) {
-        words.push(word)?;
-    }
-    Ok(words)
-}
-
-/// Why there are no words.
-fn words_fault(fault: &io::Error) -> &'static str {
-    match fault.kind() {
-        io::ErrorKind::InvalidData => "a word of the command line is not UTF-8",
-        _ => "out of memory",
-    }
-}
 
 fn main(rt: HostRuntime) -> ExitCode {
-    let words = match words(&rt) {
+    let words = match process_words(&rt) {
         Ok(words) => words,
         Err(fault) => {
-            let text = words_fault(&fault);
+            let text = no_words_text(&fault);
             let _ = eprintln!(rt; "error: {text}");
             return ExitCode::FAILURE;
         }
