@@ -1,0 +1,15 @@
+use Rattle.std.proofs.Common.{◌≡◌, ◌≢◌}
+use Rattle.dotenvy_lines.specs.declared.lines.Stage.TheVariants.{Open}
+use Rattle.dotenvy_lines.specs.Lines.{lines_measure}
+use Rattle.dotenvy_checker.proofs.CheckedReads.{CheckedSoFar}
+use Rattle.dotenvy_checker.proofs.lines.Checker.check_lines.Given as goal
+
+-- some lines were read and checked
+abbrev pub invariant-lines : goal.invariant-lines
+invariant-lines g l = record {
+  shut : l.fn.lines.lines.stage ≢ Open → (l.lines.lines ≡ l.fn.lines.lines) × (l.self ≡ l.fn.self);
+  came : CheckedSoFar l.fn.self.dialect l.fn.lines.lines l.lines.lines l.fn.self l.self;
+}
+
+abbrev pub decreases-lines : goal.decreases-lines
+decreases-lines g l = lines_measure l.lines.lines

@@ -1,0 +1,26 @@
+use Rattle.std.proofs.Common.{length, List}
+use denote.Text.{Utf8}
+use denote.Shadow.{shadow}
+use Rattle.std.specs.List.{flat_map}
+use Rattle.std.specs.Str.{chars}
+use Rattle.dotenvy_format.specs.Value.{unquoted, Piece}
+use Rattle.dotenvy_format.specs.inside.Slices.{quoting_of}
+use Rattle.dotenvy_format.specs.inside.ReadValue.{base}
+use Rattle.dotenvy_format.specs.inside.NextPiece.{IsReadTo}
+use Rattle.dotenvy_checker.specs.Findings.{has_value, piece_findings}
+use Rattle.dotenvy_checker.specs.Numbered.{at_line}
+use Rattle.dotenvy_checker.specs.inside.CheckedLines.{declared_of, env_of, Finds}
+use Rattle.dotenvy_checker.proofs.lines.Checker.check_value.Given as goal
+
+-- the pieces so far lead to the rest, and their findings were added
+abbrev pub invariant-pieces : goal.invariant-pieces
+invariant-pieces g l = record {
+  utf8 : shadow (Utf8 l.rest);
+  pieces : List Piece;
+  read : IsReadTo l.fn.self.dialect (base unquoted) (chars l.fn.value) pieces (base (quoting_of l.quoting)) (chars l.rest);
+  finds : Finds (at_line l.fn.line (flat_map (piece_findings
+      (has_value (env_of l.fn.self) (declared_of l.fn.self))) pieces)) l.fn.self l.self;
+}
+
+abbrev pub decreases-pieces : goal.decreases-pieces
+decreases-pieces g l = length (chars l.rest)

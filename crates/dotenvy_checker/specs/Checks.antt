@@ -1,0 +1,72 @@
+-- What a check of a file writes and returns.
+use Rattle.std.specs.Prelude.{ℕ, ◌≡◌, ◌+◌, ◌<◌, ◌^◌, not, List, length, is_some, map, Option, Some, None}
+use Rattle.std.specs.Prelude.{Result, Ok, Err}
+use Rattle.std.specs.List.{list_any}
+use Rattle.std.specs.declared.io.ErrorKind.{ErrorKind}
+use Rattle.dotenvy_base.specs.Calls.{Call}
+use Rattle.dotenvy_base.specs.Environment.{Texts}
+use Rattle.dotenvy_base.specs.Errors.{IsIoOf}
+use Rattle.dotenvy_base.specs.Output.{Sends, most_writes}
+use Rattle.dotenvy_base.specs.Source.{Ahead}
+use Rattle.dotenvy_base.specs.declared.errors.Error.{Error}
+use Rattle.dotenvy_format.specs.declared.dialect.Dialect.{Dialect}
+use Rattle.dotenvy_format.specs.Entries.{Entry}
+use Rattle.dotenvy_format.specs.Marks.{without_mark}
+use Rattle.dotenvy_lines.specs.Input.{InputState, IsReadFault}
+use Rattle.dotenvy_lines.specs.Lines.{LinesState, whole_lines}
+use Rattle.dotenvy_items.specs.LoadStops.{unmarked}
+use Rattle.dotenvy_items.specs.Meaning.{values_of}
+use Rattle.dotenvy_checker.specs.declared.failure.Stop.{Stop}
+use Rattle.dotenvy_checker.specs.declared.failure.Stop.TheVariants.{Read, Write, Memory}
+use Rattle.dotenvy_checker.specs.declared.report.Found.{Found}
+use Rattle.dotenvy_checker.specs.Numbered.{unnumbered, HasNumbered, DecidesNumbered}
+use Rattle.dotenvy_checker.specs.Findings.{Finding, is_fault, Names, findings}
+use Rattle.dotenvy_checker.specs.Report.{report}
+
+-- the names that an environment has
+abbrev pub names_in : Texts → Names
+names_in texts name = is_some (values_of texts name)
+
+-- the numbers of the lines that are complete in what is told fit 64 bits
+abbrev pub FewLines : LinesState → Ahead → Type 0
+FewLines s a = s.lines_taken + length (whole_lines (unmarked a)) < 2 ^ 64
+
+-- what of a is read from s on, without a byte order mark: all of its entries, or those that are decided before this fault
+abbrev pub ReadsEntries : {A : Type 0} → Dialect → LinesState → Ahead → Option (Error A) →
+    List (ℕ × Entry) → Type 0
+ReadsEntries dialect s a None numbered =
+    (a.fault ≡ None) × HasNumbered dialect (s.lines_taken + 1) (without_mark a.bytes) numbered
+ReadsEntries dialect s a (Some e) numbered =
+    (t : InputState)
+    × IsIoOf (IsReadFault a s.input (λ bytes.
+    DecidesNumbered dialect (s.lines_taken + 1) (without_mark bytes) numbered) t) e
+
+-- whether faults are among these findings, and whether warnings are
+abbrev pub found_in : List (ℕ × Finding) → Found
+found_in found = record {
+  faults = list_any is_fault (unnumbered found);
+  warnings = list_any (λ finding. not (is_fault finding)) (unnumbered found);
+}
+
+-- the report of the entries that are read of a is sent, and a check returns this: what is found in all of them, the fault of reading, or the fault of writing
+abbrev pub Reports : {A W : Type 0} → (W → Option (List ℕ)) → (W → Option ErrorKind) →
+    (W → Option (List Call)) → List ℕ → Names → Dialect → LinesState → Ahead → W →
+    Result Found (Stop A) → W → Type 0
+Reports {A = A} held last_fault calls file env dialect s a old (Ok found) new =
+    (numbered : List (ℕ × Entry)) × ReadsEntries {A = A} dialect s a None numbered
+    × (found ≡ found_in (findings env numbered))
+    × Sends {A = A} held last_fault calls most_writes old new (report file (findings env numbered)) (Ok tt)
+Reports {A = A} held last_fault calls file env dialect s a old (Err (Read e)) new =
+    (numbered : List (ℕ × Entry)) × ReadsEntries dialect s a (Some e) numbered
+    × Sends {A = A} held last_fault calls most_writes old new (report file (findings env numbered)) (Ok tt)
+Reports {A = A} held last_fault calls file env dialect s a old (Err (Write e)) new =
+    (fault : Option (Error A)) × (numbered : List (ℕ × Entry))
+    × ReadsEntries dialect s a fault numbered
+    × Sends held last_fault calls most_writes old new (report file (findings env numbered)) (Err e)
+Reports held last_fault calls file env dialect s a old (Err (Memory refused)) new = new ≡ old
+
+-- the check stops because an allocation failed
+abbrev pub IsRefused : {A : Type 0} → Stop A → Type 0
+IsRefused (Read e) = ⊥
+IsRefused (Write e) = ⊥
+IsRefused (Memory refused) = Unit {0}

@@ -1,0 +1,8 @@
+pub mod Numbered
+pub mod Findings
+pub mod Report
+pub mod Checks
+pub mod Words
+pub mod Answers
+pub mod Laws
+pub mod inside

@@ -1,0 +1,63 @@
+//! Why a check stops before it has checked all files, and what the program prints of it.
+
+use dotenvy::Error;
+use std::alloc::{AllocError, Allocator, Global};
+use std::fmt;
+
+/// Why the check of a file stops.
+#[derive(Drop)]
+#[derive_where(Debug)]
+pub enum Stop<A: Allocator = Global> {
+    /// The file could not be read to its end. What was found before is printed.
+    Read(Error<A>),
+    /// The report could not be written.
+    Write(Error<A>),
+    /// An allocation failed, and nothing of this file is printed.
+    Memory(AllocError),
+}
+
+impl<A: Allocator> From<AllocError> for Stop<A> {
+    ghost use Rattle.dotenvy_checker.specs.Checks.{IsRefused};
+
+    ghost from_gives = { λ _ stop. IsRefused stop };
+
+    fn from(refused: AllocError) -> Stop<A> {
+        Stop::Memory(refused)
+    }
+}
+
+/// Why the program ends with an error on standard error.
+#[derive(Drop)]
+#[derive_where(Debug)]
+pub enum Failure<A: Allocator = Global> {
+    /// This word begins with `-`, and is no option of the program.
+    UnknownOption(String<A>),
+    /// The report could not be written.
+    Write(Error<A>),
+    /// An allocation failed.
+    Memory(AllocError),
+}
+
+impl<A: Allocator> fmt::Display for Failure<A> {
+    ghost use Rattle.dotenvy_checker.specs.Answers.{failure_text};
+
+    ghost output = { failure_text };
+
+    fn fmt<W: fmt::Write>(&self, f: &mut fmt::Formatter<W>) -> fmt::Result {
+        match self {
+            Failure::UnknownOption(word) => write!(f, "error: unknown option '{word}'"),
+            Failure::Write(error) => write!(f, "error: {error}"),
+            Failure::Memory(_) => write!(f, "error: out of memory"),
+        }
+    }
+}
+
+impl<A: Allocator> From<AllocError> for Failure<A> {
+    ghost use Rattle.dotenvy_checker.specs.Answers.{IsMemoryFailure};
+
+    ghost from_gives = { λ _ failure. IsMemoryFailure failure };
+
+    fn from(refused: AllocError) -> Failure<A> {
+        Failure::Memory(refused)
+    }
+}

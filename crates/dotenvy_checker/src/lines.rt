@@ -1,0 +1,292 @@
+//! Reads the lines of a file, and reports what is found on each.
+
+ghost use Rattle.std.specs.Prelude.{◌≡◌, ◌≢◌, ◌⊎◌, ℕ, [], ◌∷◌, Err, None, Ok, IfErr, IfOk, List, OnOk, IsTrue, string_bytes};
+ghost use Rattle.std.specs.List.{flat_map};
+ghost use Rattle.std.specs.Str.{chars};
+ghost use Rattle.dotenvy_base.specs.Environment.{name_ok};
+ghost use Rattle.dotenvy_base.specs.Errors.{IsMemory, IsMemoryErr};
+ghost use Rattle.dotenvy_base.specs.Source.{Ahead};
+ghost use Rattle.dotenvy_lines.specs.declared.lines.Stage.TheVariants.{Open, Failed};
+ghost use Rattle.dotenvy_lines.specs.Input.{IsTold};
+ghost use Rattle.dotenvy_checker.specs.Checks.{FewLines};
+ghost use Rattle.dotenvy_format.specs.Characters.{underscore, begins_with};
+ghost use Rattle.dotenvy_format.specs.Entries.{Declares, Fails, outcome_entries};
+ghost use Rattle.dotenvy_format.specs.Items.{LookUp};
+ghost use Rattle.dotenvy_format.specs.Keys.{is_key};
+ghost use Rattle.dotenvy_format.specs.Outcome.{Outcome, Says};
+ghost use Rattle.dotenvy_format.specs.Value.{IsValue, Name, Piece as FormatPiece};
+ghost use Rattle.dotenvy_format.specs.inside.NextPiece.{named_piece};
+ghost use Rattle.dotenvy_items.specs.inside.FirstPass.{IsAssigned};
+ghost use Rattle.dotenvy_checker.specs.Findings.{has_value, no_names, only_if, piece_findings, with_name};
+ghost use Rattle.dotenvy_checker.specs.Numbered.{at_line};
+ghost use Rattle.dotenvy_checker.specs.inside.Reports.{finding_of, nothing_found};
+ghost use Rattle.dotenvy_checker.specs.inside.CheckedLines.{declared_of, env_of, failure_of, ChecksEntries, ChecksOutcome, ChecksRead, ChecksUpTo, Finds};
+
+use crate::report::{Finding, Report};
+use dotenvy_base::environment::Environment;
+use dotenvy_base::errors::{Error, Result};
+use dotenvy_base::source::Source;
+use dotenvy_format::dialect::Dialect;
+use dotenvy_format::text::{Quoting, split_first};
+use dotenvy_format::value::{NextPiece, Piece, next_piece};
+use dotenvy_items::meaning::Names;
+use dotenvy_items::parse::{Value, scan_line};
+use dotenvy_items::remembered::Remembered;
+use dotenvy_lines::lines::Splitter;
+use std::alloc::{AllocError, Allocator};
+use std::collections::HashMap;
+
+/// The names that have a value, and what was found so far.
+#[derive(Drop)]
+pub(crate) struct Checker<'a, A: Allocator> {
+    env: &'a Environment<A>,
+    // The names that the file declared so far, without their values.
+    declared: Environment<A>,
+    // Nothing: a name needs no value for this.
+    remembered: Remembered<A>,
+    dialect: Dialect,
+    pub(crate) report: Report<'a, A>,
+}
+
+impl<'a, A: Allocator + Clone> Checker<'a, A> {
+    /// A checker of a file of which nothing was read.
+    pub(crate) fn new(
+        alloc: A,
+        file: &'a str,
+        env: &'a Environment<A>,
+        dialect: Dialect,
+    ) -> std::result::Result<Checker<'a, A>, AllocError>
+        ensures env { IfOk result (λ checker. checker.env.now ≡ env.now) }
+        ensures declared { IfOk result (λ checker. declared_of checker ≡ no_names) }
+        ensures dialect { IfOk result (λ checker. checker.dialect ≡ dialect) }
+        ensures report { IfOk result (λ checker. (string_bytes checker.report.text ≡ [])
+            × (checker.report.file.now ≡ file.now) × (checker.report.found ≡ nothing_found)) }
+    {
+        Ok(Checker {
+            env,
+            declared: Environment::new(alloc.clone()?),
+            remembered: HashMap::new(alloc.clone()?),
+            dialect,
+            report: Report::new(alloc, file),
+        })
+    }
+
+    /// Reads all lines. Returns the fault that ended reading, if one did; the error says that an allocation failed.
+    pub(crate) fn check_all<R: Source>(
+        &mut self,
+        lines: &mut Splitter<R, A>,
+    ) -> std::result::Result<Option<Error<A>>, AllocError>
+        ensures told { lines.old.lines.stage ≡ Open → (a : Ahead) →
+            IsTold lines.old.lines.input.left a → FewLines lines.old.lines a → IfOk result
+            (λ fault. ChecksUpTo self.old.dialect lines.old.lines a fault self.old self.new) }
+        ensures shut { lines.old.lines.stage ≢ Open →
+            (result ≡ Ok None) × (self.new ≡ self.old) }
+    {
+        match self.check_lines(lines) {
+            Ok(()) => Ok(None),
+            Err(Error::Memory(refused)) => Err(refused),
+            Err(fault) => Ok(Some(fault)),
+        }
+    }
+
+    // Reads all lines. The error is the fault that ended reading, or `Memory`.
+    fn check_lines<R: Source>(&mut self, lines: &mut Splitter<R, A>) -> Result<(), A>
+        ensures told { lines.old.lines.stage ≡ Open → (a : Ahead) →
+            IsTold lines.old.lines.input.left a → FewLines lines.old.lines a →
+            ChecksRead self.old.dialect lines.old.lines a result self.old self.new }
+        ensures shut { lines.old.lines.stage ≢ Open → (result ≡ Ok tt) × (self.new ≡ self.old) }
+    {
+        lines.drop_mark()?;
+        'lines: while let Some(outcome) = lines.advance() {
+            self.check_outcome(lines, outcome)?;
+        }
+        Ok(())
+    }
+
+    // Reports what is found on the last line that was taken, or gives its fault back if that is final.
+    fn check_outcome<R: Source>(
+        &mut self,
+        lines: &Splitter<R, A>,
+        outcome: Result<(), A>,
+    ) -> Result<(), A>
+        requires { IsMemoryErr outcome → lines.now.lines.stage ≡ Failed }
+        ensures checks { OnOk result (ChecksOutcome lines.now outcome self.old self.new) }
+        ensures error { IfErr result
+            (λ e. IsMemory e ⊎ ((outcome ≡ Err e) × (lines.now.lines.stage ≡ Failed)
+            × (self.new ≡ self.old))) }
+    {
+        let line = lines.last_lines().0;
+        match outcome {
+            Ok(()) => self.check_line(line, lines.line()),
+            Err(error) => {
+                if lines.has_failed() {
+                    return Err(error);
+                }
+                self.check_fault(line, &error)
+            }
+        }
+    }
+
+    // Reports the fault of a line that is no text, or that stays open.
+    fn check_fault(&mut self, line: u64, error: &Error<A>) -> Result<(), A>
+        ensures checks { OnOk result
+            (ChecksEntries ((line, Fails (failure_of error.now)) ∷ []) self.old self.new) }
+        ensures memory { IfErr result IsMemory }
+    {
+        match error {
+            Error::LineParse(text, place) => {
+                self.report
+                    .add(line, Finding::WrongText(text.as_str(), *place))?;
+            }
+            _ => self.report.add(line, Finding::BrokenLine)?,
+        }
+        Ok(())
+    }
+
+    // Reports what is found in the text of a line.
+    fn check_line(&mut self, line: u64, text: &str) -> Result<(), A>
+        ensures checks { OnOk result ((outcome : Outcome)
+            × Says self.old.dialect (chars text.now) outcome
+            × ChecksEntries (at_line line (outcome_entries outcome)) self.old self.new) }
+        ensures memory { IfErr result IsMemory }
+    {
+        let names = Names {
+            env: self.env,
+            remembered: &self.remembered,
+        };
+        match scan_line(text, &names, self.dialect) {
+            Ok(Some(declaration)) => {
+                self.check_declaration(line, declaration.key, declaration.value)
+            }
+            Ok(None) => Ok(()),
+            Err(fault) => {
+                self.report
+                    .add(line, Finding::WrongText(fault.text, fault.index))?;
+                Ok(())
+            }
+        }
+    }
+
+    // Reports what is found in a declaration, and remembers its key.
+    fn check_declaration(&mut self, line: u64, key: &str, value: Option<Value<'_>>) -> Result<(), A>
+        requires key { IsTrue (is_key (chars key.now)) }
+        requires assigned { (look_up : LookUp) × (rest : List ℕ) × (pieces : List FormatPiece)
+            × IsAssigned self.old.dialect look_up rest pieces value }
+        ensures checks { (look_up : LookUp) (rest : List ℕ) (pieces : List FormatPiece) →
+            IsAssigned self.old.dialect look_up rest pieces value.entry →
+            OnOk result (ChecksEntries ((line, Declares (chars key.now) pieces) ∷ [])
+            self.old self.new) }
+        ensures memory { IfErr result IsMemory }
+    {
+        let is_declared = self.declared.contains(key);
+        self.report_if(is_declared, line, Finding::DeclaredTwice(key))?;
+        self.check_assigned(line, value)?;
+        self.declare(key)
+    }
+
+    // Reports what is found in the value of a declaration, if it has one.
+    fn check_assigned(&mut self, line: u64, value: Option<Value<'_>>) -> Result<(), A>
+        requires { (look_up : LookUp) × (rest : List ℕ) × (pieces : List FormatPiece)
+            × IsAssigned self.old.dialect look_up rest pieces value }
+        ensures finds { (look_up : LookUp) (rest : List ℕ) (pieces : List FormatPiece) →
+            IsAssigned self.old.dialect look_up rest pieces value.entry →
+            OnOk result (Finds (at_line line (flat_map (piece_findings
+            (has_value (env_of self.old) (declared_of self.old))) pieces)) self.old self.new) }
+        ensures memory { IfErr result IsMemory }
+    {
+        match value {
+            Some(written) => self.check_value(line, written.text),
+            None => Ok(()),
+        }
+    }
+
+    // Remembers that this key is declared.
+    fn declare(&mut self, key: &str) -> Result<(), A>
+        requires { IsTrue (name_ok key.now) }
+        ensures declared { OnOk result
+            (declared_of self.new ≡ with_name (declared_of self.old) (chars key.now)) }
+        ensures same { OnOk result (self.new ≡ record self.old { declared = self.new.declared }) }
+        ensures memory { IfErr result IsMemory }
+    {
+        let alloc = self.report.text.allocator().clone()?;
+        let key = String::from_str(alloc.clone()?, key)?;
+        self.declared.set(key, String::new(alloc))
+    }
+
+    // Reports what is found in a value.
+    fn check_value(&mut self, line: u64, value: &str) -> Result<(), A>
+        requires { (pieces : List FormatPiece) × IsValue self.old.dialect (chars value.now) pieces }
+        ensures finds { (pieces : List FormatPiece) →
+            IsValue self.old.dialect (chars value.now) pieces →
+            OnOk result (Finds (at_line line (flat_map (piece_findings
+            (has_value (env_of self.old) (declared_of self.old))) pieces)) self.old self.new) }
+        ensures memory { IfErr result IsMemory }
+    {
+        let mut rest = value;
+        let mut quoting = Quoting::Unquoted;
+        'pieces: while let NextPiece::Piece(given) = next_piece(rest, quoting, self.dialect) {
+            self.check_piece(line, given.piece)?;
+            rest = given.rest;
+            quoting = given.quoting;
+        }
+        Ok(())
+    }
+
+    // Reports what is found in a piece of a value.
+    fn check_piece(&mut self, line: u64, piece: Piece<'_>) -> Result<(), A>
+        ensures finds { OnOk result (Finds (at_line line (flat_map (piece_findings
+            (has_value (env_of self.old) (declared_of self.old))) (named_piece piece.entry)))
+            self.old self.new) }
+        ensures memory { IfErr result IsMemory }
+    {
+        match piece {
+            Piece::Text(_) => Ok(()),
+            Piece::Name { name, after } => self.check_name(line, name, after),
+            Piece::LastBackslash => self.report_if(true, line, Finding::LastBackslash),
+        }
+    }
+
+    // Reports what is found in a name that a value mentions, before this text.
+    fn check_name(&mut self, line: u64, name: &str, after: &str) -> Result<(), A>
+        ensures finds { OnOk result (Finds (at_line line (piece_findings
+            (has_value (env_of self.old) (declared_of self.old))
+            (Name (chars name.now) (chars after.now)))) self.old self.new) }
+        ensures memory { IfErr result IsMemory }
+    {
+        self.report_if(!self.is_known(name), line, Finding::NoValue(name))?;
+        self.report_if(
+            begins_with_underscore(after),
+            line,
+            Finding::EndsAtUnderscore(name),
+        )
+    }
+
+    // Whether a name has a value: the process has it, or the file declared it before.
+    fn is_known(&self, name: &str) -> bool
+        ensures { result ≡ has_value (env_of self.now) (declared_of self.now) (chars name.now) }
+    {
+        self.env.contains(name) || self.declared.contains(name)
+    }
+
+    // Reports this finding, if it is one.
+    fn report_if(&mut self, is_found: bool, line: u64, finding: Finding<'_>) -> Result<(), A>
+        ensures finds { OnOk result (Finds (at_line line (only_if is_found (finding_of finding.entry)))
+            self.old self.new) }
+        ensures memory { IfErr result IsMemory }
+    {
+        if is_found {
+            self.report.add(line, finding)?;
+        }
+        Ok(())
+    }
+}
+
+// Whether the text begins with `_`.
+fn begins_with_underscore(text: &str) -> bool
+    ensures { result ≡ begins_with underscore (chars text.now) }
+{
+    match split_first(text) {
+        Some((first, _)) => first == '_',
+        None => false,
+    }
+}

@@ -1,0 +1,142 @@
+//! What the program does once it has its words, over any writer and runtime.
+
+ghost use Rattle.std.specs.Prelude.{◌≡◌, ◌<◌, true, find, IfErr, IfOk, IfSome, IsErrAnd, None};
+ghost use Rattle.dotenvy_checker.specs.Answers.{texts, IsOfWord, IsOfWords};
+ghost use Rattle.dotenvy_checker.specs.Words.{is_unknown};
+
+use crate::check::{Found, check};
+use crate::failure::{Failure, Stop};
+use crate::report::unread_line;
+use crate::words::{Words, read_words};
+use dotenvy::{Dialect, Environment, Error, Iter, Plain, Sink, Source, open_filename};
+use dotenvy_base::errors::or_memory;
+use dotenvy_base::output::{MOST_WRITES, write_all};
+use std::alloc::{Alloc, AllocError, Allocator};
+use std::env::Env;
+use std::fs::{File, Files};
+use std::path::Path;
+
+/// Checks each file that the words name, in order, or `.env`, and returns the status to end with: 0 if no file has a
+/// fault, else 1. With `--strict` a warning counts as a fault.
+///
+/// A file that can't be opened or read is one line, `NAME: error: TEXT`, and the next file follows.
+///
+/// ```
+/// // of the word `a.env`, a file whose second line is `B=two words`, it writes
+/// // a.env:2: error: Error parsing line: 'two words', error at line index: 4
+/// let status = run(&rt, &words, &mut writer)?; // 1
+/// ```
+pub fn run<A: Allocator + Clone, R: Files + Env + Alloc<A = A>, W: Sink>(
+    rt: &R,
+    words: &[String<A>],
+    writer: &mut W,
+) -> Result<u8, Failure<A>>
+    // An unknown word refuses the run, before anything is read or written.
+    ensures unknown { IfSome (find is_unknown (texts words.now))
+        (λ word. IsErrAnd result (IsOfWord word)) }
+    ensures early { IfErr result (λ failure. IsOfWords failure → writer.new ≡ writer.old) }
+    ensures known { find is_unknown (texts words.now) ≡ None →
+        IfErr result (λ failure. ¬ (IsOfWords failure)) }
+    ensures status { IfOk result (λ status. status < 2) }
+{
+    let words = read_words(rt.alloc(), words)?;
+    let mut files = CheckedFiles {
+        alloc: rt.alloc(),
+        env: process_environment(rt)?,
+        writer,
+        found: Found::NOTHING,
+    };
+    if words.files.is_empty() {
+        files.check_default(rt, words.dialect)?;
+    }
+    'files: for name in &words.files {
+        let opened = open(rt, name.as_str(), words.dialect);
+        files.check(name.as_str(), opened)?;
+    }
+    Ok(u8::from(files.found.is_bad(words.strict)))
+}
+
+// The names and values of the process.
+fn process_environment<A: Allocator + Clone, R: Env + Alloc<A = A>>(
+    rt: &R,
+) -> Result<Environment<A>, AllocError> {
+    match Environment::from_process(rt) {
+        Ok(env) => Ok(env),
+        Err(Error::Memory(refused)) => Err(refused),
+        Err(_) => unreachable!(),
+    }
+}
+
+// Opens a file as it is named.
+fn open<A: Allocator + Clone, R: Files + Alloc<A = A>>(
+    rt: &R,
+    name: &str,
+    dialect: Dialect,
+) -> dotenvy::Result<Iter<Plain<R::File>, A>, A> {
+    match File::open(rt, Path::new(name)) {
+        Ok(file) => Iter::with_dialect(rt.alloc(), Plain::new(file), dialect),
+        Err(fault) => Err(or_memory(Error::Io(fault))),
+    }
+}
+
+// The files that were checked: what was found in them, and where it is written.
+#[derive(Drop)]
+struct CheckedFiles<'a, A: Allocator, W: Sink> {
+    alloc: A,
+    env: Environment<A>,
+    writer: &'a mut W,
+    found: Found,
+}
+
+impl<'a, A: Allocator + Clone, W: Sink> CheckedFiles<'a, A, W> {
+    // Checks the `.env` of the current directory, or of the nearest directory above it that has one.
+    fn check_default<R: Files + Env + Alloc<A = A>>(
+        &mut self,
+        rt: &R,
+        dialect: Dialect,
+    ) -> Result<(), Failure<A>>
+        ensures { IfErr result (λ failure. ¬ (IsOfWords failure)) }
+    {
+        match open_filename(rt, Path::new(".env"), dialect) {
+            Ok((path, file)) => {
+                let name = format!(in rt.alloc(); "{}", path.display())?;
+                self.check(name.as_str(), Ok(file))
+            }
+            Err(error) => self.say_unread(".env", &error),
+        }
+    }
+
+    // Checks a file, if it could be opened.
+    fn check<R: Source + Drop>(
+        &mut self,
+        name: &str,
+        file: dotenvy::Result<Iter<R, A>, A>,
+    ) -> Result<(), Failure<A>>
+        ensures { IfErr result (λ failure. ¬ (IsOfWords failure)) }
+    {
+        let file = match file {
+            Ok(file) => file,
+            Err(error) => return self.say_unread(name, &error),
+        };
+        match check(file, name, &self.env, self.writer) {
+            Ok(found) => self.found = self.found.and(found),
+            Err(Stop::Read(fault)) => self.say_unread(name, &fault)?,
+            Err(Stop::Memory(refused)) => self.say_unread(name, &Error::Memory(refused))?,
+            Err(Stop::Write(fault)) => return Err(Failure::Write(fault)),
+        }
+        Ok(())
+    }
+
+    // Writes why a file could not be opened or read.
+    fn say_unread(&mut self, name: &str, error: &Error<A>) -> Result<(), Failure<A>>
+        ensures fault { self.new.found.faults ≡ true }
+        ensures error { IfErr result (λ failure. ¬ (IsOfWords failure)) }
+    {
+        self.found.faults = true;
+        let line = unread_line(&self.alloc, name, error)?;
+        match write_all(self.writer, line.as_bytes(), MOST_WRITES) {
+            Ok(()) => Ok(()),
+            Err(fault) => Err(Failure::Write(fault)),
+        }
+    }
+}
