@@ -91,12 +91,26 @@ pub fn over_lines<R: Source, A: Allocator>(
     }
 }
 
+/// Gives back the reader of an iterator. Bytes that were read and not used are lost.
+pub fn into_reader<R: Source, A: Allocator>(file: Iter<R, A>) -> R
+    ensures calls { (R.told result).calls ≡ file.lines.input.calls }
+    ensures references { (R.told result).references ≡ file.lines.input.references }
+{
+    let Iter {
+        lines,
+        remembered: _,
+        dialect: _,
+        item_lines: _,
+    } = file;
+    lines.into_reader()
+}
+
 impl<R: Source, A: Allocator + Clone> Iter<R, A> {
     /// A fresh iterator over a reader, in the first dialect. Nothing is read yet.
     pub fn new(alloc: A, reader: R) -> Result<Iter<R, A>, A>
     where
         R: Drop,
-        ensures ok { IfOk result (λ s. s ≡ fresh (R.ahead reader) (R.calls reader) Dialect.V15) }
+        ensures ok { IfOk result (λ s. s ≡ fresh (R.told reader) Dialect.V15) }
         ensures memory { IfErr result IsMemory }
     {
         Iter::with_dialect(alloc, reader, Dialect::V15)
@@ -106,7 +120,7 @@ impl<R: Source, A: Allocator + Clone> Iter<R, A> {
     pub fn with_dialect(alloc: A, reader: R, dialect: Dialect) -> Result<Iter<R, A>, A>
     where
         R: Drop,
-        ensures ok { IfOk result (λ s. s ≡ fresh (R.ahead reader) (R.calls reader) dialect) }
+        ensures ok { IfOk result (λ s. s ≡ fresh (R.told reader) dialect) }
         ensures memory { IfErr result IsMemory }
     {
         let lines = Splitter::new(alloc.clone()?, reader)?;
@@ -503,9 +517,9 @@ pub fn from_read<R: Source + Drop, A: Allocator + Clone>(
     reader: R,
     env: &mut Environment<A>,
 ) -> Result<(), A>
-    ensures told { LoadsRest load_result (fresh (R.ahead reader) (R.calls reader) Dialect.V15)
+    ensures told { LoadsRest load_result (fresh (R.told reader) Dialect.V15)
         env.old.names result env.new.names }
-    ensures in_turn { LoadsRest (run Keep) (fresh (R.ahead reader) (R.calls reader) Dialect.V15)
+    ensures in_turn { LoadsRest (run Keep) (fresh (R.told reader) Dialect.V15)
         env.old.names result env.new.names }
     ensures adds { OnlyAdds env.old env.new }
 {
@@ -518,10 +532,10 @@ pub fn from_read_override<R: Source + Drop, A: Allocator + Clone>(
     reader: R,
     env: &mut Environment<A>,
 ) -> Result<(), A>
-    ensures told { LoadsRest override_result (fresh (R.ahead reader) (R.calls reader) Dialect.V15)
+    ensures told { LoadsRest override_result (fresh (R.told reader) Dialect.V15)
         env.old.names result env.new.names }
     ensures in_turn { LoadsRest (run Replace)
-        (fresh (R.ahead reader) (R.calls reader) Dialect.V15) env.old.names result env.new.names }
+        (fresh (R.told reader) Dialect.V15) env.old.names result env.new.names }
     ensures changes { ChangesOnlyKeys env.old env.new }
 {
     Iter::new(alloc, reader)?.load_override(env)
@@ -532,7 +546,7 @@ pub fn from_read_iter<R: Source + Drop, A: Allocator + Clone>(
     alloc: A,
     reader: R,
 ) -> Result<Iter<R, A>, A>
-    ensures ok { IfOk result (λ s. s ≡ fresh (R.ahead reader) (R.calls reader) Dialect.V15) }
+    ensures ok { IfOk result (λ s. s ≡ fresh (R.told reader) Dialect.V15) }
     ensures memory { IfErr result IsMemory }
 {
     Iter::new(alloc, reader)
