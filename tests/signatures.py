@@ -70,7 +70,8 @@ def signature(lines):
             text = text[: end.start()]
             break
     text = without_generics(re.sub(r"^.*?\bfn ", "", text))
-    return re.sub(r",? \)", ")", text.replace("( ", "(").replace("(mut self", "(self"))
+    text = re.sub(r"([(,] ?)mut (?=\w+[:,)])", r"\1", text.replace("( ", "("))
+    return re.sub(r",? \)", ")", text)
 
 
 def calls_of(file, names):

@@ -3,6 +3,7 @@ ghost use Rattle.std.specs.Prelude.{◌≡◌, IfErr, IfOk, None, codes};
 ghost use Rattle.std.specs.Path.{path_bytes, path_buf_bytes};
 ghost use Rattle.dotenvy_base.specs.Errors.{IsFileFault};
 ghost use Rattle.dotenvy_base.specs.Find.{IsPathOf};
+ghost use Rattle.dotenvy_base.specs.Source.{nothing_told};
 ghost use Rattle.dotenvy_items.specs.Iter.{fresh};
 ghost use Rattle.dotenvy_items.specs.LoadsRest.{ChangesOnlyKeys, OnlyAdds};
 
@@ -59,7 +60,7 @@ pub fn from_path_iter<A: Allocator + Clone, R: Files + Alloc<A = A>>(
     rt: &R,
     path: Path<'_>,
 ) -> Result<Iter<Plain<R::File>, A>, A>
-    ensures ok { IfOk result (λ file. file ≡ fresh None None Dialect.V15) }
+    ensures ok { IfOk result (λ file. file ≡ fresh nothing_told Dialect.V15) }
     ensures fault { IfErr result IsFileFault }
 {
     from_read_iter(rt.alloc(), open(rt, path)?)
@@ -133,7 +134,7 @@ pub fn from_filename_iter<A: Allocator + Clone, R: Files + Env + Alloc<A = A>>(
     rt: &R,
     filename: Path<'_>,
 ) -> Result<Iter<Plain<R::File>, A>, A>
-    ensures ok { IfOk result (λ file. file ≡ fresh None None Dialect.V15) }
+    ensures ok { IfOk result (λ file. file ≡ fresh nothing_told Dialect.V15) }
     ensures fault { IfErr result IsFileFault }
 {
     let (_, file) = open_filename(rt, filename, Dialect::V15)?;
@@ -179,7 +180,7 @@ pub fn dotenv_override<A: Allocator + Clone, R: Files + Env + Alloc<A = A>>(
 pub fn dotenv_iter<A: Allocator + Clone, R: Files + Env + Alloc<A = A>>(
     rt: &R,
 ) -> Result<Iter<Plain<R::File>, A>, A>
-    ensures ok { IfOk result (λ file. file ≡ fresh None None Dialect.V15) }
+    ensures ok { IfOk result (λ file. file ≡ fresh nothing_told Dialect.V15) }
     ensures fault { IfErr result IsFileFault }
 {
     from_filename_iter(rt, Path::new(".env"))

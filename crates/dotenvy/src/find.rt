@@ -3,6 +3,7 @@ ghost use Rattle.std.specs.Prelude.{◌≡◌, IfErr, IfOk, None};
 ghost use Rattle.std.specs.Path.{path_bytes, path_buf_bytes};
 ghost use Rattle.dotenvy_base.specs.Errors.{IsFileFault, IsSystemFault};
 ghost use Rattle.dotenvy_base.specs.Find.{IsPathOf};
+ghost use Rattle.dotenvy_base.specs.Source.{nothing_told};
 ghost use Rattle.dotenvy_items.specs.Iter.{fresh};
 
 use dotenvy_base::errors::{Error, Result, or_memory};
@@ -34,7 +35,7 @@ pub fn open_filename<A: Allocator + Clone, R: Files + Env + Alloc<A = A>>(
 ) -> Result<(PathBuf<A>, Iter<Plain<R::File>, A>), A>
     ensures path { IfOk result
         (λ found. IsPathOf (path_bytes filename.entry) (path_buf_bytes found.0)) }
-    ensures file { IfOk result (λ found. found.1 ≡ fresh None None dialect) }
+    ensures file { IfOk result (λ found. found.1 ≡ fresh nothing_told dialect) }
     ensures fault { IfErr result IsFileFault }
 {
     match search_and_open(rt, filename, dialect) {
@@ -51,7 +52,7 @@ fn search_and_open<A: Allocator + Clone, R: Files + Env + Alloc<A = A>>(
 ) -> Result<(PathBuf<A>, Iter<Plain<R::File>, A>), A>
     ensures path { IfOk result
         (λ found. IsPathOf (path_bytes filename.entry) (path_buf_bytes found.0)) }
-    ensures file { IfOk result (λ found. found.1 ≡ fresh None None dialect) }
+    ensures file { IfOk result (λ found. found.1 ≡ fresh nothing_told dialect) }
     ensures fault { IfErr result IsSystemFault }
 {
     let directory = env::current_dir(rt)?;

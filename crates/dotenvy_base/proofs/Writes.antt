@@ -14,7 +14,7 @@ use Rattle.std.specs.contracts.io.ErrorKind.{the_type}
 use denote.Enum.Bare.{sameb, differs_true, differs_false}
 use Rattle.dotenvy_base.specs.declared.errors.Error.TheVariants.{Io}
 use Rattle.dotenvy_base.specs.Calls.{Call, TellsCall, call_of, MayGoOn, AllMayGoOn, OnlyLastEnds}
-use Rattle.dotenvy_base.specs.Source.{WriteAppends, fault_after}
+use Rattle.dotenvy_base.specs.Source.{SinkTold, WriteAppends, fault_after}
 use Rattle.dotenvy_base.specs.Output.{Appended, IsFaultOf, IsLastFault, Sends}
 use Rattle.dotenvy_base.proofs.CallLists.{all_of_both, ends_behind}
 
@@ -80,21 +80,21 @@ made_more before mid after count call made tells goes all is =
     )
 
 -- what was sent so far, in so many writes that did not end the call
-pub record Sending (held now_held : Option (List ℕ)) (last now_last : Option ErrorKind) (calls now_calls : Option
-    (List Call)) (bytes rest : List ℕ) (count : ℕ) : Type 0 where
+pub record Sending (before now : SinkTold) (bytes rest : List ℕ) (count : ℕ) : Type 0 where
   pub front : List ℕ
   pub cut : bytes ≡ front ++ rest
-  pub appended : Appended held now_held front
-  pub taken : last ≡ None → (now_last ≡ Some Interrupted) ⊎ ((now_last ≡ None) × (count ≤ length front))
-  pub made : AllMade calls now_calls count
+  pub appended : Appended before.held now.held front
+  pub taken :
+      before.last_fault ≡ None →
+      (now.last_fault ≡ Some Interrupted) ⊎ ((now.last_fault ≡ None) × (count ≤ length front))
+  pub made : AllMade before.calls now.calls count
 
 -- nothing was sent yet
-pub sending_start : (held : Option (List ℕ)) (last : Option ErrorKind) (calls : Option (List Call))
-    (bytes : List ℕ) → Sending held held last last calls calls bytes bytes 0
-sending_start held last calls bytes = record {
+pub sending_start : (told : SinkTold) (bytes : List ℕ) → Sending told told bytes bytes 0
+sending_start told bytes = record {
   front = [];
   cut = refl;
-  appended = appended_none held;
+  appended = appended_none told.held;
   taken = λ none. inr (none, omega arith);
   made = λ all is. (all, [], is, sym (append-nil all), refl, tt);
 }
@@ -105,19 +105,17 @@ positive zero some = absurd (some refl)
 positive (suc n) some = omega arith
 
 -- a write that took some bytes sends these, and leaves the others
-pub sending_more : (held mid after : Option (List ℕ)) (last mid_last after_last : Option ErrorKind)
-    (calls mid_calls after_calls : Option (List Call)) (bytes rest : List ℕ) (count n : ℕ) →
-    Sending held mid last mid_last calls mid_calls bytes rest count → WriteAppends mid after (Ok n) rest →
-    after_last ≡ fault_after mid_last rest (Ok n) →
-    TellsCall mid_calls after_calls (call_of (length rest) (Ok n)) → n ≢ 0 → n ≤ length rest →
-    Sending held after last after_last calls after_calls bytes (drop n rest) (count + 1)
-sending_more held mid after last mid_last after_last calls mid_calls after_calls bytes rest count n s write told
-    tells some within =
-    let same = told ∙ fault_kept mid_last rest n some in record {
+pub sending_more : (before mid after : SinkTold) (bytes rest : List ℕ) (count n : ℕ) →
+    Sending before mid bytes rest count → WriteAppends mid.held after.held (Ok n) rest →
+    after.last_fault ≡ fault_after mid.last_fault rest (Ok n) →
+    TellsCall mid.calls after.calls (call_of (length rest) (Ok n)) → n ≢ 0 → n ≤ length rest →
+    Sending before after bytes (drop n rest) (count + 1)
+sending_more before mid after bytes rest count n s write told tells some within =
+    let same = told ∙ fault_kept mid.last_fault rest n some in record {
       front = s.front ++ take n rest;
       cut = s.cut ∙ ap (λ l. s.front ++ l) (sym (take-append-drop n rest))
           ∙ sym (append_assoc s.front (take n rest) (drop n rest));
-      appended = appended_more held mid after s.front rest n s.appended write;
+      appended = appended_more before.held mid.held after.held s.front rest n s.appended write;
       taken = λ none. elim (s.taken none) [
         | inl interrupted ↦ inl (same ∙ interrupted)
         | inr h ↦ inr (
@@ -126,7 +124,7 @@ sending_more held mid after last mid_last after_last calls mid_calls after_calls
               omega (arith, c, within, p, length-append s.front (take n rest), length-take-le n rest within),
         )
       ];
-      made = made_more calls mid_calls after_calls count (call_of (length rest) (Ok n)) s.made tells some;
+      made = made_more before.calls mid.calls after.calls count (call_of (length rest) (Ok n)) s.made tells some;
     }
 
 -- after a write of some bytes that was interrupted, the last fault is an interruption
@@ -137,20 +135,19 @@ interrupted_last mid_last after_last rest e some interrupted told = told ∙ fau
     ∙ ap Some interrupted
 
 -- a write that was interrupted sends nothing, and leaves all that was left
-pub sending_again : (held mid after : Option (List ℕ)) (last mid_last after_last : Option ErrorKind)
-    (calls mid_calls after_calls : Option (List Call)) (bytes rest : List ℕ) (count : ℕ) (e : Error) →
-    Sending held mid last mid_last calls mid_calls bytes rest count → WriteAppends mid after (Err e) rest →
-    after_last ≡ fault_after mid_last rest (Err e) →
-    TellsCall mid_calls after_calls (call_of (length rest) (Err e)) → rest ≢ [] → error_kind e ≡ Interrupted →
-    Sending held after last after_last calls after_calls bytes rest (count + 1)
-sending_again held mid after last mid_last after_last calls mid_calls after_calls bytes rest count e s write told
-    tells some interrupted = record {
-      front = s.front;
-      cut = s.cut;
-      appended = appended_same held mid after s.front rest e s.appended write;
-      taken = λ none. inl (interrupted_last mid_last after_last rest e some interrupted told);
-      made = made_more calls mid_calls after_calls count (call_of (length rest) (Err e)) s.made tells interrupted;
-    }
+pub sending_again : (before mid after : SinkTold) (bytes rest : List ℕ) (count : ℕ) (e : Error) →
+    Sending before mid bytes rest count → WriteAppends mid.held after.held (Err e) rest →
+    after.last_fault ≡ fault_after mid.last_fault rest (Err e) →
+    TellsCall mid.calls after.calls (call_of (length rest) (Err e)) → rest ≢ [] → error_kind e ≡ Interrupted →
+    Sending before after bytes rest (count + 1)
+sending_again before mid after bytes rest count e s write told tells some interrupted = record {
+  front = s.front;
+  cut = s.cut;
+  appended = appended_same before.held mid.held after.held s.front rest e s.appended write;
+  taken = λ none. inl (interrupted_last mid.last_fault after.last_fault rest e some interrupted told);
+  made = made_more before.calls mid.calls after.calls count
+      (call_of (length rest) (Err e)) s.made tells interrupted;
+}
 
 -- where another call may follow each of these, another may follow each but the last
 all_in_turn : (calls : List Call) → AllMayGoOn calls → OnlyLastEnds calls
@@ -159,12 +156,11 @@ all_in_turn (call ∷ []) all = tt
 all_in_turn (call ∷ next ∷ calls) (goes, all) = (goes, all_in_turn (next ∷ calls) all)
 
 -- where all was sent, within the bound on writes, the call has sent its bytes
-pub sends_all : {A W : Type 0} (held : W → Option (List ℕ)) (last_fault : W → Option ErrorKind) (calls : W →
-    Option (List Call)) (most : ℕ) (old new : W) (bytes rest : List ℕ) (count : ℕ) →
-    Sending (held old) (held new) (last_fault old) (last_fault new) (calls old) (calls new) bytes rest count →
+pub sends_all : {A W : Type 0} (sink : W → SinkTold) (most : ℕ) (old new : W) (bytes rest : List ℕ) (count : ℕ) →
+    Sending (sink old) (sink new) bytes rest count →
     rest ≡ [] → count ≤ most →
-    Sends {A = A} held last_fault calls most old new bytes (Ok tt)
-sends_all held last_fault calls most old new bytes rest count s empty few = record {
+    Sends {A = A} sink most old new bytes (Ok tt)
+sends_all sink most old new bytes rest count s empty few = record {
   front = s.front;
   rest = rest;
   cut = s.cut;
@@ -187,12 +183,12 @@ sends_all held last_fault calls most old new bytes rest count s empty few = reco
 }
 
 -- where no write was left and some bytes were, the call returns an error of kind Other
-pub sends_none_left : {A W : Type 0} (held : W → Option (List ℕ)) (last_fault : W → Option ErrorKind) (calls : W →
-    Option (List Call)) (most : ℕ) (old new : W) (bytes rest : List ℕ) (count : ℕ) (e : Error) →
-    Sending (held old) (held new) (last_fault old) (last_fault new) (calls old) (calls new) bytes rest count →
+pub sends_none_left : {A W : Type 0} (sink : W → SinkTold) (most : ℕ) (old new : W) (bytes rest : List ℕ) (count : ℕ)
+    (e : Error) →
+    Sending (sink old) (sink new) bytes rest count →
     count ≡ most → rest ≢ [] → error_kind e ≡ Other →
-    Sends {A = A} held last_fault calls most old new bytes (Err (Io e))
-sends_none_left held last_fault calls most old new bytes rest count e s all some other = record {
+    Sends {A = A} sink most old new bytes (Err (Io e))
+sends_none_left sink most old new bytes rest count e s all some other = record {
   front = s.front;
   rest = rest;
   cut = s.cut;
@@ -222,14 +218,14 @@ sends_none_left held last_fault calls most old new bytes rest count e s all some
 }
 
 -- a write ended the call
-sends_fault : {A W : Type 0} (held : W → Option (List ℕ)) (last_fault : W → Option ErrorKind) (calls : W →
-    Option (List Call)) (most : ℕ) (old mid new : W) (bytes rest : List ℕ) (count : ℕ) (call : Call) (e : Error) →
-    (s : Sending (held old) (held mid) (last_fault old) (last_fault mid) (calls old)
-    (calls mid) bytes rest count) → count < most → rest ≢ [] →
-    Appended (held old) (held new) s.front → TellsCall (calls mid) (calls new) call → IsFaultOf call.answer e →
-    IsLastFault (last_fault new) e →
-    Sends {A = A} held last_fault calls most old new bytes (Err (Io e))
-sends_fault held last_fault calls most old mid new bytes rest count call e s few some appended tells fault last =
+sends_fault : {A W : Type 0} (sink : W → SinkTold) (most : ℕ) (old mid new : W) (bytes rest : List ℕ) (count : ℕ)
+    (call : Call) (e : Error) →
+    (s : Sending (sink old) (sink mid) bytes rest count) → count < most → rest ≢ [] →
+    Appended (sink old).held (sink new).held s.front → TellsCall (sink mid).calls (sink new).calls call →
+    IsFaultOf call.answer e →
+    IsLastFault (sink new).last_fault e →
+    Sends {A = A} sink most old new bytes (Err (Io e))
+sends_fault sink most old mid new bytes rest count call e s few some appended tells fault last =
     record {
       front = s.front;
       rest = rest;
@@ -253,17 +249,20 @@ sends_fault held last_fault calls most old mid new bytes rest count call e s few
     }
 
 -- where a write failed and was not interrupted, the call returns that error
-pub sends_failed : {A W : Type 0} (held : W → Option (List ℕ)) (last_fault : W → Option ErrorKind) (calls : W →
-    Option (List Call)) (most : ℕ) (old mid new : W) (bytes rest : List ℕ) (count : ℕ) (e : Error) →
-    Sending (held old) (held mid) (last_fault old) (last_fault mid) (calls old) (calls mid) bytes rest count →
+pub sends_failed : {A W : Type 0} (sink : W → SinkTold) (most : ℕ) (old mid new : W) (bytes rest : List ℕ) (count : ℕ)
+    (e : Error) →
+    Sending (sink old) (sink mid) bytes rest count →
     count < most →
-    WriteAppends (held mid) (held new) (Err e) rest → last_fault new ≡ fault_after (last_fault mid) rest (Err e) →
-    TellsCall (calls mid) (calls new) (call_of (length rest) (Err e)) → rest ≢ [] → error_kind e ≢ Interrupted →
-    Sends {A = A} held last_fault calls most old new bytes (Err (Io e))
-sends_failed held last_fault calls most old mid new bytes rest count e s few write told tells some differs =
-    sends_fault held last_fault calls most old mid new bytes rest count (call_of (length rest) (Err e)) e s few some
-    (appended_same (held old) (held mid) (held new) s.front rest e s.appended write) tells (differs, refl)
-    (told ∙ fault_told (last_fault mid) rest e some, differs)
+    WriteAppends (sink mid).held (sink new).held (Err e) rest → (sink new).last_fault ≡ fault_after
+    (sink mid).last_fault rest (Err e) →
+    TellsCall (sink mid).calls (sink new).calls (call_of (length rest) (Err e)) → rest ≢ [] →
+    error_kind e ≢ Interrupted →
+    Sends {A = A} sink most old new bytes (Err (Io e))
+sends_failed sink most old mid new bytes rest count e s few write told tells some differs =
+    sends_fault sink most old mid new bytes rest count (call_of (length rest) (Err e)) e s few some
+    (appended_same (sink old).held (sink mid).held (sink new).held s.front rest e s.appended write) tells
+    (differs, refl)
+    (told ∙ fault_told (sink mid).last_fault rest e some, differs)
 
 -- after a write that took none of some bytes, the last fault is WriteZero
 zero_told : (last : Option ErrorKind) (xs : List ℕ) → xs ≢ [] → fault_after last xs (Ok 0) ≡ Some WriteZero
@@ -271,18 +270,19 @@ zero_told last [] some = absurd (some refl)
 zero_told last (x ∷ xs) some = refl
 
 -- where a write took nothing, the call answers WriteZero
-pub sends_zero : {A W : Type 0} (held : W → Option (List ℕ)) (last_fault : W → Option ErrorKind) (calls : W →
-    Option (List Call)) (most : ℕ) (old mid new : W) (bytes rest : List ℕ) (count : ℕ) (e : Error) →
-    Sending (held old) (held mid) (last_fault old) (last_fault mid) (calls old) (calls mid) bytes rest count →
+pub sends_zero : {A W : Type 0} (sink : W → SinkTold) (most : ℕ) (old mid new : W) (bytes rest : List ℕ) (count : ℕ)
+    (e : Error) →
+    Sending (sink old) (sink mid) bytes rest count →
     count < most →
-    WriteAppends (held mid) (held new) (Ok 0) rest → last_fault new ≡ fault_after (last_fault mid) rest (Ok 0) →
-    TellsCall (calls mid) (calls new) (call_of (length rest) (Ok 0)) → rest ≢ [] → error_kind e ≡ WriteZero →
-    Sends {A = A} held last_fault calls most old new bytes (Err (Io e))
-sends_zero held last_fault calls most old mid new bytes rest count e s few write told tells some kind =
-    let appended = appended_more (held old) (held mid) (held new) s.front rest 0 s.appended write in
-    sends_fault held last_fault calls most old mid new bytes rest count (call_of (length rest) (Ok 0)) e s few some
-    (subst (Appended (held old) (held new)) (append-nil s.front) appended) tells (refl, kind) (
-      told ∙ zero_told (last_fault mid) rest some
+    WriteAppends (sink mid).held (sink new).held (Ok 0) rest → (sink new).last_fault ≡ fault_after
+    (sink mid).last_fault rest (Ok 0) →
+    TellsCall (sink mid).calls (sink new).calls (call_of (length rest) (Ok 0)) → rest ≢ [] → error_kind e ≡ WriteZero →
+    Sends {A = A} sink most old new bytes (Err (Io e))
+sends_zero sink most old mid new bytes rest count e s few write told tells some kind =
+    let appended = appended_more (sink old).held (sink mid).held (sink new).held s.front rest 0 s.appended write in
+    sends_fault sink most old mid new bytes rest count (call_of (length rest) (Ok 0)) e s few some
+    (subst (Appended (sink old).held (sink new).held) (append-nil s.front) appended) tells (refl, kind) (
+      told ∙ zero_told (sink mid).last_fault rest some
           ∙ ap Some (sym kind),
       λ same. (let f : WriteZero ≡ Interrupted = sym kind ∙ same in cc),
     )

@@ -8,6 +8,7 @@ use Rattle.std.specs.declared.io.ErrorKind.TheVariants.{Interrupted, Other, Writ
 use Rattle.dotenvy_base.specs.declared.errors.Error.{Error}
 use Rattle.dotenvy_base.specs.Errors.{IsMemory, IsIoOf}
 use Rattle.dotenvy_base.specs.Calls.{Call, AllMayGoOn, OnlyLastEnds}
+use Rattle.dotenvy_base.specs.Source.{SinkTold}
 
 -- these bytes were appended to a sink, if what it holds is specified
 abbrev pub Appended : Option (List ℕ) → Option (List ℕ) → List ℕ → Type 0
@@ -56,26 +57,25 @@ AsksWrites most before after answer =
     × MakesWrites most made answer
 
 -- a call sends bytes to a sink, in so many writes at most: all of them if it returns Ok, else only a first part
-pub record Sends {A W : Type 0} (held : W → Option (List ℕ)) (last_fault : W → Option ErrorKind)
-    (calls : W → Option (List Call)) (most : ℕ) (old new : W) (bytes : List ℕ)
+pub record Sends {A W : Type 0} (told : W → SinkTold) (most : ℕ) (old new : W) (bytes : List ℕ)
     (answer : Result (Unit {0}) (Error A)) : Type 0 where
   pub front : List ℕ
   pub rest : List ℕ
   pub cut : bytes ≡ front ++ rest
-  pub appended : Appended (held old) (held new) front
+  pub appended : Appended (told old).held (told new).held front
   pub whole : OnOk answer (rest ≡ [])
   pub unsent : OnErr answer (rest ≢ [])
   pub fault : IfErr answer
-      (IsIoOf (IsWriteFault most (length front) (last_fault old) (last_fault new)))
-  pub asks : AsksWrites most (calls old) (calls new) answer
+      (IsIoOf
+      (IsWriteFault most (length front) (told old).last_fault (told new).last_fault))
+  pub asks : AsksWrites most (told old).calls (told new).calls answer
 
 -- the most writes that one call makes
 abbrev pub most_writes : ℕ
 most_writes = 2 ^ 32
 
 -- a call builds the bytes and then sends them to a sink; if an allocation fails, the sink is unchanged
-abbrev pub Writes : {A W : Type 0} → (W → Option (List ℕ)) → (W → Option ErrorKind) →
-    (W → Option (List Call)) → W → W → List ℕ → Result (Unit {0}) (Error A) → Type 0
-Writes held last_fault calls old new bytes answer =
-    (IsErrAnd answer IsMemory × (new ≡ old))
-    ⊎ Sends held last_fault calls most_writes old new bytes answer
+abbrev pub Writes : {A W : Type 0} → (W → SinkTold) → W → W → List ℕ →
+    Result (Unit {0}) (Error A) → Type 0
+Writes told old new bytes answer =
+    (IsErrAnd answer IsMemory × (new ≡ old)) ⊎ Sends told most_writes old new bytes answer

@@ -8,6 +8,7 @@ use Rattle.std.specs.declared.io.ErrorKind.{ErrorKind}
 use Rattle.std.specs.declared.io.ErrorKind.TheVariants.{WriteZero}
 use Rattle.std.specs.contracts.io.ErrorKind as kind
 use Rattle.std.specs.Coded.{Coded, code_by, coded×, coded_ℕ, coded_list, coded_option}
+use Rattle.dotenvy_base.specs.Calls.{Call}
 use Rattle.dotenvy_base.specs.declared.source.Plain.{Plain}
 
 -- what is still to be read: the bytes up to the end, or up to the first read that fails, with the kind of its error
@@ -21,6 +22,28 @@ ahead_code =
     code_by (List ℕ × Option ErrorKind)
     (coded× (coded_list coded_ℕ) (coded_option kind.the_row.coded)) (λ a. (a.bytes, a.fault))
     (λ p. record { bytes = p.0; fault = p.1 }) (λ _. refl)
+
+-- what a source specifies of itself: what is still to be read; the calls that were made on it so
+-- far; and through which references it is read, the outermost first, by their ghost names
+pub record Told : Type 0 where
+  pub ahead : Option Ahead
+  pub calls : Option (List Call)
+  pub references : List ℕ
+
+-- nothing is specified, and the source is no reference
+abbrev pub nothing_told : Told
+nothing_told = record { ahead = None; calls = None; references = [] }
+
+-- a reference with this name specifies what the source behind it does
+abbrev pub told_through : ℕ → Told → Told
+told_through name told = record told { references = name ∷ told.references }
+
+-- what a sink specifies of itself: what it holds; the kind of the last error of a write; and the
+-- calls that were made on it so far
+pub record SinkTold : Type 0 where
+  pub held : Option (List ℕ)
+  pub last_fault : Option ErrorKind
+  pub calls : Option (List Call)
 
 -- a read with the result r takes the next bytes; it returns 0 only at the end, and fails only when the fault is next
 abbrev pub ReadsFront : Ahead → Option Ahead → Result ℕ Error → List ℕ → Type 0

@@ -21,7 +21,7 @@ pub fn write_all<W: Sink, A: Allocator>(
     bytes: &[u8],
     writes_left: u64,
 ) -> Result<(), A>
-    ensures { Sends W.held W.last_fault W.calls writes_left writer.old writer.new bytes.now result }
+    ensures { Sends W.told writes_left writer.old writer.new bytes.now result }
 {
     let mut rest = bytes;
     'writes: for _ in 0..writes_left {

@@ -4,7 +4,7 @@ ghost use Rattle.std.specs.Prelude.{◌≡◌, ◌≤◌, ℕ, List, [], Option,
 ghost use Rattle.std.specs.declared.io.ErrorKind.{ErrorKind};
 ghost use Rattle.std.specs.Io.KnownBytes.{ReadConsumes};
 ghost use Rattle.dotenvy_base.specs.Calls.{Call, TellsCall, call_of};
-ghost use Rattle.dotenvy_base.specs.Source.{Ahead, ReadsAhead, WriteAppends, fault_after, plain_inner, plain_fault};
+ghost use Rattle.dotenvy_base.specs.Source.{SinkTold, Told, ReadsAhead, WriteAppends, fault_after, nothing_told, plain_inner, plain_fault, told_through};
 
 use std::io;
 use std::io::{ErrorKind, Read, Write};
@@ -12,17 +12,16 @@ use std::io::{ErrorKind, Read, Write};
 /// What environment files are read from.
 ///
 /// Wrap a reader of std in [`Plain`], and a slice of bytes in [`Bytes`]. An implementation may specify, for contracts
-/// alone, its bytes up to its end or up to the first read that fails (`ahead`), and the calls made on it so far with
-/// their results (`calls`). Then contracts say what is read from it. A source that specifies neither can still be read.
+/// alone and as `told`, its bytes up to its end or up to the first read that fails, the calls made on it so far with
+/// their results, and which reference it is, if it is one. Then contracts say what is read from it. A source that
+/// specifies nothing can still be read.
 ///
 /// ```
 /// let mut source = Bytes::new(b"HOST=db.local\n");
 /// let read = source.read_some(&mut buffer)?;
 /// ```
 pub trait Source {
-    ghost ahead: { Self → Option Ahead } = { λ _. None };
-
-    ghost calls: { Self → Option (List Call) } = { λ _. None };
+    ghost told: { Self → Told } = { λ _. nothing_told };
 
     /// Reads some bytes to the start of `buf` and returns how many, as `std::io::Read::read` does.
     ///
@@ -30,27 +29,24 @@ pub trait Source {
     /// kind `Interrupted` may be tried again.
     fn read_some(&mut self, buf: &mut [u8]) -> io::Result<usize>
         ensures bound { IfOk result (λ n. n ≤ length buf.new) }
-        ensures bytes { ReadsAhead (ahead self.old) (ahead self.new) result buf.new }
-        ensures calls { TellsCall (calls self.old) (calls self.new)
-            (call_of (length buf.old) result) };
+        ensures bytes { ReadsAhead (told self.old).ahead (told self.new).ahead result buf.new }
+        ensures calls { TellsCall (told self.old).calls (told self.new).calls
+            (call_of (length buf.old) result) }
+        ensures same { (told self.new).references ≡ (told self.old).references };
 }
 
 /// What pairs are written to.
 ///
-/// Wrap a writer of std in [`Plain`]. An implementation specifies, for contracts alone, the kind of the last error of a
-/// write (`last_fault`). It may also specify the bytes that it holds (`held`), and the calls made on it so far with
-/// their results (`calls`). Then contracts say what each write appends.
+/// Wrap a writer of std in [`Plain`]. An implementation specifies, for contracts alone and as `told`, the kind of the
+/// last error of a write. It may also specify the bytes that it holds, and the calls made on it so far with their
+/// results. Then contracts say what each write appends.
 ///
 /// ```
 /// let mut sink = Plain::new(file);
 /// write_pair(alloc, &mut sink, "HOST", "db.local")?;
 /// ```
 pub trait Sink {
-    ghost held: { Self → Option (List ℕ) } = { λ _. None };
-
-    ghost last_fault: { Self → Option ErrorKind };
-
-    ghost calls: { Self → Option (List Call) } = { λ _. None };
+    ghost told: { Self → SinkTold };
 
     /// Writes some bytes from the start of `buf` and returns how many, as `std::io::Write::write` does.
     ///
@@ -58,17 +54,16 @@ pub trait Sink {
     /// an interruption counts as an error, too.
     fn write_some(&mut self, buf: &[u8]) -> io::Result<usize>
         ensures bound { IfOk result (λ n. n ≤ length buf.now) }
-        ensures bytes { WriteAppends (held self.old) (held self.new) result buf.now }
-        ensures fault { last_fault self.new ≡ fault_after (last_fault self.old) buf.now result }
-        ensures calls { TellsCall (calls self.old) (calls self.new)
+        ensures bytes { WriteAppends (told self.old).held (told self.new).held result buf.now }
+        ensures fault { (told self.new).last_fault
+            ≡ fault_after (told self.old).last_fault buf.now result }
+        ensures calls { TellsCall (told self.old).calls (told self.new).calls
             (call_of (length buf.now) result) };
 }
 
 /// A borrowed source: what is read from it is read from the source itself, which its owner keeps.
 impl<'a, R: Source> Source for &'a mut R {
-    ghost ahead = { λ s. R.ahead s.now };
-
-    ghost calls = { λ s. R.calls s.now };
+    ghost told = { λ s. told_through s.ghost_name (R.told s.now) };
 
     fn read_some(&mut self, buf: &mut [u8]) -> io::Result<usize> {
         (**self).read_some(buf)
@@ -103,7 +98,12 @@ impl<'a> Bytes<'a> {
 }
 
 impl<'a> Source for Bytes<'a> {
-    ghost ahead = { λ s. Some (record { bytes = s; fault = None }) };
+    ghost told = { λ s.
+        record {
+          ahead = Some (record { bytes = s; fault = None });
+          calls = None;
+          references = [];
+        } };
 
     fn read_some(&mut self, buf: &mut [u8]) -> io::Result<usize> {
         let n = self.rest.len().min(buf.len());
@@ -164,9 +164,12 @@ impl<T: Read> Source for Plain<T> {
 }
 
 impl<T: Write> Sink for Plain<T> {
-    ghost held = { λ s. T.contents s.inner };
-
-    ghost last_fault = { plain_fault };
+    ghost told = { λ s.
+        record {
+          held = T.contents s.inner;
+          last_fault = plain_fault s;
+          calls = None;
+        } };
 
     fn write_some(&mut self, buf: &[u8]) -> io::Result<usize> {
         let outcome = self.inner.write(buf);

@@ -1,6 +1,7 @@
 //! What the program does once it has its words, over any reader, writer and runtime.
 
 ghost use Rattle.std.specs.Prelude.{◌≡◌, ◌≢◌, ◌⊎◌, [], Err, IfErr, IsErrAnd, Ok, false, true};
+ghost use Rattle.dotenvy.specs.Input.{ReadsBetween};
 ghost use Rattle.dotenvy.specs.Iter.{fresh};
 ghost use Rattle.dotenvy.specs.Listed.{Lists};
 ghost use Rattle.dotenvy_command.specs.Answers.{texts};
@@ -11,7 +12,8 @@ use crate::command_line::{CommandLine, command_line};
 use crate::failure::{Failure, Usage};
 use crate::prepared::Starter;
 use crate::start::start;
-use dotenvy::{Dialect, Environment, Sink, Source, list_with};
+use dotenvy::{Dialect, Environment, Sink, Source};
+use dotenvy_items::written::list_lent;
 use env_layers::Layers;
 use std::alloc::{Alloc, Allocator};
 use std::env::Env;
@@ -39,8 +41,12 @@ pub fn run<A: Allocator + Clone, R: Files + Env + Starter + Alloc<A = A>, S: Sou
     // A list is that of the reader, in the dialect that the words ask for.
     ensures lists { (line : Line) → HasUsage (texts words.now) (Ok line) → line.list ≡ true
         → IsEarly result
-        ⊎ EndsAs (Lists (fresh (S.ahead reader.old) (S.calls reader.old) line.dialect)
-        W.held W.last_fault W.calls writer.old writer.new) result }
+        ⊎ EndsAs (Lists (fresh (S.told reader.old) line.dialect)
+        W.told writer.old writer.new) result }
+
+    // These reads are made of it, whatever comes of the list.
+    ensures reads { (line : Line) → HasUsage (texts words.now) (Ok line) → line.list ≡ true
+        → ReadsBetween (S.told reader.old) (S.told reader.new) }
 
     // A run of a command leaves the reader and the writer unchanged.
     ensures command { (line : Line) → HasUsage (texts words.now) (Ok line) → line.list ≡ false
@@ -66,10 +72,11 @@ fn list<A: Allocator + Clone, S: Source, W: Sink>(
     writer: &mut W,
     dialect: Dialect,
 ) -> Result<u8, Failure<A>>
-    ensures { EndsAs (Lists (fresh (S.ahead reader.old) (S.calls reader.old) dialect)
-        W.held W.last_fault W.calls writer.old writer.new) result }
+    ensures lists { EndsAs (Lists (fresh (S.told reader.old) dialect)
+        W.told writer.old writer.new) result }
+    ensures reads { ReadsBetween (S.told reader.old) (S.told reader.new) }
 {
-    list_with(alloc, reader, writer, dialect)?;
+    list_lent(alloc, reader, writer, dialect)?;
     Ok(0)
 }
 

@@ -1,5 +1,5 @@
 -- The items that calls give one after another are those of the definition.
-use Rattle.std.proofs.Common.{◌≡◌, ℕ, List, [], ◌∷◌, ◌++◌, length, length-append, append_assoc, Option}
+use Rattle.std.proofs.Common.{◌≡◌, ℕ, List, [], ◌∷◌, ◌++◌, length, length-append, append_assoc}
 use Rattle.std.proofs.Common.{Some, None, Ok, Err, refl, sym, ◌∙◌, ap, subst, inl, inr, ⊎_elim}
 use Rattle.std.proofs.Common.{arith}
 use Rattle.std.specs.Prelude.{unwrap_or, bytes_eq, option_map}
@@ -20,8 +20,7 @@ use Rattle.dotenvy_items.specs.Meaning.{values_of, recalled_of}
 use Rattle.std.specs.IoError.{error_kind}
 use Rattle.dotenvy_format.specs.Decided.{HasDecided}
 use Rattle.dotenvy_lines.specs.declared.lines.Stage.{Stage}
-use Rattle.dotenvy_base.specs.Calls.{Call}
-use Rattle.dotenvy_base.specs.Source.{Ahead}
+use Rattle.dotenvy_base.specs.Source.{Ahead, Told}
 use Rattle.dotenvy_lines.specs.Input.{InputState, IsFinal, end_reads}
 use Rattle.dotenvy_lines.specs.Lines.{FailsFor}
 use Rattle.dotenvy_lines.specs.Reading.{HasEntriesLeft, told_fault, certain_bytes}
@@ -261,10 +260,10 @@ items_go_on s a names entries given can has gives granted =
     ]
 
 -- a fresh iterator can read what its source tells
-pub can_read_fresh : (dialect : Dialect) (a : Ahead) (calls : Option (List Call)) → IsReadable a →
-    CanRead (fresh (Some a) calls dialect) a
-can_read_fresh dialect a calls can =
-    let few = can.few in record { is_open = refl; is_told = (refl, can.not_interrupted); few = omega (arith, few) }
+pub can_read_fresh : (dialect : Dialect) (told : Told) (a : Ahead) → told.ahead ≡ Some a → IsReadable a →
+    CanRead (fresh told dialect) a
+can_read_fresh dialect told a is can =
+    let few = can.few in record { is_open = refl; is_told = (is, can.not_interrupted); few = omega (arith, few) }
 
 -- a fresh iterator remembers nothing
 recalled-empty : (n : List ℕ) → text_of (recalled_of empty) n ≡ text_of no_values n
@@ -272,26 +271,24 @@ recalled-empty n =
     ap (λ o. unwrap_or (option_map chars (option_flatten o)) []) (get-empty (slice_cmp nat_cmp) (encode_utf8_all n))
 
 -- a fresh iterator gives the items of what its source tells
-pub items_in_order : {A : Type 0} (dialect : Dialect) (a : Ahead) (calls : Option (List Call)) (names : Texts)
-    (entries : List Entry)
-    (given : List (Item A)) → IsReadable a → HasEntriesLeft dialect a.fault a.bytes entries →
-    GivesItems names (fresh (Some a) calls dialect) given → NoneRefused given →
+pub items_in_order : {A : Type 0} (dialect : Dialect) (told : Told) (a : Ahead) (names : Texts)
+    (entries : List Entry) (given : List (Item A)) → told.ahead ≡ Some a → IsReadable a →
+    HasEntriesLeft dialect a.fault a.bytes entries →
+    GivesItems names (fresh told dialect) given → NoneRefused given →
     SayItems given (items (values_of names) (entries ++ told_fault a.fault))
-items_in_order dialect a calls names entries given can has gives granted =
+items_in_order dialect told a names entries given is can has gives granted =
     subst (SayItems given) (items_from-texts (values_of names) (recalled_of empty) no_values
     (entries ++ told_fault a.fault) recalled-empty)
-    (items_go_on (fresh (Some a) calls dialect) a names entries given (can_read_fresh dialect a calls can) has gives
-    granted)
+    (items_go_on (fresh told dialect) a names entries given (can_read_fresh dialect told a is can) has gives granted)
 
 -- two runs over what a source tells give the same items
-pub give_the_same : {A : Type 0} (dialect : Dialect) (a : Ahead) (calls other_calls : Option (List Call))
-    (names : Texts)
-    (given others : List (Item A)) → IsReadable a → GivesItems names (fresh (Some a) calls dialect) given →
-    NoneRefused given →
-    GivesItems names (fresh (Some a) other_calls dialect) others → NoneRefused others → SayTheSame given others
-give_the_same dialect a calls other_calls names given others can gives granted gives' granted' =
+pub give_the_same : {A : Type 0} (dialect : Dialect) (told other : Told) (a : Ahead) (names : Texts)
+    (given others : List (Item A)) → told.ahead ≡ Some a → other.ahead ≡ Some a → IsReadable a →
+    GivesItems names (fresh told dialect) given → NoneRefused given →
+    GivesItems names (fresh other dialect) others → NoneRefused others → SayTheSame given others
+give_the_same dialect told other a names given others is is' can gives granted gives' granted' =
     let has = left_exists dialect a.fault a.bytes in (
       items (values_of names) (has.0 ++ told_fault a.fault),
-      items_in_order dialect a calls names has.0 given can has.1 gives granted,
-      items_in_order dialect a other_calls names has.0 others can has.1 gives' granted',
+      items_in_order dialect told a names has.0 given is can has.1 gives granted,
+      items_in_order dialect other a names has.0 others is' can has.1 gives' granted',
     )

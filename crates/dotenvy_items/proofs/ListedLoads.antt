@@ -9,7 +9,6 @@ use Rattle.std.specs.Cmp.Lexicographic.{slice_cmp}
 use Rattle.std.specs.Option.{option_flatten}
 use Rattle.std.proofs.lemmas.Bool.{true≢false}
 use Rattle.std.proofs.lemmas.Str.{encodes-chars, encodes_same}
-use Rattle.std.specs.declared.io.ErrorKind.{ErrorKind}
 use Rattle.dotenvy_base.specs.declared.errors.Error.{Error}
 use Rattle.dotenvy_format.specs.Keys.{is_key}
 use Rattle.dotenvy_base.specs.Errors.{IsMemory, IsMemoryErr}
@@ -19,7 +18,7 @@ use Rattle.dotenvy_format.proofs.loads.LoadLaws.{run-keep}
 use Rattle.dotenvy_format.specs.Items.{LookUp, no_values}
 use Rattle.dotenvy_base.specs.Environment.{Texts}
 use Rattle.dotenvy_items.specs.Meaning.{values_of, recalled_of}
-use Rattle.dotenvy_base.specs.Calls.{Call}
+use Rattle.dotenvy_base.specs.Source.{SinkTold}
 use Rattle.dotenvy_items.specs.Iter.{IterState}
 use Rattle.dotenvy_format.specs.Loads.{load_result}
 use Rattle.dotenvy_items.specs.LoadsRest.{IsAnswer, Leaves, ChangesKeys}
@@ -34,11 +33,11 @@ use Rattle.dotenvy_items.proofs.WholeLoads.{fresh_takes_all, load_takes_all}
 use Rattle.dotenvy_lines.specs.Reading.{told_fault}
 
 -- memory that is refused before the load is as refused at its start: it is the answer, and the sink is as it was
-pub refused_lists : {A W : Type 0} (s : IterState) (held : W → Option (List ℕ)) (last_fault : W →
-    Option ErrorKind) (calls : W → Option (List Call)) (old : W) (answer : Result (Unit {0}) (Error A)) →
-    IsErrAnd answer IsMemory → Lists s held last_fault calls old old answer
-refused_lists s held last_fault calls old (Ok done) is = absurd is
-refused_lists s held last_fault calls old (Err e) is = (
+pub refused_lists : {A W : Type 0} (s : IterState) (sink : W → SinkTold) (old : W)
+    (answer : Result (Unit {0}) (Error A)) →
+    IsErrAnd answer IsMemory → Lists s sink old old answer
+refused_lists s sink old (Ok done) is = absurd is
+refused_lists s sink old (Err e) is = (
   fin.empty,
   Err e,
   refused_by Keep load_result s fin.empty e run-keep is,
@@ -95,52 +94,53 @@ holds_loaded names look_up are keys values = λ name. at name (is_key name) refl
         (key_from_bytes name h)))
 
 -- after a load whose failure the error says, a listing answers it and leaves the sink as it was
-failed_after : {A W : Type 0} (held : W → Option (List ℕ)) (last_fault : W → Option ErrorKind) (calls : W →
-    Option (List Call)) (old : W) (look_up : LookUp) (answer : Result (Unit {0}) Failure) (e : Error A) →
-    IsAnswer answer (Err e) → ListsValues held last_fault calls old old look_up answer (Err e)
-failed_after held last_fault calls old look_up (Ok done) e is = absurd is
-failed_after held last_fault calls old look_up (Err failure) e is = (is, refl)
+failed_after : {A W : Type 0} (sink : W → SinkTold) (old : W) (look_up : LookUp) (answer : Result (Unit {0}) Failure)
+    (e : Error A) →
+    IsAnswer answer (Err e) → ListsValues sink old old look_up answer (Err e)
+failed_after sink old look_up (Ok done) e is = absurd is
+failed_after sink old look_up (Err failure) e is = (is, refl)
 
 -- after a load that did not fail and left these values, a listing is the writing of their written form
-listed_after : {A W : Type 0} (held : W → Option (List ℕ)) (last_fault : W → Option ErrorKind) (calls : W →
-    Option (List Call)) (old new : W) (look_up : LookUp) (stop : Result (Unit {0}) Failure) (names : Texts)
+listed_after : {A W : Type 0} (sink : W → SinkTold) (old new : W) (look_up : LookUp) (stop : Result (Unit {0}) Failure)
+    (names : Texts)
     (answer : Result (Unit {0}) (Error A)) → IsAnswer {A = A} stop (Ok tt) → HoldsLoaded names look_up →
-    Writes held last_fault calls old new (written_bytes (pairs_of names)) answer →
-    ListsValues held last_fault calls old new look_up stop answer
-listed_after held last_fault calls old new look_up (Ok done) names answer is holds writes = (names, holds, writes)
-listed_after held last_fault calls old new look_up (Err failure) names answer is holds writes = absurd is
+    Writes sink old new (written_bytes (pairs_of names)) answer →
+    ListsValues sink old new look_up stop answer
+listed_after sink old new look_up (Ok done) names answer is holds writes = (names, holds, writes)
+listed_after sink old new look_up (Err failure) names answer is holds writes = absurd is
 
 -- after a load that answered so and left what its rule leaves, a listing is that of what the rule leaves
-listed_loaded : {A W : Type 0} (held : W → Option (List ℕ)) (last_fault : W → Option ErrorKind) (calls : W →
-    Option (List Call)) (old new : W) (loaded : Loaded) (names : Texts) (stop answer : Result (Unit {0}) (Error A)) →
-    Leaves loaded names stop → WritesLoaded held last_fault calls old new names stop answer →
-    ListsLoaded held last_fault calls old new loaded answer
-listed_loaded held last_fault calls old new loaded names (Ok done) answer leaves writes =
-    listed_after held last_fault calls old new loaded.env loaded.answer names answer leaves.is_answer
+listed_loaded : {A W : Type 0} (sink : W → SinkTold) (old new : W) (loaded : Loaded) (names : Texts)
+    (stop answer : Result (Unit {0}) (Error A)) →
+    Leaves loaded names stop → WritesLoaded sink old new names stop answer →
+    ListsLoaded sink old new loaded answer
+listed_loaded sink old new loaded names (Ok done) answer leaves writes =
+    listed_after sink old new loaded.env loaded.answer names answer leaves.is_answer
     (holds_loaded names loaded.env writes.1 writes.0 leaves.values) writes.2
-listed_loaded held last_fault calls old new loaded names (Err e) answer leaves writes =
-    rw (writes.0, writes.1) (failed_after held last_fault calls old loaded.env loaded.answer e leaves.is_answer)
+listed_loaded sink old new loaded names (Err e) answer leaves writes =
+    rw (writes.0, writes.1) (failed_after sink old loaded.env loaded.answer e leaves.is_answer)
 
 -- a listing that was not refused memory was not refused it by its load
-load_not_refused : {A W : Type 0} (held : W → Option (List ℕ)) (last_fault : W → Option ErrorKind) (calls : W →
-    Option (List Call)) (old new : W) (names : Texts) (stop answer : Result (Unit {0}) (Error A)) →
-    WritesLoaded held last_fault calls old new names stop answer → ¬ (IsMemoryErr answer) → ¬ (IsMemoryErr stop)
-load_not_refused held last_fault calls old new names (Ok done) answer writes not_refused =
+load_not_refused : {A W : Type 0} (sink : W → SinkTold) (old new : W) (names : Texts)
+    (stop answer : Result (Unit {0}) (Error A)) →
+    WritesLoaded sink old new names stop answer → ¬ (IsMemoryErr answer) → ¬ (IsMemoryErr stop)
+load_not_refused sink old new names (Ok done) answer writes not_refused =
     λ is. absurd is
-load_not_refused held last_fault calls old new names (Err e) answer writes not_refused =
+load_not_refused sink old new names (Err e) answer writes not_refused =
     subst (λ r. ¬ (IsMemoryErr r)) writes.0 not_refused
 
 -- a listing by a fresh iterator, not refused memory, is that of what the rule of a load leaves of all that is told
 pub lists_by_rule : {A W : Type 0} → ListsByRule A W
 lists_by_rule {A = A} =
-    λ dialect a reads held last_fault calls old new answer entries can has lists not_refused.
+    λ dialect told a sink old new answer entries is can has lists not_refused.
     let left =
     fresh_takes_all load_result dialect a fin.empty lists.0 lists.1 entries load_takes_all can has
     (record {
-      calls = reads;
+      told = told;
+      is_told = is;
       loads = lists.2;
-      not_refused = load_not_refused held last_fault calls old new lists.0 lists.1 answer lists.3 not_refused;
+      not_refused = load_not_refused sink old new lists.0 lists.1 answer lists.3 not_refused;
     }) in
-    listed_loaded held last_fault calls old new _ lists.0 lists.1 answer
+    listed_loaded sink old new _ lists.0 lists.1 answer
     (subst (λ loaded. Leaves {A = A} loaded lists.0 lists.1) (empty_rule (entries ++ told_fault a.fault)) left)
     lists.3

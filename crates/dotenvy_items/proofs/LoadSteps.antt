@@ -27,8 +27,7 @@ use Rattle.dotenvy_format.specs.Loads.{SameLoad}
 use Rattle.dotenvy_base.specs.Environment.{Texts}
 use Rattle.dotenvy_items.specs.Remembered.{Remembered}
 use Rattle.dotenvy_items.specs.Meaning.{values_of, recalled_of}
-use Rattle.dotenvy_base.specs.Calls.{Call}
-use Rattle.dotenvy_base.specs.Source.{Ahead}
+use Rattle.dotenvy_base.specs.Source.{Ahead, Told}
 use Rattle.dotenvy_lines.specs.Input.{InputState, IsTold, Moves, BoundIsMet, IsFinal, begins_mark}
 use Rattle.dotenvy_lines.specs.Input.{DropsMark, end_reads}
 use Rattle.dotenvy_format.specs.PhysicalLines.{physical_lines}
@@ -625,9 +624,9 @@ is_in_turn mode rule s old new answer same loads =
     (λ env remembered entries. same-back _ _ (same env remembered entries)) loads
 
 -- what an iterator loads where it is open, a fresh one loads
-pub fresh_load : {A : Type 0} (rule : Rule) (ahead : Option Ahead) (calls : Option (List Call)) (dialect : Dialect)
-    (s : IterState) (old new : Texts) (answer : Result (Unit {0}) (Error A)) → s ≡ fresh ahead calls dialect →
+pub fresh_load : {A : Type 0} (rule : Rule) (told : Told) (dialect : Dialect) (s : IterState) (old new : Texts)
+    (answer : Result (Unit {0}) (Error A)) → s ≡ fresh told dialect →
     (s.lines.stage ≡ Open → LoadsRest rule s old answer new) →
-    LoadsRest rule (fresh ahead calls dialect) old answer new
-fresh_load rule ahead calls dialect s old new answer same loads =
+    LoadsRest rule (fresh told dialect) old answer new
+fresh_load rule told dialect s old new answer same loads =
     subst (λ t. t.lines.stage ≡ Open → LoadsRest rule t old answer new) same loads refl

@@ -1,6 +1,6 @@
 -- A load that was not refused memory is the load of all that is left.
 use Rattle.std.proofs.Common.{◌≡◌, ℕ, Bool, true, false, ◌&&◌, cond, List, [], ◌∷◌, ◌++◌, length}
-use Rattle.std.proofs.Common.{length-append, append_assoc, Some, Result, Ok, Err, refl, sym, ◌∙◌}
+use Rattle.std.proofs.Common.{length-append, append_assoc, Result, Ok, Err, refl, sym, ◌∙◌}
 use Rattle.std.proofs.Common.{ap, subst, inl, inr, ⊎_elim, arith}
 use Rattle.std.specs.Prelude.{◌⊎◌}
 use Rattle.dotenvy_format.specs.declared.dialect.Dialect.{Dialect}
@@ -125,8 +125,8 @@ pub fresh_takes_all : {A : Type 0} (rule : Rule) (dialect : Dialect) (a : Ahead)
     HasEntriesLeft dialect a.fault (without_mark a.bytes) entries → LoadsFresh rule dialect a old answer new →
     Leaves (rule (values_of old) (recalled_of empty) (entries ++ told_fault a.fault)) new answer
 fresh_takes_all rule dialect a old new answer entries takes_all can has load =
-    takes_all (fresh (Some a) load.calls dialect) a old new answer entries (can_read_fresh dialect a load.calls can)
-    has load.loads load.not_refused
+    takes_all (fresh load.told dialect) a old new answer entries
+    (can_read_fresh dialect load.told a load.is_told can) has load.loads load.not_refused
 
 -- two loads of what a source tells agree
 load_the_same : {A : Type 0} (rule : Rule) → LoadsAllLeft rule A → LoadTheSame rule A

@@ -1,11 +1,10 @@
 -- What an iterator over pairs has left, and what it remembers.
-use Rattle.std.specs.Prelude.{ℕ, ◌≡◌, ◌^◌, List, Option, Result, refl}
+use Rattle.std.specs.Prelude.{ℕ, ◌≡◌, ◌^◌, Result, refl}
 use Rattle.std.specs.Coded.{Coded, code_by, coded×, coded_ℕ, coded_list, coded_option}
 use Rattle.std.specs.FinMap as fin
 use Rattle.dotenvy_format.specs.declared.dialect.Dialect.{Dialect}
 use Rattle.dotenvy_format.specs.contracts.dialect.Dialect as dialect
-use Rattle.dotenvy_base.specs.Calls.{Call}
-use Rattle.dotenvy_base.specs.Source.{Ahead}
+use Rattle.dotenvy_base.specs.Source.{Ahead, Told}
 use Rattle.dotenvy_base.specs.declared.errors.Error.{Error}
 use Rattle.dotenvy_lines.specs.declared.lines.Stage.TheVariants.{Open, Failed}
 use Rattle.dotenvy_lines.specs.Input.{AsksReads, DropsMark, IsTold}
@@ -40,11 +39,10 @@ state_of lines remembered dialect item_lines = record {
   item_lines = item_lines;
 }
 
--- nothing was read of what a source tells, and nothing is remembered; these are the calls on it so
--- far, if it tells them
-abbrev pub fresh : Option Ahead → Option (List Call) → Dialect → IterState
-fresh ahead calls dialect = record {
-  lines = fresh_lines ahead calls (2 ^ 32);
+-- nothing was read of a source that tells this, and nothing is remembered
+abbrev pub fresh : Told → Dialect → IterState
+fresh told dialect = record {
+  lines = fresh_lines told (2 ^ 32);
   remembered = fin.empty;
   dialect = dialect;
   item_lines = no_line;

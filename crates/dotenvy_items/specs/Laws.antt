@@ -16,8 +16,7 @@ use Rattle.dotenvy_format.specs.Loads.{load_result, override_result}
 use Rattle.dotenvy_base.specs.Environment.{Texts}
 use Rattle.dotenvy_items.specs.Meaning.{values_of, recalled_of}
 use Rattle.dotenvy_format.specs.Marks.{without_mark}
-use Rattle.dotenvy_base.specs.Calls.{Call}
-use Rattle.dotenvy_base.specs.Source.{Ahead}
+use Rattle.dotenvy_base.specs.Source.{Ahead, SinkTold, Told}
 use Rattle.dotenvy_lines.specs.Reading.{HasEntriesLeft, told_fault}
 use Rattle.dotenvy_items.specs.Iter.{IterState, IsOpen, TellsLeft, fresh}
 use Rattle.dotenvy_items.specs.Listed.{Lists, pairs_of}
@@ -30,10 +29,10 @@ use Rattle.dotenvy_items.specs.NextItem.{Item}
 -- is told, if one is
 abbrev pub ItemsInOrder : Type 0 → Type 0
 ItemsInOrder A =
-    (dialect : Dialect) (a : Ahead) (calls : Option (List Call)) (names : Texts)
-    (entries : List Entry) (given : List (Item A)) →
-    IsReadable a → HasEntriesLeft dialect a.fault a.bytes entries →
-    GivesItems names (fresh (Some a) calls dialect) given → NoneRefused given →
+    (dialect : Dialect) (told : Told) (a : Ahead) (names : Texts) (entries : List Entry)
+    (given : List (Item A)) →
+    told.ahead ≡ Some a → IsReadable a → HasEntriesLeft dialect a.fault a.bytes entries →
+    GivesItems names (fresh told dialect) given → NoneRefused given →
     SayItems given (items (values_of names) (entries ++ told_fault a.fault))
 
 -- a used iterator gives the items of what is left; there a name may also mean a remembered value
@@ -57,17 +56,19 @@ ItemsAsRead A =
 -- two fresh iterators over the same bytes, with the same fault after them, give the same items
 abbrev pub GiveTheSame : Type 0 → Type 0
 GiveTheSame A =
-    (dialect : Dialect) (a : Ahead) (calls other_calls : Option (List Call)) (names : Texts)
+    (dialect : Dialect) (told other : Told) (a : Ahead) (names : Texts)
     (given others : List (Item A)) →
-    IsReadable a → GivesItems names (fresh (Some a) calls dialect) given → NoneRefused given →
-    GivesItems names (fresh (Some a) other_calls dialect) others → NoneRefused others →
+    told.ahead ≡ Some a → other.ahead ≡ Some a → IsReadable a →
+    GivesItems names (fresh told dialect) given → NoneRefused given →
+    GivesItems names (fresh other dialect) others → NoneRefused others →
     SayTheSame given others
 
 -- a load by this rule, with a fresh iterator over what a source tells, that was not refused memory
 pub record LoadsFresh {A : Type 0} (rule : Rule) (dialect : Dialect) (a : Ahead) (old : Texts)
     (answer : Result (Unit {0}) (Error A)) (new : Texts) : Type 0 where
-  pub calls : Option (List Call)
-  pub loads : LoadsRest rule (fresh (Some a) calls dialect) old answer new
+  pub told : Told
+  pub is_told : told.ahead ≡ Some a
+  pub loads : LoadsRest rule (fresh told dialect) old answer new
   pub not_refused : ¬ (IsMemoryErr answer)
 
 -- in both environments each name has the same value
@@ -118,31 +119,30 @@ HoldsLoaded names look_up = (name : List ℕ) →
 
 -- a listing of what a load leaves: the load's error is returned, and the sink is as it was; or the
 -- pairs are sent in their written form
-abbrev pub ListsValues : {A W : Type 0} → (W → Option (List ℕ)) → (W → Option ErrorKind) →
-    (W → Option (List Call)) → W → W → LookUp → Result (Unit {0}) Failure →
-    Result (Unit {0}) (Error A) → Type 0
-ListsValues held last_fault calls old new look_up (Err failure) answer =
+abbrev pub ListsValues : {A W : Type 0} → (W → SinkTold) → W → W → LookUp →
+    Result (Unit {0}) Failure → Result (Unit {0}) (Error A) → Type 0
+ListsValues sink old new look_up (Err failure) answer =
     IsAnswer (Err failure) answer × (new ≡ old)
-ListsValues held last_fault calls old new look_up (Ok done) answer =
+ListsValues sink old new look_up (Ok done) answer =
     (names : Texts) × HoldsLoaded names look_up
-    × Writes held last_fault calls old new (written_bytes (pairs_of names)) answer
+    × Writes sink old new (written_bytes (pairs_of names)) answer
 
 -- a listing of the values that this load leaves, or of its error
-abbrev pub ListsLoaded : {A W : Type 0} → (W → Option (List ℕ)) → (W → Option ErrorKind) →
-    (W → Option (List Call)) → W → W → Loaded → Result (Unit {0}) (Error A) → Type 0
-ListsLoaded held last_fault calls old new loaded answer =
-    ListsValues held last_fault calls old new loaded.env loaded.answer answer
+abbrev pub ListsLoaded : {A W : Type 0} → (W → SinkTold) → W → W → Loaded →
+    Result (Unit {0}) (Error A) → Type 0
+ListsLoaded sink old new loaded answer =
+    ListsValues sink old new loaded.env loaded.answer answer
 
 -- a listing that was not refused memory writes what `load` leaves in an empty environment
 abbrev pub ListsByRule : Type 0 → Type 0 → Type 0
 ListsByRule A W =
-    (dialect : Dialect) (a : Ahead) (reads : Option (List Call)) (held : W → Option (List ℕ))
-    (last_fault : W → Option ErrorKind) (calls : W → Option (List Call)) (old new : W)
+    (dialect : Dialect) (told : Told) (a : Ahead) (sink : W → SinkTold) (old new : W)
     (answer : Result (Unit {0}) (Error A)) (entries : List Entry) →
-    IsReadable a → HasEntriesLeft dialect a.fault (without_mark a.bytes) entries →
-    Lists (fresh (Some a) reads dialect) held last_fault calls old new answer →
+    told.ahead ≡ Some a → IsReadable a →
+    HasEntriesLeft dialect a.fault (without_mark a.bytes) entries →
+    Lists (fresh told dialect) sink old new answer →
     ¬ (IsMemoryErr answer) →
-    ListsLoaded held last_fault calls old new
+    ListsLoaded sink old new
     (load_result no_values no_values (entries ++ told_fault a.fault)) answer
 
 -- there are no more entries than physical lines, and each entry is one item

@@ -1,6 +1,7 @@
 //! The pairs of an environment file, one at a time, and the two loads.
 
 ghost use Rattle.std.specs.Prelude.{ℕ, ◌≡◌, ◌≢◌, ◌<◌, ◌≤◌, ◌↔◌, ◌⊎◌, Err, IfErr, IfOk, IfSome, IsSome, IsTrue, None, Ok, OnOk, OnErr, chars, string_bytes};
+ghost use Rattle.std.specs.FinMap as fin;
 ghost use Rattle.std.specs.Iterator.{at_most};
 ghost use Rattle.dotenvy_lines.specs.declared.lines.Stage.TheVariants.{Failed, Open};
 ghost use Rattle.dotenvy_base.specs.Errors.{IsMemory, IsMemoryErr};
@@ -12,7 +13,7 @@ ghost use Rattle.dotenvy_format.specs.Loads.{load_result, override_result};
 ghost use Rattle.dotenvy_format.specs.Outcome.{Outcome, Says};
 ghost use Rattle.dotenvy_items.specs.Meaning.{names_of};
 ghost use Rattle.dotenvy_items.specs.inside.ParsedLine.{IsLineAnswer, Remembers, HasKey};
-ghost use Rattle.dotenvy_lines.specs.Lines.{lines_measure};
+ghost use Rattle.dotenvy_lines.specs.Lines.{lines_measure, no_line};
 ghost use Rattle.dotenvy_items.specs.Remembered.{remembered_of};
 ghost use Rattle.dotenvy_items.specs.inside.ItemStep.{AddsLine, item_lines_then, reading_of};
 ghost use Rattle.dotenvy_items.specs.Iter.{state_of};
@@ -74,12 +75,42 @@ fn is_refused<A: Allocator>(said: &ParsedLine<A>) -> bool
     matches!(said, Err(Error::Memory(_)))
 }
 
+/// An iterator over these lines, of which no item was taken, and that remembers nothing.
+pub fn over_lines<R: Source, A: Allocator>(
+    lines: Splitter<R, A>,
+    alloc: A,
+    dialect: Dialect,
+) -> Iter<R, A>
+    ensures { result ≡ state_of lines.lines fin.empty dialect no_line }
+{
+    Iter {
+        lines,
+        remembered: HashMap::new(alloc),
+        dialect,
+        item_lines: (0, 0),
+    }
+}
+
+/// Gives back the reader of an iterator. Bytes that were read and not used are lost.
+pub fn into_reader<R: Source, A: Allocator>(file: Iter<R, A>) -> R
+    ensures calls { (R.told result).calls ≡ file.lines.input.calls }
+    ensures references { (R.told result).references ≡ file.lines.input.references }
+{
+    let Iter {
+        lines,
+        remembered: _,
+        dialect: _,
+        item_lines: _,
+    } = file;
+    lines.into_reader()
+}
+
 impl<R: Source, A: Allocator + Clone> Iter<R, A> {
     /// A fresh iterator over a reader, in the first dialect. Nothing is read yet.
     pub fn new(alloc: A, reader: R) -> Result<Iter<R, A>, A>
     where
         R: Drop,
-        ensures ok { IfOk result (λ s. s ≡ fresh (R.ahead reader) (R.calls reader) Dialect.V15) }
+        ensures ok { IfOk result (λ s. s ≡ fresh (R.told reader) Dialect.V15) }
         ensures memory { IfErr result IsMemory }
     {
         Iter::with_dialect(alloc, reader, Dialect::V15)
@@ -89,16 +120,11 @@ impl<R: Source, A: Allocator + Clone> Iter<R, A> {
     pub fn with_dialect(alloc: A, reader: R, dialect: Dialect) -> Result<Iter<R, A>, A>
     where
         R: Drop,
-        ensures ok { IfOk result (λ s. s ≡ fresh (R.ahead reader) (R.calls reader) dialect) }
+        ensures ok { IfOk result (λ s. s ≡ fresh (R.told reader) dialect) }
         ensures memory { IfErr result IsMemory }
     {
-        let remembered = HashMap::new(alloc.clone()?);
-        Ok(Iter {
-            lines: Splitter::new(alloc, reader)?,
-            remembered,
-            dialect,
-            item_lines: (0, 0),
-        })
+        let lines = Splitter::new(alloc.clone()?, reader)?;
+        Ok(over_lines(lines, alloc, dialect))
     }
 
     /// The next pair or fault. A name that a value mentions means its value in `env`, else the last one remembered,
@@ -505,9 +531,9 @@ pub fn from_read<R: Source + Drop, A: Allocator + Clone>(
     reader: R,
     env: &mut Environment<A>,
 ) -> Result<(), A>
-    ensures told { LoadsRest load_result (fresh (R.ahead reader) (R.calls reader) Dialect.V15)
+    ensures told { LoadsRest load_result (fresh (R.told reader) Dialect.V15)
         env.old.names result env.new.names }
-    ensures in_turn { LoadsRest (run Keep) (fresh (R.ahead reader) (R.calls reader) Dialect.V15)
+    ensures in_turn { LoadsRest (run Keep) (fresh (R.told reader) Dialect.V15)
         env.old.names result env.new.names }
     ensures adds { OnlyAdds env.old env.new }
 {
@@ -520,10 +546,10 @@ pub fn from_read_override<R: Source + Drop, A: Allocator + Clone>(
     reader: R,
     env: &mut Environment<A>,
 ) -> Result<(), A>
-    ensures told { LoadsRest override_result (fresh (R.ahead reader) (R.calls reader) Dialect.V15)
+    ensures told { LoadsRest override_result (fresh (R.told reader) Dialect.V15)
         env.old.names result env.new.names }
     ensures in_turn { LoadsRest (run Replace)
-        (fresh (R.ahead reader) (R.calls reader) Dialect.V15) env.old.names result env.new.names }
+        (fresh (R.told reader) Dialect.V15) env.old.names result env.new.names }
     ensures changes { ChangesOnlyKeys env.old env.new }
 {
     Iter::new(alloc, reader)?.load_override(env)
@@ -534,7 +560,7 @@ pub fn from_read_iter<R: Source + Drop, A: Allocator + Clone>(
     alloc: A,
     reader: R,
 ) -> Result<Iter<R, A>, A>
-    ensures ok { IfOk result (λ s. s ≡ fresh (R.ahead reader) (R.calls reader) Dialect.V15) }
+    ensures ok { IfOk result (λ s. s ≡ fresh (R.told reader) Dialect.V15) }
     ensures memory { IfErr result IsMemory }
 {
     Iter::new(alloc, reader)

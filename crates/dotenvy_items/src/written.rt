@@ -9,16 +9,18 @@ ghost use Rattle.dotenvy_base.specs.Errors.{IsIoOf};
 ghost use Rattle.dotenvy_format.specs.Written.{needs_backslash, written_character, written_text, written_bytes};
 ghost use Rattle.dotenvy_base.specs.Output.{Sends, Writes};
 ghost use Rattle.dotenvy_base.specs.Environment.{AreTexts};
+ghost use Rattle.dotenvy_lines.specs.Input.{ReadsBetween};
 ghost use Rattle.dotenvy_items.specs.Iter.{fresh, AsksBetween, IsOpen};
 ghost use Rattle.dotenvy_items.specs.Listed.{pairs_of, Lists};
 
-use crate::iter::Iter;
+use crate::iter::{Iter, into_reader, over_lines};
 use dotenvy_base::environment::Environment;
 use dotenvy_base::errors::Result;
 use dotenvy_base::output::{MOST_WRITES, write_all};
 use dotenvy_base::source::{Sink, Source};
 use dotenvy_format::dialect::Dialect;
 use dotenvy_format::text::{Class, Quoting, split_first, split_while};
+use dotenvy_lines::lines::{READ_LIMIT, Room, Splitter};
 use memchr::memchr3_iter;
 use std::alloc::{AllocError, Allocator};
 
@@ -126,7 +128,7 @@ pub fn write_pair<W: Sink, A: Allocator + Clone>(
     text: &str,
 ) -> Result<(), A>
     requires { IsTrue (is_key (chars key.now)) }
-    ensures { Writes W.held W.last_fault W.calls writer.old writer.new
+    ensures { Writes W.told writer.old writer.new
         (written_bytes ((chars key.now, chars text.now) ∷ [])) result }
 {
     let mut out = String::with_capacity(alloc, written_len(key, text))?;
@@ -148,8 +150,8 @@ pub fn list<R: Source + Drop, W: Sink, A: Allocator + Clone>(
     reader: R,
     writer: &mut W,
 ) -> Result<(), A>
-    ensures { Lists (fresh (R.ahead reader) (R.calls reader) Dialect.V15)
-        W.held W.last_fault W.calls writer.old writer.new result }
+    ensures { Lists (fresh (R.told reader) Dialect.V15)
+        W.told writer.old writer.new result }
 {
     list_with(alloc, reader, writer, Dialect::V15)
 }
@@ -157,15 +159,36 @@ pub fn list<R: Source + Drop, W: Sink, A: Allocator + Clone>(
 /// As `list`, with the dialect of the file (docs/GRAMMAR.md, "The second dialect").
 pub fn list_with<R: Source + Drop, W: Sink, A: Allocator + Clone>(
     alloc: A,
-    reader: R,
+    mut reader: R,
     writer: &mut W,
     dialect: Dialect,
 ) -> Result<(), A>
-    ensures { Lists (fresh (R.ahead reader) (R.calls reader) dialect)
-        W.held W.last_fault W.calls writer.old writer.new result }
+    ensures { Lists (fresh (R.told reader) dialect)
+        W.told writer.old writer.new result }
 {
-    let mut file = Iter::with_dialect(alloc.clone()?, reader, dialect)?;
-    list_rest(alloc, &mut file, writer)
+    list_lent(alloc, &mut reader, writer, dialect)
+}
+
+/// As `list_with`, of a reader that is lent.
+///
+/// The memory for reading is allocated first, so that the reader is given back whatever happens.
+pub fn list_lent<R: Source, W: Sink, A: Allocator + Clone>(
+    alloc: A,
+    reader: &mut R,
+    writer: &mut W,
+    dialect: Dialect,
+) -> Result<(), A>
+    ensures lists { Lists (fresh (R.told reader.old) dialect)
+        W.told writer.old writer.new result }
+    ensures asks { ReadsBetween (R.told reader.old) (R.told reader.new) }
+{
+    let remembering = alloc.clone()?;
+    let room = Room::new(alloc.clone()?)?;
+    let lines = Splitter::in_room(room, reader, READ_LIMIT);
+    let mut file = over_lines(lines, remembering, dialect);
+    let listed = list_rest(alloc, &mut file, writer);
+    let _ = into_reader(file);
+    listed
 }
 
 // Lists what an iterator has left, as `list_with` does of a reader.
@@ -175,7 +198,7 @@ fn list_rest<R: Source, W: Sink, A: Allocator + Clone>(
     writer: &mut W,
 ) -> Result<(), A>
     ensures lists { IsOpen file.old →
-        Lists file.old W.held W.last_fault W.calls writer.old writer.new result }
+        Lists file.old W.told writer.old writer.new result }
     ensures asks { AsksBetween file.old file.new }
 {
     let mut env = Environment::new(alloc.clone()?);

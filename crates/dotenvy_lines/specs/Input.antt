@@ -1,5 +1,5 @@
 -- What an input has left, and what a read gives it.
-use Rattle.std.specs.Prelude.{ℕ, ◌≡◌, ◌≢◌, ◌+◌, ◌*◌, ◌≤◌, ◌⊎◌, Bool, true, false, ◌&&◌, nat_eq}
+use Rattle.std.specs.Prelude.{ℕ, ◌≡◌, ◌≢◌, ◌+◌, ◌*◌, ◌^◌, ◌≤◌, ◌⊎◌, Bool, true, false, ◌&&◌, nat_eq}
 use Rattle.std.specs.Prelude.{nat_lt, List, [], ◌++◌, length, Option, Some, Result, Ok, Err, refl}
 use Rattle.std.specs.Prelude.{if◌then◌else◌}
 use Rattle.std.specs.List.{starts_with, AllByRecursion}
@@ -9,32 +9,35 @@ use Rattle.std.specs.declared.io.ErrorKind.TheVariants.{Interrupted, Other}
 use Rattle.std.specs.Coded.{Coded, code_by, coded×, coded_ℕ, coded_bool, coded_list, coded_option}
 use Rattle.dotenvy_format.specs.Marks.{byte_order_mark, without_mark}
 use Rattle.dotenvy_base.specs.Calls.{Call, call_code, AllMayGoOn, LastMovesNone, OnlyLastEnds}
-use Rattle.dotenvy_base.specs.Source.{Ahead, ahead_code}
+use Rattle.dotenvy_base.specs.Source.{Ahead, Told, ahead_code}
 use Rattle.dotenvy_base.specs.declared.errors.Error.{Error}
 use Rattle.dotenvy_base.specs.Errors.{IsMemory, IsIoOf}
 
 -- what is left to use; how many bytes of it were read already; how many reads may still be made;
--- whether the end was read; the calls that the source tells
+-- whether the end was read; the calls that the source tells, and the references that it is read
+-- through
 pub record InputState : Type 0 where
   pub left : Option Ahead
   pub unread : ℕ
   pub reads : ℕ
   pub at_end : Bool
   pub calls : Option (List Call)
+  pub references : List ℕ
 
 -- the state of an input as a tuple
 abbrev pub input_code : Coded InputState
 input_code =
-    code_by (Option Ahead × (ℕ × (ℕ × (Bool × Option (List Call)))))
+    code_by (Option Ahead × (ℕ × (ℕ × (Bool × (Option (List Call) × List ℕ)))))
     (coded× (coded_option ahead_code) (coded× coded_ℕ (coded× coded_ℕ
-    (coded× coded_bool (coded_option (coded_list call_code))))))
-    (λ s. (s.left, (s.unread, (s.reads, (s.at_end, s.calls)))))
+    (coded× coded_bool (coded× (coded_option (coded_list call_code)) (coded_list coded_ℕ))))))
+    (λ s. (s.left, (s.unread, (s.reads, (s.at_end, (s.calls, s.references))))))
     (λ p. record {
       left = p.0;
       unread = p.1.0;
       reads = p.1.1.0;
       at_end = p.1.1.1.0;
-      calls = p.1.1.1.1;
+      calls = p.1.1.1.1.0;
+      references = p.1.1.1.1.1;
     })
     (λ _. refl)
 
@@ -106,8 +109,26 @@ pub record MakesReads (s t : InputState) (made : List Call) : Type 0 where
 
 -- where the source tells its calls, these were made; where reading goes on, and the end was not
 -- read, more may follow
-abbrev pub AsksReads : Type 0 → InputState → InputState → Type 0
-AsksReads goes_on s t =
+abbrev pub TellsReads : Type 0 → InputState → InputState → Type 0
+TellsReads goes_on s t =
     (all : List Call) → t.calls ≡ Some all →
     (calls made : List Call) × (s.calls ≡ Some calls) × (all ≡ calls ++ made) × MakesReads s t made
     × (goes_on → t.at_end ≡ false → AllMayGoOn made)
+
+-- such reads were made, of the source itself: it is read through the references that it was
+abbrev pub AsksReads : Type 0 → InputState → InputState → Type 0
+AsksReads goes_on s t = (t.references ≡ s.references) × TellsReads goes_on s t
+
+-- reads that one iterator makes: not more than 2^32, each for 8,192 bytes at most, and none after
+-- the end, or after a fault that is no interruption
+pub record AreReads (made : List Call) : Type 0 where
+  pub few : length made ≤ 2 ^ 32
+  pub small : AllByRecursion (λ call. call.len ≤ 8192) made
+  pub in_turn : OnlyLastEnds made
+
+-- between what a source told and what it tells now, one iterator made reads of it, and no one else
+abbrev pub ReadsBetween : Told → Told → Type 0
+ReadsBetween before after =
+    (after.references ≡ before.references)
+    × ((all : List Call) → after.calls ≡ Some all →
+    (calls made : List Call) × (before.calls ≡ Some calls) × (all ≡ calls ++ made) × AreReads made)

@@ -7,8 +7,7 @@ use Rattle.dotenvy_base.specs.declared.errors.Error.{Error}
 use Rattle.dotenvy_lines.specs.declared.lines.Stage.{Stage}
 use Rattle.dotenvy_lines.specs.declared.lines.Stage.TheVariants.{Open as stage_open, Ended, Failed}
 use Rattle.dotenvy_lines.specs.contracts.lines.Stage as stage
-use Rattle.dotenvy_base.specs.Source.{Ahead}
-use Rattle.dotenvy_base.specs.Calls.{Call}
+use Rattle.dotenvy_base.specs.Source.{Ahead, Told}
 use Rattle.dotenvy_format.specs.PhysicalLines.{line_texts}
 use Rattle.dotenvy_format.specs.Decided.{up_to_last_line_feed}
 use Rattle.dotenvy_lines.specs.Input.{InputState, input_code, IsTold, IsFinal, input_measure}
@@ -79,9 +78,16 @@ abbrev pub no_line : ℕ × ℕ
 no_line = (0, 0)
 
 -- an iterator before its first read: all that its source tells is left, with so many reads to make
-abbrev pub fresh_lines : Option Ahead → Option (List Call) → ℕ → LinesState
-fresh_lines ahead calls reads = record {
-  input = record { left = ahead; unread = 0; reads = reads; at_end = false; calls = calls };
+abbrev pub fresh_lines : Told → ℕ → LinesState
+fresh_lines told reads = record {
+  input = record {
+    left = told.ahead;
+    unread = 0;
+    reads = reads;
+    at_end = false;
+    calls = told.calls;
+    references = told.references;
+  };
   stage = stage_open;
   lines_taken = 0;
   first_line = 0;

@@ -79,8 +79,7 @@ impl<A: Allocator> Buffer<A> {
     /// The unread bytes move to the start of the buffer first, and the read asks for as many bytes as fit after them.
     pub fn read_from<R: Source>(&mut self, reader: &mut R) -> io::Result<usize>
         requires { length self.old < 8192 }
-        ensures { Fills (R.ahead reader.old) (R.calls reader.old) self.old result
-            (R.ahead reader.new) (R.calls reader.new) self.new }
+        ensures { Fills (R.told reader.old) self.old result (R.told reader.new) self.new }
     {
         self.bytes.copy_within(self.used..self.filled, 0);
         self.filled -= self.used;

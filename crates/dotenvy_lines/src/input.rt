@@ -1,14 +1,15 @@
 //! The bytes of a source, one physical line at a time.
 
-ghost use Rattle.std.specs.Prelude.{[], ◌≡◌, ◌≤◌, ◌<◌, ◌+◌, ◌==◌, ◌⊎◌, true, false, Some, None, IfOk, IfErr, IsOk, IsTrue, ◌↔◌, OnOk, MatchOption, MatchBool, position, nat_eq, length, take, drop, vec_len};
+ghost use Rattle.std.specs.Prelude.{[], ◌≡◌, ◌≤◌, ◌<◌, ◌+◌, ◌==◌, ◌⊎◌, true, false, Some, None, IfOk, IsOk, IsTrue, ◌↔◌, OnOk, MatchOption, MatchBool, position, nat_eq, length, take, drop, vec_len};
 ghost use Rattle.std.specs.IoError.{error_kind};
 ghost use Rattle.dotenvy_base.specs.Source.{Ahead};
 ghost use Rattle.dotenvy_lines.specs.Input.{input_measure, begins_mark, DropsMark, AsksReads};
+ghost use Rattle.dotenvy_lines.specs.Lines.{fresh_lines};
 ghost use Rattle.dotenvy_lines.specs.inside.InputSteps.{WhereTold, ReadsOnce, IsAllRead, used_up, IsLinePiece, ReadsMore, FindsMore, MovesLine, SkipsLine, AsksOnce};
 ghost use Rattle.std.specs.List.{starts_with};
 ghost use Rattle.dotenvy_format.specs.PhysicalLines.{is_whole_line, no_line_feed};
 ghost use Rattle.dotenvy_format.specs.Marks.{byte_order_mark};
-ghost use Rattle.dotenvy_base.specs.Errors.{IsMemory, IsIoOf};
+ghost use Rattle.dotenvy_base.specs.Errors.{IsIoOf};
 
 use crate::buffer::Buffer;
 use dotenvy_base::errors::{Error, Result};
@@ -52,36 +53,41 @@ impl<R: Source, A: Allocator> Model for Input<R, A> {
 
     ghost view = { λ s.
         record {
-          left = left_of s.at_end (R.ahead s.reader) s.buffer;
+          left = left_of s.at_end (R.told s.reader).ahead s.buffer;
           unread = length s.buffer;
           reads = s.reads_left;
           at_end = s.at_end;
-          calls = R.calls s.reader;
+          calls = (R.told s.reader).calls;
+          references = (R.told s.reader).references;
         } };
 }
 
 impl<R: Source, A: Allocator> Input<R, A> {
-    /// An input of which nothing is read yet, and that makes at most `reads_left` reads. It allocates its buffer.
-    pub fn new(alloc: A, reader: R, reads_left: u64) -> Result<Input<R, A>, A>
-    where
-        R: Drop,
-        ensures ok { IfOk result (λ s.
-            s
-            ≡ record {
-              left = R.ahead reader;
-              unread = 0;
-              reads = reads_left;
-              at_end = false;
-              calls = R.calls reader;
-            }) }
-        ensures memory { IfErr result IsMemory }
+    /// An input of which nothing is read yet, and that makes at most `reads_left` reads into this empty buffer.
+    pub fn new(buffer: Buffer<A>, reader: R, reads_left: u64) -> Input<R, A>
+        requires { buffer ≡ [] }
+        ensures { result ≡ (fresh_lines (R.told reader) reads_left).input }
     {
-        Ok(Input {
-            buffer: Buffer::new(alloc)?,
+        Input {
+            buffer,
             reader,
             reads_left,
             at_end: false,
-        })
+        }
+    }
+
+    /// Gives its source back. Bytes that were read and not used are lost.
+    pub fn into_reader(self) -> R
+        ensures calls { (R.told result).calls ≡ self.calls }
+        ensures references { (R.told result).references ≡ self.references }
+    {
+        let Input {
+            reader,
+            buffer: _,
+            reads_left: _,
+            at_end: _,
+        } = self;
+        reader
     }
 
     /// The allocator of the buffer.
@@ -169,9 +175,9 @@ fn read_once<R: Source, A: Allocator>(reader: &mut R, buffer: &mut Buffer<A>) ->
     requires { length buffer.old < 8192 }
     ensures bound { length buffer.new ≤ 8192 }
     ensures grows { length buffer.old ≤ length buffer.new }
-    ensures told { WhereTold (R.ahead reader.old)
-        (λ a. ReadsOnce a buffer.old result (R.ahead reader.new) buffer.new) }
-    ensures asks { AsksOnce (R.calls reader.old) result (R.calls reader.new) }
+    ensures told { WhereTold (R.told reader.old).ahead
+        (λ a. ReadsOnce a buffer.old result (R.told reader.new).ahead buffer.new) }
+    ensures asks { AsksOnce (R.told reader.old) result (R.told reader.new) }
 {
     match buffer.read_from(reader) {
         Ok(n) => Ok(n == 0),

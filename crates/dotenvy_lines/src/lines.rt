@@ -11,6 +11,7 @@ ghost use Rattle.dotenvy_lines.specs.inside.NextLine.{AdvanceIs, outcome_of, giv
 ghost use Rattle.dotenvy_lines.specs.inside.JoinedLines.{joined_at_end, JoinsNext, UsesSome, stage_after, is_refused, IsOutcome};
 ghost use Rattle.dotenvy_lines.specs.inside.Splitter.{last_lines};
 
+use crate::buffer::Buffer;
 use crate::input::Input;
 use crate::physical_line::{Taken, take_line};
 use dotenvy_base::errors::{Error, Result, fault_error};
@@ -21,8 +22,8 @@ use std::io;
 use std::io::ErrorKind;
 use std::marker::Model;
 
-// The most reads that an iterator makes.
-const READ_LIMIT: u64 = 4_294_967_296;
+/// The most reads that an iterator makes, 2^32. This bound makes each iteration end, whatever the source does.
+pub const READ_LIMIT: u64 = 4_294_967_296;
 
 /// What the next physical lines make. The text is in the line buffer.
 #[derive(Clone, Copy, Drop)]
@@ -95,6 +96,36 @@ pub enum Stage {
     Failed,
 }
 
+/// The memory in which lines are read: an empty buffer for reads, and the line buffer.
+#[derive(Drop)]
+pub struct Room<A: Allocator> {
+    buffer: Buffer<A>,
+    line: String<A>,
+}
+
+impl<A: Allocator> Model for Room<A> {
+    ghost use Rattle.std.specs.Prelude.{◌≡◌, []};
+
+    ghost Value = { Unit {0} };
+
+    ghost view = { λ s. tt };
+
+    ghost invariant = { λ s. s.buffer ≡ [] };
+}
+
+impl<A: Allocator + Clone> Room<A> {
+    /// The memory for reading is allocated here; the line buffer grows with the lines.
+    pub fn new(alloc: A) -> Result<Room<A>, A>
+        ensures { IfErr result IsMemory }
+    {
+        let line = String::new(alloc.clone()?);
+        Ok(Room {
+            buffer: Buffer::new(alloc)?,
+            line,
+        })
+    }
+}
+
 /// Reads logical lines into one line buffer, until the end or a final fault.
 #[derive(Drop)]
 pub struct Splitter<R: Source, A: Allocator> {
@@ -125,15 +156,46 @@ impl<R: Source, A: Allocator> Model for Splitter<R, A> {
         } };
 }
 
+impl<R: Source, A: Allocator> Splitter<R, A> {
+    /// As `with_limit`, in memory that is there already, so that nothing can be refused.
+    pub fn in_room(room: Room<A>, reader: R, reads: u64) -> Splitter<R, A>
+        ensures { result.lines ≡ fresh_lines (R.told reader) reads }
+    {
+        let Room { buffer, line } = room;
+        Splitter {
+            input: Input::new(buffer, reader, reads),
+            stage: Stage::Open,
+            line,
+            lines_taken: 0,
+            first_line: 0,
+        }
+    }
+
+    /// Gives its source back. Bytes that were read and not used are lost.
+    pub fn into_reader(self) -> R
+        ensures calls { (R.told result).calls ≡ self.lines.input.calls }
+        ensures references { (R.told result).references ≡ self.lines.input.references }
+    {
+        let Splitter {
+            input,
+            stage: _,
+            line: _,
+            lines_taken: _,
+            first_line: _,
+        } = self;
+        input.into_reader()
+    }
+}
+
 impl<R: Source, A: Allocator + Clone> Splitter<R, A> {
     /// A splitter of which nothing is read yet, and that makes at most 2^32 reads.
     ///
-    /// The memory for reading is allocated here; the line buffer grows with the lines.
+    /// Its memory is allocated here, as a [`Room`].
     pub fn new(alloc: A, reader: R) -> Result<Splitter<R, A>, A>
     where
         R: Drop,
         ensures ok { IfOk result
-            (λ s. s.lines ≡ fresh_lines (R.ahead reader) (R.calls reader) (2 ^ 32)) }
+            (λ s. s.lines ≡ fresh_lines (R.told reader) (2 ^ 32)) }
         ensures memory { IfErr result IsMemory }
     {
         Splitter::with_limit(alloc, reader, READ_LIMIT)
@@ -143,18 +205,10 @@ impl<R: Source, A: Allocator + Clone> Splitter<R, A> {
     pub fn with_limit(alloc: A, reader: R, reads: u64) -> Result<Splitter<R, A>, A>
     where
         R: Drop,
-        ensures ok { IfOk result
-            (λ s. s.lines ≡ fresh_lines (R.ahead reader) (R.calls reader) reads) }
+        ensures ok { IfOk result (λ s. s.lines ≡ fresh_lines (R.told reader) reads) }
         ensures memory { IfErr result IsMemory }
     {
-        let line = String::new(alloc.clone()?);
-        Ok(Splitter {
-            input: Input::new(alloc, reader, reads)?,
-            stage: Stage::Open,
-            line,
-            lines_taken: 0,
-            first_line: 0,
-        })
+        Ok(Splitter::in_room(Room::new(alloc)?, reader, reads))
     }
 
     /// The allocator of the buffers.

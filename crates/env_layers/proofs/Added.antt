@@ -9,20 +9,20 @@ use Rattle.dotenvy.specs.Items.{LookUp}
 use Rattle.dotenvy.specs.Iter.{fresh}
 use Rattle.dotenvy.specs.LoadsRest.{Rule, Leaves, LoadsRest}
 use Rattle.dotenvy.specs.Meaning.{values_of, recalled_of}
-use Rattle.dotenvy.specs.Source.{Ahead}
+use Rattle.dotenvy.specs.Source.{Told}
 use Rattle.std.specs.Option.{option_or}
 use Rattle.env_layers.specs.declared.layers.Mode.{Mode}
 use Rattle.env_layers.specs.declared.layers.Mode.TheVariants.{Keep, Override}
 use Rattle.env_layers.specs.Layers.{AddsLayer, after_load, rule_of}
 
 -- a load by the rule of the mode, whose answer decides what stands
-pub adds_by : {A : Type 0} (mode : Mode) (rule : Rule) (ahead : Option Ahead) (old loaded : Texts)
+pub adds_by : {A : Type 0} (mode : Mode) (rule : Rule) (told : Told) (old loaded : Texts)
     (answer : Result (Unit {0}) (Error A)) → rule_of mode ≡ rule →
-    LoadsRest rule (fresh ahead None V15) old answer loaded →
-    AddsLayer mode ahead old answer (after_load old loaded answer)
-adds_by mode rule ahead old loaded answer is loads = record {
+    LoadsRest rule (fresh told V15) old answer loaded →
+    AddsLayer mode told old answer (after_load old loaded answer)
+adds_by mode rule told old loaded answer is loads = record {
   loaded = loaded;
-  loads = subst (λ r. LoadsRest r (fresh ahead None V15) old answer loaded) (sym is) loads;
+  loads = subst (λ r. LoadsRest r (fresh told V15) old answer loaded) (sym is) loads;
   stands = refl;
 }
 
@@ -39,14 +39,14 @@ left_by_none Keep old remembered error is =
 left_by_none Override old remembered error is = record { values = λ name. refl; is_answer = is }
 
 -- a call that is refused memory adds nothing
-pub adds_none : {A : Type 0} (mode : Mode) (ahead : Option Ahead) (old : Texts) (error : Error A) → IsMemory error →
-    AddsLayer mode ahead old (Err error) old
-adds_none mode ahead old error is = record {
+pub adds_none : {A : Type 0} (mode : Mode) (told : Told) (old : Texts) (error : Error A) → IsMemory error →
+    AddsLayer mode told old (Err error) old
+adds_none mode told old error is = record {
   loaded = old;
-  loads = λ a told entries left. (
+  loads = λ a is_left entries left. (
     Fails Memory ∷ [],
     inr (inl (record { front = []; back = entries; cut = refl; ends = refl })),
-    left_by_none mode old (recalled_of (fresh ahead None V15).remembered) error is,
+    left_by_none mode old (recalled_of (fresh told V15).remembered) error is,
   );
   stands = refl;
 }

@@ -24,7 +24,7 @@ use Rattle.dotenvy.specs.Meaning.{values_of, recalled_of}
 use Rattle.env_layers.specs.declared.layers.Mode.{Mode}
 use Rattle.env_layers.specs.declared.layers.Mode.TheVariants.{Keep, Override}
 use Rattle.env_layers.specs.Layers.{after_load, rule_of}
-use Rattle.env_layers.specs.Laws.{Layer, telling, Adds, HasLayerEntries, layer_result, Applies}
+use Rattle.env_layers.specs.Laws.{Layer, Adds, HasLayerEntries, layer_result, Applies}
 use Rattle.env_layers.specs.Laws.{LayersInOrder, AcceptedExactly}
 
 -- a load in either mode that was not refused memory takes all that is left
@@ -38,11 +38,10 @@ nothing_recalled = fun_ext
     (λ name. ap (λ o. option_map chars (option_flatten o)) (fin.get-empty (slice_cmp nat_cmp) (encode_utf8_all name)))
 
 -- a fresh iterator over fewer than 2^32 bytes, which tells no fault, can read them all
-can_read : {A : Type 0} (old : Texts) (layer : Layer) (new : Texts) → Adds A old layer new →
-    CanRead (fresh (telling layer.bytes) None V15)
-    (record { bytes = layer.bytes; fault = None })
+can_read : {A : Type 0} (old : Texts) (layer : Layer) (new : Texts) (added : Adds A old layer new) →
+    CanRead (fresh added.told V15) (record { bytes = layer.bytes; fault = None })
 can_read old layer new added = let few = added.few in
-    record { is_open = refl; is_told = (refl, λ told. cc); few = omega (arith, few) }
+    record { is_open = refl; is_told = (added.tells, λ told. cc); few = omega (arith, few) }
 
 -- the call's load leaves and answers what the closed rule of the layer says
 leaves_rule : {A : Type 0} (old : Texts) (layer : Layer) (new : Texts) (entries : List Entry) → LoadsTakeAll A →
@@ -51,7 +50,7 @@ leaves_rule : {A : Type 0} (old : Texts) (layer : Layer) (new : Texts) (entries 
 leaves_rule old layer new entries all added has =
     let adds = added.adds in
     let whole =
-    takes_all layer.mode all (fresh (telling layer.bytes) None V15)
+    takes_all layer.mode all (fresh added.told V15)
     (record { bytes = layer.bytes; fault = None }) old adds.loaded added.answer entries
     (can_read old layer new added) has adds.loads added.not_refused in
     subst (λ es. Leaves (layer_result layer (values_of old) es) adds.loaded added.answer) (append-nil entries)

@@ -1,5 +1,5 @@
 -- Laws of layers: what calls of `add` come to.
-use Rattle.std.specs.Prelude.{ℕ, ◌≡◌, ◌<◌, ◌^◌, Bool, List, length, filter, Option, Some, None, Result, Ok, is_ok}
+use Rattle.std.specs.Prelude.{ℕ, ◌≡◌, ◌<◌, ◌^◌, Bool, List, length, filter, Some, None, Result, Ok, is_ok}
 use Rattle.std.specs.List.{FoldsTo}
 use Rattle.dotenvy.specs.Dialect.TheVariants.{V15}
 use Rattle.dotenvy.specs.Error.{Error}
@@ -10,7 +10,7 @@ use Rattle.dotenvy.specs.Items.{LookUp, no_values}
 use Rattle.dotenvy.specs.Marks.{without_mark}
 use Rattle.dotenvy.specs.Meaning.{values_of}
 use Rattle.dotenvy.specs.Run.{Loaded}
-use Rattle.dotenvy.specs.Source.{Ahead}
+use Rattle.dotenvy.specs.Source.{Told}
 use Rattle.env_layers.specs.declared.layers.Mode.{Mode}
 use Rattle.env_layers.specs.Layers.{AddsLayer, rule_of}
 
@@ -21,13 +21,15 @@ pub record Layer : Type 0 where
   pub accepted : Bool
 
 -- the reader tells these bytes, all of them, and no fault
-abbrev pub telling : List ℕ → Option Ahead
-telling bytes = Some (record { bytes = bytes; fault = None })
+abbrev pub TellsAll : Told → List ℕ → Type 0
+TellsAll told bytes = told.ahead ≡ Some (record { bytes = bytes; fault = None })
 
 -- one call of `add`, as its contract says, which was not refused memory
 pub record Adds (A : Type 0) (old : Texts) (layer : Layer) (new : Texts) : Type 0 where
   pub answer : Result (Unit {0}) (Error A)
-  pub adds : AddsLayer layer.mode (telling layer.bytes) old answer new
+  pub told : Told
+  pub tells : TellsAll told layer.bytes
+  pub adds : AddsLayer layer.mode told old answer new
   pub few : length layer.bytes < 2 ^ 32
   pub not_refused : ¬ (IsMemoryErr answer)
   pub accepted : layer.accepted ≡ is_ok answer

@@ -88,7 +88,7 @@ impl<A: Allocator + Clone> Layers<A> {
     /// layers.add(alloc, Bytes::new(b"HOST=db.local\n"), Mode::Override)?;
     /// ```
     pub fn add<R: Source + Drop>(&mut self, alloc: A, reader: R, mode: Mode) -> Result<(), A>
-        ensures told { AddsLayer mode (R.ahead reader) self.old.names result self.new.names }
+        ensures told { AddsLayer mode (R.told reader) self.old.names result self.new.names }
         ensures refused { OnErr result (self.new ≡ self.old) }
         ensures keeps { mode ≡ Mode.Keep → KeepsNames self.old.names self.new.names }
         ensures changes { ChangesOnlyKeys self.old self.new }

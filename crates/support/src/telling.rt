@@ -63,9 +63,7 @@ fn with_note(calls: Option<Vec<Note>>, note: Note) -> Option<Vec<Note>>
 }
 
 impl<R: Source> Source for Telling<R> {
-    ghost ahead = { λ s. R.ahead s.inner };
-
-    ghost calls = { λ s. calls_noted s.calls };
+    ghost told = { λ s. record (R.told s.inner) { calls = calls_noted s.calls } };
 
     fn read_some(&mut self, buf: &mut [u8]) -> io::Result<usize> {
         let answer = self.inner.read_some(buf);
@@ -75,11 +73,7 @@ impl<R: Source> Source for Telling<R> {
 }
 
 impl<W: Sink> Sink for Telling<W> {
-    ghost held = { λ s. W.held s.inner };
-
-    ghost last_fault = { λ s. W.last_fault s.inner };
-
-    ghost calls = { λ s. calls_noted s.calls };
+    ghost told = { λ s. record (W.told s.inner) { calls = calls_noted s.calls } };
 
     fn write_some(&mut self, buf: &[u8]) -> io::Result<usize> {
         let answer = self.inner.write_some(buf);

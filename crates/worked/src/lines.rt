@@ -1,7 +1,8 @@
 //! What logical lines come of bytes, however these are read.
 
 use crate::shown::sees_text;
-use dotenvy::{Bytes, Environment, Error, Iter, Result, Source};
+use dotenvy::{Bytes, Dialect, Environment, Error, Iter, Result, Source};
+use dotenvy_items::iter::over_lines;
 use dotenvy_lines::lines::{QuotedLines, Splitter};
 use std::alloc::{AllocError, Global};
 use std::fmt::Write;
@@ -9,6 +10,7 @@ use std::io;
 use std::io::ErrorKind;
 use std::process::Abort;
 use std::test::Fail;
+use support::answers::items;
 use support::reader::{Cut, PlayedReader, steps};
 
 // Gives its bytes in pieces, every second read interrupted, and then a fault, if it has one, or the end.
@@ -221,6 +223,45 @@ fn three_reads(rt: HostRuntime) -> std::result::Result<(), Fail> {
         let reader = PlayedReader::new(&steps, Cut::ByByte);
         let mut splitter = Splitter::with_limit(alloc, reader, 3)?;
         sees_text(&rt, listed_in_place(alloc, &mut splitter)?, wanted);
+    }
+    Ok(())
+}
+
+// The items that three reads of one byte give, or of an interruption: `None` is behind them, and stays.
+fn items_of_three_reads(
+    alloc: Global,
+    written: &str,
+    dialect: Dialect,
+) -> std::result::Result<String, Fail> {
+    let steps = steps(alloc, written)?;
+    let environment = Environment::new(alloc);
+    let reader = PlayedReader::new(&steps, Cut::ByByte);
+    let lines = Splitter::with_limit(alloc, reader, 3)?;
+    let mut file = over_lines(lines, alloc, dialect);
+    let mut given = items(alloc, &mut file, &environment)?;
+    if file.next_item(&environment).is_some() {
+        given.push(String::from_str(alloc, "more")?)?;
+    }
+    Ok(given.join(alloc, "; ")?)
+}
+
+// The pair or the fault that the bytes read so far decide, the fault of the bound, and nothing more.
+#[test]
+fn three_reads_by_items(rt: HostRuntime) -> std::result::Result<(), Fail> {
+    for (written, wanted) in [
+        ("A=%0aB=1%0a", "A=; io Other"),
+        ("A=%0a", "A=; io Other"),
+        ("A=1", "io Other"),
+        ("A=1%0a", "io Other"),
+        ("A%0a; fail Interrupted", "fault at 1: A; io Other"),
+        ("fail Interrupted; A=%0a", "io Other"),
+        ("A=", "A="),
+        ("fail TimedOut; A=%0a", "io TimedOut"),
+    ] {
+        for dialect in [Dialect::V15, Dialect::Next] {
+            let given = items_of_three_reads(rt.alloc(), written, dialect)?;
+            sees_text(&rt, given, wanted);
+        }
     }
     Ok(())
 }

@@ -7,7 +7,7 @@ use Rattle.std.specs.IoError.{error_kind}
 use Rattle.std.specs.declared.io.Error.{Error as IoError}
 use Rattle.dotenvy_format.specs.PhysicalLines.{no_line_feed, is_whole_line}
 use Rattle.dotenvy_base.specs.Calls.{Call, MayGoOn}
-use Rattle.dotenvy_base.specs.Source.{Ahead}
+use Rattle.dotenvy_base.specs.Source.{Ahead, Told}
 use Rattle.dotenvy_base.specs.declared.errors.Error.{Error}
 use Rattle.dotenvy_base.specs.Errors.{IsMemory, IsIoOf}
 
@@ -106,10 +106,10 @@ SkipsLine a s (Err e) t = IsFinal a s (λ bytes. no_line_feed bytes ≡ true) e 
 
 -- one read of the source, for at most 8,192 bytes; more may follow, unless it met the end, which is
 -- to give no byte, or failed
-abbrev pub AsksOnce : {A : Type 0} → Option (List Call) → Result Bool (Error A) →
-    Option (List Call) → Type 0
+abbrev pub AsksOnce : {A : Type 0} → Told → Result Bool (Error A) → Told → Type 0
 AsksOnce before answer after =
-    (all : List Call) → after ≡ Some all →
-    (calls : List Call) × (call : Call) × (before ≡ Some calls) × (all ≡ calls ++ call ∷ [])
+    (after.references ≡ before.references)
+    × ((all : List Call) → after.calls ≡ Some all →
+    (calls : List Call) × (call : Call) × (before.calls ≡ Some calls) × (all ≡ calls ++ call ∷ [])
     × (call.len ≤ 8192) × (answer ≡ Ok false → MayGoOn call.answer)
-    × (answer ≡ Ok true → call.answer ≡ Ok 0)
+    × (answer ≡ Ok true → call.answer ≡ Ok 0))

@@ -8,14 +8,13 @@ use Rattle.dotenvy_base.proofs.output.write_all.Goals.{in-Ok, in-Err+else-ne}
 
 pub writes-init : goal.writes-init
 writes-init g c =
-    sending_start (g.W.Sink.held c.args.writer.now) (g.W.Sink.last_fault c.args.writer.now)
-    (g.W.Sink.calls c.args.writer.now) c.args.bytes.now
+    sending_start (g.W.Sink.told c.args.writer.now) c.args.bytes.now
 
 pub returns-then-is_empty : goal.returns-then-is_empty
 returns-then-is_empty g c =
     let left = c.writes-test.true in
     sends_all {A =
-    g.row.A.Denot} g.W.Sink.held g.W.Sink.last_fault g.W.Sink.calls c.args.writes_left c.args.writer.now
+    g.row.A.Denot} g.W.Sink.told c.args.writes_left c.args.writer.now
     c.writes.writer c.args.bytes.now c.writes.rest.now c.writes.counter c.writes.invariant
     (tested_empty c.writes.rest.now
     (length c.writes.rest.now) c.is_empty.result c.is_empty.ensures refl c.if-is_empty.true) (omega (arith, left))
@@ -27,7 +26,7 @@ returns-in-Ok-eq0 g c =
     (length c.writes.rest.now) c.is_empty.result c.is_empty.ensures refl c.if-is_empty.false in
     let zero : c.in-Ok-eq0.field-0 ≡ 0 = search rules in
     sends_zero {A =
-    g.row.A.Denot} g.W.Sink.held g.W.Sink.last_fault g.W.Sink.calls c.args.writes_left c.args.writer.now
+    g.row.A.Denot} g.W.Sink.told c.args.writes_left c.args.writer.now
     c.writes.writer c.write_some.new.self c.args.bytes.now c.writes.rest.now c.writes.counter c.from.result
     c.writes.invariant c.writes-test.true (rw (← zero) c.in-Ok-eq0.ensures.bytes) (rw
     (← zero) c.in-Ok-eq0.ensures.fault)
@@ -39,7 +38,7 @@ returns-then-ne g c =
     tested_some c.writes.rest.now
     (length c.writes.rest.now) c.is_empty.result c.is_empty.ensures refl c.if-is_empty.false in
     sends_failed {A =
-    g.row.A.Denot} g.W.Sink.held g.W.Sink.last_fault g.W.Sink.calls c.args.writes_left c.args.writer.now
+    g.row.A.Denot} g.W.Sink.told c.args.writes_left c.args.writer.now
     c.writes.writer c.write_some.new.self c.args.bytes.now c.writes.rest.now c.writes.counter c.in-Err.e
     c.writes.invariant c.writes-test.true c.in-Err.ensures.bytes c.in-Err.ensures.fault c.in-Err.ensures.calls some.1
     (is_no_interruption c.in-Err.e c.kind.result c.ne.result c.kind.ensures c.ne.ensures c.if-ne.true)
@@ -50,11 +49,8 @@ writes-preserved g c = elim c.match-write_some.branch [
       let same : c.match-write_some.rest.now ≡ drop w.in-Ok.n c.writes.rest.now = ap (λ r. r.now) w.rest-is
       ∙ slice_rest w.in-Ok.n c.writes.rest.now in
       let some : w.in-Ok.n ≢ 0 = search rules in
-      rw same (sending_more (g.W.Sink.held c.args.writer.now) (g.W.Sink.held c.writes.writer)
-      (g.W.Sink.held c.write_some.new.self)
-      (g.W.Sink.last_fault c.args.writer.now) (g.W.Sink.last_fault c.writes.writer)
-      (g.W.Sink.last_fault c.write_some.new.self)
-      (g.W.Sink.calls c.args.writer.now) (g.W.Sink.calls c.writes.writer) (g.W.Sink.calls c.write_some.new.self)
+      rw same (sending_more (g.W.Sink.told c.args.writer.now) (g.W.Sink.told c.writes.writer)
+      (g.W.Sink.told c.write_some.new.self)
       c.args.bytes.now c.writes.rest.now c.writes.counter w.in-Ok.n
       c.writes.invariant w.in-Ok.ensures.bytes w.in-Ok.ensures.fault
       w.in-Ok.ensures.calls some w.in-Ok.ensures.bound))
@@ -63,11 +59,8 @@ writes-preserved g c = elim c.match-write_some.branch [
       let some =
       tested_some c.writes.rest.now
       (length c.writes.rest.now) c.is_empty.result c.is_empty.ensures refl c.if-is_empty.false in
-      rw same (sending_again (g.W.Sink.held c.args.writer.now) (g.W.Sink.held c.writes.writer)
-      (g.W.Sink.held c.write_some.new.self)
-      (g.W.Sink.last_fault c.args.writer.now) (g.W.Sink.last_fault c.writes.writer)
-      (g.W.Sink.last_fault c.write_some.new.self)
-      (g.W.Sink.calls c.args.writer.now) (g.W.Sink.calls c.writes.writer) (g.W.Sink.calls c.write_some.new.self)
+      rw same (sending_again (g.W.Sink.told c.args.writer.now) (g.W.Sink.told c.writes.writer)
+      (g.W.Sink.told c.write_some.new.self)
       c.args.bytes.now c.writes.rest.now c.writes.counter w.in-Err.e
       c.writes.invariant w.in-Err.ensures.bytes w.in-Err.ensures.fault
       w.in-Err.ensures.calls some.1
@@ -78,7 +71,7 @@ pub returns-then-is_empty-2 : goal.returns-then-is_empty-2
 returns-then-is_empty-2 g c =
     let within = c.writes.auto.counter-end in
     sends_all {A =
-    g.row.A.Denot} g.W.Sink.held g.W.Sink.last_fault g.W.Sink.calls c.args.writes_left c.args.writer.now
+    g.row.A.Denot} g.W.Sink.told c.args.writes_left c.args.writer.now
     c.writes.writer c.args.bytes.now c.writes.rest.now c.writes.counter c.writes.invariant
     (tested_empty c.writes.rest.now
     (length c.writes.rest.now) c.is_empty-2.result c.is_empty-2.ensures refl c.if-is_empty-2.true) (omega
@@ -90,7 +83,7 @@ returns-else-is_empty-2 g c =
     let ended = c.writes-test.false in
     let some = tested_some c.writes.rest.now (length c.writes.rest.now) c.is_empty-2.result c.is_empty-2.ensures refl
     c.if-is_empty-2.false in
-    sends_none_left {A = g.row.A.Denot} g.W.Sink.held g.W.Sink.last_fault g.W.Sink.calls c.args.writes_left
+    sends_none_left {A = g.row.A.Denot} g.W.Sink.told c.args.writes_left
     c.args.writer.now c.writes.writer c.args.bytes.now c.writes.rest.now c.writes.counter c.other.result
     c.writes.invariant
     (omega (arith, within, ended)) some.1 c.other.ensures.kind

@@ -1,5 +1,5 @@
 use Rattle.std.proofs.Common.{rules}
 use Rattle.dotenvy_command.proofs.run.list.Goals as goal
 
-pub returns : goal.returns
-returns g c = search rules
+pub returns-clause-lists : goal.returns-clause-lists
+returns-clause-lists g c = search rules

@@ -36,9 +36,9 @@ pub returns-then-line-clause-lists : goal.returns-then-line-clause-lists
 returns-then-line-clause-lists g c = λ line is listed.
     let asked = asks_for (texts c.args.words.now) line c.in_ok-line.line c.in_ok-line.ensures is in
     inr (subst (λ l. EndsAs (Lists {A = g.row.A.Denot}
-    (fresh (g.S.Source.ahead c.args.reader.now) (g.S.Source.calls c.args.reader.now) l)
-    g.W.Sink.held g.W.Sink.last_fault g.W.Sink.calls c.args.writer.now c.list.new.writer) c.list.result)
-    (sym (ap (λ l. l.dialect) asked)) c.list.ensures)
+    (fresh (g.S.Source.told c.args.reader.now) l)
+    g.W.Sink.told c.args.writer.now c.list.new.writer) c.list.result)
+    (sym (ap (λ l. l.dialect) asked)) c.list.ensures.lists)
 
 pub returns-then-line-clause-command : goal.returns-then-line-clause-command
 returns-then-line-clause-command g c = λ line is unlisted.

@@ -10,22 +10,22 @@ use Rattle.dotenvy_items.proofs.iter.from_read.Goals as goal
 pub returns-in_err-new-clause-in_turn : goal.returns-in_err-new-clause-in_turn
 returns-in_err-new-clause-in_turn g c =
     let p = err_from_is_err_and c.from_residual.result c.from_residual.ensures.1 in
-    rw (p.1, p.2) (loads_refused Keep (fresh (g.R.Source.ahead c.args.reader) (g.R.Source.calls c.args.reader) V15)
+    rw (p.1, p.2) (loads_refused Keep (fresh (g.R.Source.told c.args.reader) V15)
     c.args.env.now.names c.in_err-new.field-0.0 c.in_err-new.ensures.memory)
 
 pub returns-in_err-new-clause-told : goal.returns-in_err-new-clause-told
 returns-in_err-new-clause-told g c =
     let p = err_from_is_err_and c.from_residual.result c.from_residual.ensures.1 in
     rw (p.1, p.2) (refused_by Keep load_result
-    (fresh (g.R.Source.ahead c.args.reader) (g.R.Source.calls c.args.reader) V15) c.args.env.now.names
+    (fresh (g.R.Source.told c.args.reader) V15) c.args.env.now.names
     c.in_err-new.field-0.0 run-keep c.in_err-new.ensures.memory)
 
 pub returns-clause-told : goal.returns-clause-told
 returns-clause-told g c =
-    fresh_load load_result (g.R.Source.ahead c.args.reader) (g.R.Source.calls c.args.reader) V15 c.in_ok-new.field-0
+    fresh_load load_result (g.R.Source.told c.args.reader) V15 c.in_ok-new.field-0
     c.args.env.now.names c.load.new.env.names c.load.result c.in_ok-new.ensures.ok c.load.ensures.told
 
 pub returns-clause-in_turn : goal.returns-clause-in_turn
 returns-clause-in_turn g c =
-    is_in_turn Keep load_result (fresh (g.R.Source.ahead c.args.reader) (g.R.Source.calls c.args.reader) V15)
+    is_in_turn Keep load_result (fresh (g.R.Source.told c.args.reader) V15)
     c.args.env.now.names c.load.new.env.names c.load.result run-keep (returns-clause-told g c)

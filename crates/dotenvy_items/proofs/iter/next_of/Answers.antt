@@ -22,7 +22,7 @@ lines-init g c = record {
       passed_none a
       (state_of c.args.lines.now.lines (remembered_of c.args.remembered.now.entries) c.args.dialect before) entries
       is_open told has;
-  asks = asks_none _ c.args.lines.now.lines.input c.args.lines.now.lines.input refl refl refl;
+  asks = asks_none _ c.args.lines.now.lines.input c.args.lines.now.lines.input refl refl refl refl;
 }
 
 pub returns-then-is_some-clause-next : goal.returns-then-is_some-clause-next

@@ -9,12 +9,12 @@ use Rattle.dotenvy_items.proofs.written.list_rest.Goals as goal
 
 pub returns-in_err-clone-clause-lists : goal.returns-in_err-clone-clause-lists
 returns-in_err-clone-clause-lists g c = λ opened.
-    refused_lists c.args.file.now g.W.Sink.held g.W.Sink.last_fault g.W.Sink.calls c.args.writer.now
+    refused_lists c.args.file.now g.W.Sink.told c.args.writer.now
     c.from_residual.result c.from_residual.ensures.1
 
 pub returns-in_err-clone-clause-asks : goal.returns-in_err-clone-clause-asks
 returns-in_err-clone-clause-asks g c =
-    asks_none _ c.args.file.now.lines.input c.args.file.now.lines.input refl refl refl
+    asks_none _ c.args.file.now.lines.input c.args.file.now.lines.input refl refl refl refl
 
 pub returns-in_err-load_rest-clause-lists : goal.returns-in_err-load_rest-clause-lists
 returns-in_err-load_rest-clause-lists g c = λ opened.
@@ -51,7 +51,7 @@ returns-clause-lists g c = λ opened. (
     subst (λ old. ChangesKeys old c.load_rest.new.env.names) c.new-env.ensures.empty
         c.in_ok-load_rest.ensures.adds.changes.keys,
     c.in_ok-text.ensures.texts,
-    inr (subst (λ (bytes : List ℕ). Sends g.W.Sink.held g.W.Sink.last_fault g.W.Sink.calls most_writes
+    inr (subst (λ (bytes : List ℕ). Sends g.W.Sink.told most_writes
         c.args.writer.now c.write_all.new.writer bytes c.write_all.result) (c.as_bytes.ensures.value
         ∙ c.in_ok-text.ensures.bytes) c.write_all.ensures),
   ),

@@ -24,7 +24,7 @@ joining-init g c =
       same,
       λ some. absurd (some (search rules)),
       λ a told. joining_empty a c.args.input.now _ c.args.lines_taken.now (search rules) told,
-      asks_none _ c.args.input.now c.args.input.now refl refl refl,
+      asks_none _ c.args.input.now c.args.input.now refl refl refl refl,
     )
 
 pub returns-in_err-has_more-clause-told : goal.returns-in_err-has_more-clause-told

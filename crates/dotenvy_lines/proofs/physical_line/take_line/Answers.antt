@@ -31,7 +31,7 @@ pieces-init g c =
           ∙ chars-nil)
           (λ is. begun_chars text (IsUtf8-string_bytes c.args.text.now)
           (tested_some text (string_len c.args.text.now) c.is_empty.result c.is_empty.ensures len is).1) c.requires),
-      asks_none _ c.args.input.now c.args.input.now refl refl refl,
+      asks_none _ c.args.input.now c.args.input.now refl refl refl refl,
     )
 
 pub returns-in-LineEnd-clause-told : goal.returns-in-LineEnd-clause-told

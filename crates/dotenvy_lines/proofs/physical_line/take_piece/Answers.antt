@@ -28,11 +28,12 @@ returns-clause-falls g c =
     c.line_piece-piece.ensures c.text_front-front.ensures (sym c.is_at_end.ensures.value) c.use_up.ensures)
 
 pub returns-in_err-progress-clause-asks : goal.returns-in_err-progress-clause-asks
-returns-in_err-progress-clause-asks g c = asks_none _ c.args.input.now c.args.input.now refl refl refl
+returns-in_err-progress-clause-asks g c = asks_none _ c.args.input.now c.args.input.now refl refl refl refl
 
 pub returns-clause-asks : goal.returns-clause-asks
 returns-clause-asks g c =
     let used = c.use_up.ensures in
-    asks_none _ c.args.input.now c.use_up.new.self (ap (λ (s : InputState). s.calls) used)
+    asks_none _ c.args.input.now c.use_up.new.self (ap (λ (s : InputState). s.references) used)
+    (ap (λ (s : InputState). s.calls) used)
     (ap (λ (s : InputState). s.reads) used)
     (ap (λ (s : InputState). s.at_end) used)

@@ -6,3 +6,6 @@ returns-clause-bytes g c = search rules
 
 pub returns-clause-calls : goal.returns-clause-calls
 returns-clause-calls g c = search rules
+
+pub returns-clause-same : goal.returns-clause-same
+returns-clause-same g c = search rules

@@ -37,6 +37,7 @@ returns g c =
             ∙ ap (λ l. l ++ take c.in_ok-count.count c.read_some.new.buf) now,
       );
       call = search rules;
+      same = c.in_ok-count.ensures.same;
     }
 
 pub returns-in_err-count : goal.returns-in_err-count

@@ -9,7 +9,7 @@ use Rattle.dotenvy_lines.proofs.input.Input.drop_mark.Goals.{then-is_at_mark, el
 
 pub deciding-init : goal.deciding-init
 deciding-init g c =
-    (omega arith, λ a told. (told.0, omega arith), asks_none _ c.args.self.now c.args.self.now refl refl refl)
+    (omega arith, λ a told. (told.0, omega arith), asks_none _ c.args.self.now c.args.self.now refl refl refl refl)
 
 pub deciding-preserved : goal.deciding-preserved
 deciding-preserved g c = (
@@ -55,8 +55,8 @@ pub returns-clause-asks : goal.returns-clause-asks
 returns-clause-asks g c =
     let same : AsksReads (Unit {0}) c.deciding.self c.if-is_at_mark.self = elim c.if-is_at_mark.branch [
       | then-is_at_mark w ↦
-          rw (w.self-is, w.use_up.ensures) (asks_none _ c.deciding.self (used_up 3 c.deciding.self) refl refl refl)
-      | else-is_at_mark w ↦ rw w.self-is (asks_none _ c.deciding.self c.deciding.self refl refl refl)
+          rw (w.self-is, w.use_up.ensures) (asks_none _ c.deciding.self (used_up 3 c.deciding.self) refl refl refl refl)
+      | else-is_at_mark w ↦ rw w.self-is (asks_none _ c.deciding.self c.deciding.self refl refl refl refl)
     ] in
     asks_weaker _ _ _ _ (λ goes. tt)
     (asks_more _ _ c.args.self.now c.deciding.self c.if-is_at_mark.self c.deciding.invariant.2 tt same)

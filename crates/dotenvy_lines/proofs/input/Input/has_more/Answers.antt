@@ -11,7 +11,7 @@ pub waiting-init : goal.waiting-init
 waiting-init g c = (
   omega arith,
   λ a told. (told.0, omega arith),
-  asks_none _ c.args.self.now c.args.self.now refl refl refl,
+  asks_none _ c.args.self.now c.args.self.now refl refl refl refl,
   λ ended. refl,
 )
 

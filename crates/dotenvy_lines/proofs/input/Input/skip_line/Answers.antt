@@ -10,7 +10,7 @@ skipping-init g c = (
   omega arith,
   λ some. inr some,
   λ a told. ([], reading_start a c.args.self.now told),
-  asks_none _ c.args.self.now c.args.self.now refl refl refl,
+  asks_none _ c.args.self.now c.args.self.now refl refl refl refl,
 )
 
 pub returns-then-use_piece-clause-told : goal.returns-then-use_piece-clause-told

@@ -13,6 +13,7 @@ returns-clause-told g c = λ a left.
 pub returns-clause-asks : goal.returns-clause-asks
 returns-clause-asks g c =
     let used = c.use_up.ensures in
-    asks_none _ c.args.self.now c.use_up.new.self (ap (λ (s : InputState). s.calls) used)
+    asks_none _ c.args.self.now c.use_up.new.self (ap (λ (s : InputState). s.references) used)
+    (ap (λ (s : InputState). s.calls) used)
     (ap (λ (s : InputState). s.reads) used)
     (ap (λ (s : InputState). s.at_end) used)

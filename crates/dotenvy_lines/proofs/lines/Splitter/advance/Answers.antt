@@ -11,7 +11,7 @@ use Rattle.dotenvy_lines.proofs.lines.Splitter.advance.Goals as goal
 
 pub returns-then-not-is_open-clause-asks : goal.returns-then-not-is_open-clause-asks
 returns-then-not-is_open-clause-asks g c =
-    asks_none _ c.args.self.now.lines.input c.args.self.now.lines.input refl refl refl
+    asks_none _ c.args.self.now.lines.input c.args.self.now.lines.input refl refl refl refl
 
 pub returns-clause-told : goal.returns-clause-told
 returns-clause-told g c = λ a is_open told.
