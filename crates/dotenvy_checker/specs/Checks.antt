@@ -2,18 +2,17 @@
 use Rattle.std.specs.Prelude.{ℕ, ◌≡◌, ◌+◌, ◌<◌, ◌^◌, not, List, length, is_some, map, Option, Some, None}
 use Rattle.std.specs.Prelude.{Result, Ok, Err}
 use Rattle.std.specs.List.{list_any}
-use Rattle.std.specs.declared.io.ErrorKind.{ErrorKind}
-use Rattle.dotenvy_base.specs.Calls.{Call}
 use Rattle.dotenvy_base.specs.Environment.{Texts}
 use Rattle.dotenvy_base.specs.Errors.{IsIoOf}
 use Rattle.dotenvy_base.specs.Output.{Sends, most_writes}
-use Rattle.dotenvy_base.specs.Source.{Ahead}
+use Rattle.dotenvy_base.specs.Source.{Ahead, SinkTold}
 use Rattle.dotenvy_base.specs.declared.errors.Error.{Error}
 use Rattle.dotenvy_format.specs.declared.dialect.Dialect.{Dialect}
 use Rattle.dotenvy_format.specs.Entries.{Entry}
 use Rattle.dotenvy_format.specs.Marks.{without_mark}
 use Rattle.dotenvy_lines.specs.Input.{InputState, IsReadFault}
 use Rattle.dotenvy_lines.specs.Lines.{LinesState, whole_lines}
+use Rattle.dotenvy_items.specs.Iter.{IterState}
 use Rattle.dotenvy_items.specs.LoadStops.{unmarked}
 use Rattle.dotenvy_items.specs.Meaning.{values_of}
 use Rattle.dotenvy_checker.specs.declared.failure.Stop.{Stop}
@@ -48,22 +47,21 @@ found_in found = record {
   warnings = list_any (λ finding. not (is_fault finding)) (unnumbered found);
 }
 
--- the report of the entries that are read of a is sent, and a check returns this: what is found in all of them, the fault of reading, or the fault of writing
-abbrev pub Reports : {A W : Type 0} → (W → Option (List ℕ)) → (W → Option ErrorKind) →
-    (W → Option (List Call)) → List ℕ → Names → Dialect → LinesState → Ahead → W →
+-- the report of the entries that are read of a is sent to a sink, and the result is: what is found in all of them; the fault of reading; or that of writing
+abbrev pub Reports : {A W : Type 0} → (W → SinkTold) → List ℕ → Names → IterState → Ahead → W →
     Result Found (Stop A) → W → Type 0
-Reports {A = A} held last_fault calls file env dialect s a old (Ok found) new =
-    (numbered : List (ℕ × Entry)) × ReadsEntries {A = A} dialect s a None numbered
+Reports {A = A} told file env s a old (Ok found) new =
+    (numbered : List (ℕ × Entry)) × ReadsEntries {A = A} s.dialect s.lines a None numbered
     × (found ≡ found_in (findings env numbered))
-    × Sends {A = A} held last_fault calls most_writes old new (report file (findings env numbered)) (Ok tt)
-Reports {A = A} held last_fault calls file env dialect s a old (Err (Read e)) new =
-    (numbered : List (ℕ × Entry)) × ReadsEntries dialect s a (Some e) numbered
-    × Sends {A = A} held last_fault calls most_writes old new (report file (findings env numbered)) (Ok tt)
-Reports {A = A} held last_fault calls file env dialect s a old (Err (Write e)) new =
+    × Sends {A = A} told most_writes old new (report file (findings env numbered)) (Ok tt)
+Reports {A = A} told file env s a old (Err (Read e)) new =
+    (numbered : List (ℕ × Entry)) × ReadsEntries s.dialect s.lines a (Some e) numbered
+    × Sends {A = A} told most_writes old new (report file (findings env numbered)) (Ok tt)
+Reports {A = A} told file env s a old (Err (Write e)) new =
     (fault : Option (Error A)) × (numbered : List (ℕ × Entry))
-    × ReadsEntries dialect s a fault numbered
-    × Sends held last_fault calls most_writes old new (report file (findings env numbered)) (Err e)
-Reports held last_fault calls file env dialect s a old (Err (Memory refused)) new = new ≡ old
+    × ReadsEntries s.dialect s.lines a fault numbered
+    × Sends told most_writes old new (report file (findings env numbered)) (Err e)
+Reports told file env s a old (Err (Memory refused)) new = new ≡ old
 
 -- the check stops because an allocation failed
 abbrev pub IsRefused : {A : Type 0} → Stop A → Type 0

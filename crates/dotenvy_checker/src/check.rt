@@ -33,8 +33,8 @@ pub fn check<R: Source + Drop, W: Sink, A: Allocator + Clone>(
     writer: &mut W,
 ) -> Result<Found, Stop<A>>
     ensures reports { IsOpen file → (a : Ahead) → TellsLeft file a → FewLines file.lines a →
-        Reports W.held W.last_fault W.calls (chars name.now) (names_in env.now.names) file.dialect
-        file.lines a writer.old result writer.new }
+        Reports W.told (chars name.now) (names_in env.now.names) file a writer.old result
+        writer.new }
     ensures shut { ¬ (IsOpen file) → IfOk result (λ found. found ≡ found_in []) }
 {
     let (mut lines, dialect) = into_lines(file);

@@ -21,7 +21,7 @@ returns-in-Err-clause-reports g c = λ opened a told few.
       c.in_ok-fault.fault,
       k.numbered,
       k.reads,
-      subst (λ bytes. Sends {A = g.row.A.Denot} g.W.Sink.held g.W.Sink.last_fault g.W.Sink.calls most_writes c.args.writer.now
+      subst (λ bytes. Sends {A = g.row.A.Denot} g.W.Sink.told most_writes c.args.writer.now
           c.write_all.new.writer bytes (Err c.in-Err.unwritten)) (c.as_bytes.ensures.value ∙ k.text) c.in-Err.ensures,
     )
 
@@ -40,7 +40,7 @@ returns-in-None-clause-reports g c = λ opened a told few.
       k.numbered,
       subst (λ fault. ReadsEntries {A = g.row.A.Denot} c.args.file.dialect c.args.file.lines a fault k.numbered) c.in-None.is k.reads,
       k.found,
-      subst (λ bytes. Sends {A = g.row.A.Denot} g.W.Sink.held g.W.Sink.last_fault g.W.Sink.calls most_writes c.args.writer.now
+      subst (λ bytes. Sends {A = g.row.A.Denot} g.W.Sink.told most_writes c.args.writer.now
           c.write_all.new.writer bytes (Ok tt)) (c.as_bytes.ensures.value ∙ k.text) c.in_default.ensures,
     )
 
@@ -58,6 +58,6 @@ returns-clause-reports g c = λ opened a told few.
     }) c.into_lines-lines.ensures.lines c.in_ok-fault.ensures.told opened told few in (
       k.numbered,
       subst (λ fault. ReadsEntries {A = g.row.A.Denot} c.args.file.dialect c.args.file.lines a fault k.numbered) c.in-Some.is k.reads,
-      subst (λ bytes. Sends {A = g.row.A.Denot} g.W.Sink.held g.W.Sink.last_fault g.W.Sink.calls most_writes c.args.writer.now
+      subst (λ bytes. Sends {A = g.row.A.Denot} g.W.Sink.told most_writes c.args.writer.now
           c.write_all.new.writer bytes (Ok tt)) (c.as_bytes.ensures.value ∙ k.text) c.in_default.ensures,
     )
