@@ -3,8 +3,8 @@
 use crate::answer::push_answer;
 use crate::scene::Scene;
 use crate::{
-    command, cut, file, layers, notation, reads, refused, refused_call, refused_reads,
-    refused_words, rest, scene, search, used, written,
+    check, check_run, command, cut, file, layers, notation, reads, refused, refused_call,
+    refused_reads, refused_words, rest, scene, search, used, written,
 };
 use anyhow::{Context, Result, bail};
 use comparison::{Comparison, differences};
@@ -20,6 +20,8 @@ fn play_in_scene(
     let played = match kind {
         "files" => scene::play(answers, &mut scene, fields),
         "run" => command::play_run(answers, &mut scene, fields),
+        "check_run" => check_run::play(answers, &mut scene, fields),
+        "refused_check_run" => check_run::play_refused(answers, &mut scene, fields),
         _ => refused_call::play(answers, rt, &mut scene, fields),
     };
     scene.leave()?;
@@ -57,7 +59,11 @@ fn play_library(
         "steps" => notation::play_steps(answers, fields),
         "process" => scene::play_process(answers, rt, fields),
         "words" => command::play_words(answers, fields),
-        "files" | "run" | "refused_call" => play_in_scene(answers, rt, kind, fields),
+        "check" => check::play(answers, fields),
+        "refused_check" => check::play_refused(answers, fields),
+        "files" | "run" | "refused_call" | "check_run" | "refused_check_run" => play_in_scene(
+            answers, rt, kind, fields,
+        ),
         _ => bail!("no kind of row is called {kind}"),
     }
 }

@@ -4,6 +4,8 @@
 
 mod answer;
 mod call;
+mod check;
+mod check_run;
 mod command;
 mod counts;
 mod cut;

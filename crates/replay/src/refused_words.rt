@@ -11,8 +11,8 @@ use std::alloc::{AllocError, Allocator, Global};
 use support::Rationed;
 use support::environment::copied;
 
-// Copies of the words in memory of this allocator.
-fn copies<A: Allocator + Clone>(
+/// Copies of the words in memory of this allocator.
+pub fn copies<A: Allocator + Clone>(
     room: Global,
     alloc: A,
     words: &[String],

@@ -118,6 +118,11 @@ impl Scene {
         Ok(())
     }
 
+    // A path in the folder, and a fault there.
+    fn fault_at(&self, name: &str, fault: &str) -> Result<(String, SystemFault)> {
+        Ok((self.path(name)?.into_string(), SystemFault::read(fault)?))
+    }
+
     // Plays a step on the system.
     fn play_on_system(&mut self, word: &str, rest: &str) -> Result<bool> {
         let (name, more) = word_and_rest(rest);
@@ -127,10 +132,8 @@ impl Scene {
             "closed" => self.system.closed = Some(SystemFault::read(name)?),
             "sealed" => self.system.sealed = Some(SystemFault::read(name)?),
             "broken" => self.system.broken = Some(failing_read(name, more)?),
-            "hidden" => {
-                let path = self.path(name)?.into_string();
-                self.system.hidden = Some((path, SystemFault::read(more)?));
-            }
+            "locked" => self.system.locked = Some(self.fault_at(name, more)?),
+            "hidden" => self.system.hidden = Some(self.fault_at(name, more)?),
             "mended" => self.system = PlayedSystem::new(self.rt),
             "entry" => self.push_entries(1, rest)?,
             "entries" => self.push_entries(name.parse()?, more)?,

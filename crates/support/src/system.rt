@@ -27,6 +27,8 @@ pub struct PlayedSystem {
     pub closed: Option<SystemFault>,
     /// The fault of each opening that asks for more than to read, if these fail.
     pub sealed: Option<SystemFault>,
+    /// A path whose opening fails, and the fault.
+    pub locked: Option<(String, SystemFault)>,
     /// A read of each opened file, if one is to fail.
     pub broken: Option<FailingRead>,
     /// A path at which looks fail, and their fault.
@@ -48,6 +50,7 @@ impl PlayedSystem {
             lost: None,
             closed: None,
             sealed: None,
+            locked: None,
             broken: None,
             hidden: None,
             entries: Vec::new(rt.alloc()),
@@ -162,6 +165,11 @@ impl Files for PlayedSystem {
     fn open_file(&self, how: &OpenOptions, path: &str) -> io::Result<PlayedFile> {
         note(&self.notes, String::from_str(self.rt.alloc(), path)?)?;
         if let Some(fault) = self.closed {
+            return Err(fault.error());
+        }
+        if let Some((locked, fault)) = &self.locked
+            && locked.as_str() == path
+        {
             return Err(fault.error());
         }
         match self.sealed {
