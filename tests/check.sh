@@ -1,0 +1,226 @@
+#!/usr/bin/env bash
+# Calls the built program dotenvy_check on real files: ones that can't be opened or read, a FIFO, links, the search for
+# `.env`, words that are no text, and standard output and error that are closed or full. `tests/check.sh PROGRAM` calls
+# another program. Without a word it is the one that `rt ci`, or `rt run` in crates/dotenvy_check, has built.
+# It takes a second or two. The last line is `N passed, M failed`.
+set -euo pipefail
+cd "$(dirname "$0")/.."
+umask 022
+built=$(realpath -m "${1-crates/dotenvy_check/out/dotenvy_check}")
+room=$(mktemp -d)
+trap 'jobs -pr | xargs -r kill; rm -rf "$room"' EXIT
+passed=0
+failed=0
+
+if [ ! -x "$built" ]; then
+    echo "FAILED: there is no program $built; rt run in crates/dotenvy_check builds it"
+    echo "0 passed, 1 failed"
+    exit 1
+fi
+cp "$built" "$room/program" 2>/dev/null
+# Root may read every file, so root has the checks made as nobody.
+as_nobody=(setpriv --reuid=65534 --regid=65534 --clear-groups)
+if [ "$(id -u)" -eq 0 ] && chmod 711 "$room" && "${as_nobody[@]}" test -x "$room/program"; then
+    cp tests/check.sh "$room"
+    mkdir -m 777 "$room/more" "$room/tests"
+    mv "$room/check.sh" "$room/tests"
+    TMPDIR=$room/more "${as_nobody[@]}" bash "$room/tests/check.sh" "$room/program"
+    exit
+fi
+program=$room/program
+mkdir "$room/files"
+cd "$room/files"
+
+# Counts a check of the last call: what it is, and the status, standard output and standard error that are right.
+check() {
+    local what=$1
+    if [ "$status" = "$2" ] && printf '%s' "$3" | cmp -s - "$room/output" && printf '%s' "$4" | cmp -s - "$room/errors"; then
+        passed=$((passed + 1))
+        echo "passed: $what"
+    else
+        failed=$((failed + 1))
+        echo "FAILED: $what: status $status"
+        cat "$room/output" "$room/errors"
+    fi
+}
+
+# Calls the program with these words.
+call() {
+    status=0
+    "$program" "$@" >"$room/output" 2>"$room/errors" || status=$?
+}
+
+fault() {
+    printf "%s:%s: error: Error parsing line: '%s', error at line index: %s\n" "$@"
+}
+
+no_value() {
+    printf "%s:%s: warning: '%s' has no value here; write \\\\$ for a dollar\n" "$@"
+}
+
+unread() {
+    printf '%s: error: %s\n' "$@"
+}
+
+nl=$'\n'
+printf 'A=1\nB=$A\n' >good.env
+printf 'A=1\nB=two words\nC=$NOT_THERE_\n' >bad.env
+printf 'A=$CHECKED\n' >mentions.env
+bad=$(fault bad.env 2 'two words' 4)$nl$(no_value bad.env 3 NOT)$nl
+bad+="bad.env:3: warning: the name 'NOT' ends before '_'; write \${NAME}$nl"
+mentions=$(no_value mentions.env 1 CHECKED)$nl
+unset CHECKED NOT
+
+check_statuses() {
+    call good.env
+    check 'a file without findings' 0 '' ''
+    call bad.env
+    check 'a file with a fault and warnings' 1 "$bad" ''
+    call mentions.env
+    check 'a file with a warning' 0 "$mentions" ''
+    call mentions.env --strict
+    check 'a warning with --strict' 1 "$mentions" ''
+    CHECKED=1 call --strict mentions.env
+    check 'a name of the environment has a value' 0 '' ''
+    CHECKED='' call --strict mentions.env
+    check 'an empty one has a value' 0 '' ''
+    CHECKED=$'\377' call mentions.env
+    check 'one that is no text has none' 0 "$mentions" ''
+    printf 'A=1\nB="$A"\n' >next.env
+    call --next next.env
+    check 'the second dialect' 0 '' ''
+    call next.env
+    check 'the first dialect' 1 "$(fault next.env 2 '"$A"' 3)$nl" ''
+}
+
+check_words() {
+    call -h
+    check 'an unknown option' 1 '' "error: unknown option '-h'$nl"
+    call bad.env --list
+    check 'an unknown option after a file: nothing is checked' 1 '' "error: unknown option '--list'$nl"
+    call bad.env $'\377.env'
+    check 'a word that is no text: nothing is checked' 1 '' "error: a word of the command line is not UTF-8$nl"
+    printf 'A\n' >$'a\nb.env'
+    call $'a\nb.env'
+    check 'a file name with a line feed' 1 "$(fault 'a\nb.env' 1 A 1)$nl" ''
+    call ''
+    check 'a file without a name' 1 "$(unread '' 'No such file or directory (os error 2)')$nl" ''
+    call ./-x
+    check 'a file whose name begins with a dash' 1 "$(unread ./-x 'No such file or directory (os error 2)')$nl" ''
+}
+
+# Each of these stands between two files that are checked all the same.
+check_between() {
+    local what=$1 file=$2 text=$3
+    call good.env "$file" bad.env
+    check "$what" 1 "$(unread "$file" "$text")$nl$bad" ''
+}
+
+check_files() {
+    mkdir folder shut
+    printf 'A\n' >locked.env
+    printf 'A\n' >shut/a.env
+    ln -s loop.env loop.env
+    ln -s absent.env nothing.env
+    chmod 000 locked.env shut
+    check_between 'an absent file' absent.env 'No such file or directory (os error 2)'
+    check_between 'a directory' folder 'Is a directory (os error 21)'
+    check_between 'a link to nothing' nothing.env 'No such file or directory (os error 2)'
+    check_between 'a link to itself' loop.env 'Too many levels of symbolic links (os error 40)'
+    check_between 'a file in a file' good.env/x 'Not a directory (os error 20)'
+    check_between 'a name that is too long' "$(printf '%0300d' 0)" 'File name too long (os error 36)'
+    if [ "$(id -u)" -ne 0 ]; then
+        check_between 'a file that may not be read' locked.env 'Permission denied (os error 13)'
+        check_between 'a file in a directory that may not be entered' shut/a.env 'Permission denied (os error 13)'
+    fi
+    chmod 755 locked.env shut
+    printf 'A=\377\nB=1\n' >broken.env
+    call broken.env
+    check 'a line that is no text' 1 "broken.env:1: error: the line is not UTF-8$nl" ''
+    ln -s bad.env link.env
+    call link.env
+    check 'a link has its own name' 1 "${bad//bad.env/link.env}" ''
+    call bad.env bad.env
+    check 'a file that is named twice' 1 "$bad$bad" ''
+    : >empty.env
+    call empty.env /dev/null
+    check 'empty files' 0 '' ''
+}
+
+check_streams() {
+    mkfifo pipe.env
+    cat bad.env >pipe.env &
+    call pipe.env
+    check 'a FIFO' 1 "${bad//bad.env/pipe.env}" ''
+    call /dev/stdin <bad.env
+    check 'standard input by its name' 1 "${bad//bad.env//dev/stdin}" ''
+    call bad.env <&-
+    check 'closed standard input' 1 "$bad" ''
+    seq 5000 | sed 's/.*/A/' >many.env
+    call many.env
+    check 'faults on 5000 lines' 1 "$(seq 5000 | sed "s/.*/many.env:&: error: Error parsing line: 'A', error at line index: 1/")$nl" ''
+}
+
+# The search begins in the current directory.
+check_search() {
+    local here=$PWD
+    mkdir -p above/below/.env
+    cp bad.env above/.env
+    cd above
+    call
+    check 'the default file' 1 "${bad//bad.env/$here/above/.env}" ''
+    cd below
+    call
+    check 'the default file of the directory above' 1 "${bad//bad.env/$here/above/.env}" ''
+    call .env
+    check 'a file that is named is not searched for' 1 "$(unread .env 'Is a directory (os error 21)')$nl" ''
+    cd "$here"
+    mkdir gone
+    cd gone
+    rmdir ../gone
+    call
+    check 'no current directory' 1 "$(unread .env 'No such file or directory (os error 2)')$nl" ''
+    cd "$here"
+}
+
+# Calls the program with standard output elsewhere: what is written there can't be told.
+call_without_output() {
+    local output=$1
+    shift
+    status=0
+    : >"$room/output"
+    eval '"$program" "$@"' "$output" '2>"$room/errors"' || status=$?
+}
+
+check_outputs() {
+    call_without_output '>&-' bad.env
+    check 'standard output is closed' 1 '' "error: Bad file descriptor (os error 9)$nl"
+    call_without_output '>/dev/full' bad.env
+    check 'standard output is full' 1 '' "error: No space left on device (os error 28)$nl"
+    call_without_output '>/dev/full' absent.env bad.env
+    check 'standard output is full, and a file is absent' 1 '' "error: No space left on device (os error 28)$nl"
+    call_without_output '>&-' good.env
+    check 'standard output is closed, and nothing is to be written' 0 '' ''
+    call_without_output '>/dev/full' good.env
+    check 'standard output is full, and nothing is to be written' 0 '' ''
+    # More than a pipe holds, so that the program waits for the reader, which goes.
+    call_without_output '> >(:)' many.env
+    check 'the reader of standard output is gone' 1 '' "error: Broken pipe (os error 32)$nl"
+    : >"$room/errors"
+    status=0
+    "$program" -x >"$room/output" 2>&- || status=$?
+    check 'standard error is closed' 1 '' ''
+    status=0
+    "$program" -x >"$room/output" 2>/dev/full || status=$?
+    check 'standard error is full' 1 '' ''
+}
+
+check_statuses
+check_words
+check_files
+check_streams
+check_search
+check_outputs
+
+echo "$passed passed, $failed failed"
+[ "$failed" -eq 0 ]
