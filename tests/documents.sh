@@ -1,6 +1,6 @@
 #!/usr/bin/env bash
 # Compares the documents with what is played, built and proved:
-# - crates/replay/data has the examples of docs/GRAMMAR.md, docs/OTHER_LIBRARIES.md and README.md as rows;
+# - crates/replay/data has the examples of docs/GRAMMAR.md, docs/CHECK.md, docs/OTHER_LIBRARIES.md and README.md as rows;
 # - crates/replay/stdout has the number of rows of each file, and crates/replay/args names each;
 # - each block of Rust in README.md and docs/LIBRARY.md is in a source file of crates/examples, the other examples or
 #   crates/own_contracts, and so is each line beside one of the Rust crate;
@@ -130,6 +130,7 @@ check_contracts() {
 }
 
 check "crates/replay/data/grammar.rows has the examples of docs/GRAMMAR.md" has_examples grammar
+check "crates/replay/data/check_page.rows has the examples of docs/CHECK.md" has_examples check_page
 check "crates/replay/data/other_libraries.rows has the examples of docs/OTHER_LIBRARIES.md" has_examples other_libraries
 check "crates/replay/data/readme.rows has the file of README.md" has_examples readme
 check "crates/replay/stdout has the number of rows of each file" has_right_counts

@@ -1,11 +1,10 @@
 #!/usr/bin/env bash
-# Sees that the manual page docs/dotenvy_run.1 has what docs/COMMAND.md promises: each option, status and text of its
-# tables, and no others. Where groff is installed, it also sees that groff finds nothing wrong with the page.
+# Sees that the manual pages docs/dotenvy_run.1 and docs/dotenvy_check.1 have what docs/COMMAND.md and docs/CHECK.md promise:
+# each option, status and text of their tables, and no others. Where groff is installed, it also sees that groff finds
+# nothing wrong with them.
 # It takes less than a second, and no proof. The last line is `N passed, M failed`.
 set -euo pipefail
 cd "$(dirname "$0")/.."
-page=docs/COMMAND.md
-manual=docs/dotenvy_run.1
 room=$(mktemp -d)
 trap 'rm -rf "$room"' EXIT
 passed=0
@@ -41,7 +40,7 @@ tags() {
         /^\.SH / { inside = $0 == section; next }
         inside && is_tag { print }
         { is_tag = $0 == ".TP" }
-    ' "$manual" | sed 's/^\.[BI] //; s/\\f[BIR]//g; s/\\-/-/g; s/\\(aq/'\''/g; s/\\&//g'
+    ' "$manual" | sed 's/^\.[BI] //; s/\\f[BIR]//g; s/\\-/-/g; s/\\(aq/'\''/g; s/\\&//g; s/\\e/\\/g'
 }
 
 # Each row of a section of the page is the tag of an entry in a section of the manual page, and the other way round.
@@ -66,15 +65,32 @@ is_silent() {
     [ "$status" -eq 0 ] && [ ! -s "$room/said" ]
 }
 
+# Where groff is installed, it has to find nothing wrong with the manual page.
+check_macros() {
+    if command -v groff >"$room/groff"; then
+        check "groff finds nothing wrong with $manual" is_silent
+    else
+        echo "left out: groff is not installed, so nothing says that $manual has no wrong macro"
+    fi
+}
+
+page=docs/COMMAND.md
+manual=docs/dotenvy_run.1
 compare "Options and the command" "OPTIONS"
 compare "What can't be started" "THE COMMAND"
 compare "Statuses" "EXIT STATUS"
 compare "Texts on standard error" "DIAGNOSTICS"
-if command -v groff >"$room/groff"; then
-    check "groff finds nothing wrong with $manual" is_silent
-else
-    echo "left out: groff is not installed, so nothing says that $manual has no wrong macro"
-fi
+check_macros
+
+page=docs/CHECK.md
+manual=docs/dotenvy_check.1
+compare "Options and files" "OPTIONS"
+compare "What is printed" "OUTPUT"
+compare "Faults" "FAULTS"
+compare "Warnings" "WARNINGS"
+compare "Statuses" "EXIT STATUS"
+compare "Texts on standard error" "DIAGNOSTICS"
+check_macros
 
 echo "$passed passed, $failed failed"
 [ "$failed" -eq 0 ]

@@ -1,7 +1,7 @@
 #!/usr/bin/env python3
 """Prints the examples of docs/OTHER_LIBRARIES.md as rows (docs/ROWS.md), which are crates/replay/data/other_libraries.rows.
 
-Rows, names and phrases are those of tests/grammar_rows.py. Where a table says what to write instead, each of its lines is
+Rows, names and phrases are those of tests/grammar_rows.py and tests/check_page_rows.py. Where a table says what to write instead, each of its lines is
 two rows: one for the line, and one for what to write instead, whose name ends with `-instead`. What the page says of other
 libraries isn't read.
 """
@@ -10,6 +10,7 @@ import sys
 
 sys.dont_write_bytecode = True  # So that the import leaves nothing in the repository.
 
+from check_page_rows import check_row
 from grammar_rows import CODE, EXAMPLES, FILE, file_rows, in_order, listed, phrase, phrases, print_rows
 
 # The tables that have no examples, by their header lines.
@@ -25,6 +26,13 @@ def instead_rows(name, table):
     here = {**line, "Gives": line["Here"]}
     instead = {**line, "Line": line["Write instead"], "Gives": line["Then"]}
     return file_rows(name, [here]) + file_rows(name + "-instead", [instead])
+
+
+def warned_rows(name, table):
+    """What a line gives, and which warnings dotenvy_check prints of it."""
+    line, here, warnings = table[-1].values()
+    warned = check_row(name + "-warned", "", phrase(line, FILE), warnings.split(", then "))
+    return file_rows(name, [{"Line": line, "Gives": here}]) + [warned]
 
 
 def command_rows(name, table):
@@ -48,6 +56,7 @@ def layer_rows(name, table):
 
 # The tables of examples, beside those that docs/GRAMMAR.md has too.
 TABLES = {
+    "| Line | Here | `dotenvy_check` warns |": warned_rows,
     "| Line | Here | Elsewhere | Write instead | Then |": instead_rows,
     "| Environment | Line | Here | Elsewhere | Write instead | Then |": instead_rows,
     "| Environment | `-f first.env` | `-f second.env` | The command gets |": command_rows,
