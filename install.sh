@@ -1,15 +1,20 @@
 #!/usr/bin/env bash
-# Proves, builds and installs the program dotenvy_run and its manual page. `./install.sh --help` says how to call it.
+# Proves, builds and installs the programs dotenvy_run and dotenvy_check, each with its manual page. `./install.sh --help`
+# says how to call it.
 #
 # Whatever can be found wrong at once is found before the proof, which takes minutes. The files are copied beside their
 # places and then renamed, so an old program is replaced whole or not at all, even while it runs. After an error or a
 # signal, the target is as it was.
 set -euo pipefail
 cd "$(dirname "$0")"
-name=dotenvy_run
-built=crates/$name/out/$name
-manual=docs/$name.1
-log=$PWD/crates/$name/out/install.log
+names=(dotenvy_run dotenvy_check)
+log=$PWD/crates/${names[0]}/out/install.log
+# The files to install, their places and modes, the new copies beside the places, and where old files are kept meanwhile.
+files=()
+places=()
+modes=()
+copies=()
+old_files=()
 # What this run may have to remove again: files, and directories, the deepest first.
 temporary=()
 made=()
@@ -18,11 +23,13 @@ usage() {
     cat <<END
 usage: ./install.sh [PREFIX]
 
-Proves and builds the program $name, and installs two files:
-  PREFIX/bin/$name
-  PREFIX/share/man/man1/$name.1
+Proves and builds the programs ${names[0]} and ${names[1]}, and installs four files:
+  PREFIX/bin/${names[0]}
+  PREFIX/bin/${names[1]}
+  PREFIX/share/man/man1/${names[0]}.1
+  PREFIX/share/man/man1/${names[1]}.1
 PREFIX is an absolute path; without it, /usr/local. With the variable DESTDIR set to an absolute path, the files go
-below that: to \$DESTDIR/usr/local/bin/$name, and so on.
+below that: to \$DESTDIR/usr/local/bin/${names[0]}, and so on.
 END
 }
 
@@ -63,18 +70,21 @@ absolute() {
     printf '%s\n' "$path"
 }
 
-# Prints the crates of crates.txt that this crate needs, each after those that it needs itself, and last the crate.
+# Prints these crates and those of crates.txt that they need, each once, after those that it needs itself.
 crates_for() {
-    awk -v crate="$1" '
-        function visit(name,  names, count, i) {
+    awk -v crates="$*" '
+        function visit(name,  below, count, i) {
             if (!(name in needs) || visited[name]++) return
-            count = split(needs[name], names, " ")
-            for (i = 1; i <= count; i++) visit(names[i])
+            count = split(needs[name], below, " ")
+            for (i = 1; i <= count; i++) visit(below[i])
             print name
         }
         { sub(/#.*/, ""); gsub(/,/, " "); split($0, half, ":") }
         split(half[1], words, " ") { needs[words[1]] = half[2] }
-        END { visit(crate) }
+        END {
+            count = split(crates, names, " ")
+            for (i = 1; i <= count; i++) visit(names[i])
+        }
     ' crates.txt
 }
 
@@ -86,7 +96,7 @@ check_target() {
     done
     [ -d "$folder/" ] || fail "cannot install $1: $folder is not a directory"
     # Modes alone don't tell: the file system may be read-only, for example. So something is made there, and removed.
-    probe=$folder/.$name.$$.probe
+    probe=$folder/.install.$$.probe
     made+=("$probe")
     said=$(mkdir -- "$probe" 2>&1) ||
         fail "cannot install $1: cannot write in ${folder:-/}: ${said##*: }; ./install.sh PREFIX installs elsewhere"
@@ -106,20 +116,26 @@ run_rt() {
     wait "$!"
 }
 
-# Proves and builds the program, crate by crate, with one line for each. A crate that is proved already takes a moment.
+# Proves a crate. A program is also built and run once: with nothing to list, or an empty file to check, it prints nothing.
+prove() {
+    case $1 in
+        dotenvy_run) run_rt "$1" run -- --list ;;
+        dotenvy_check) run_rt "$1" run -- /dev/null ;;
+        *) run_rt "$1" lib ;;
+    esac
+}
+
+# Proves and builds the programs, crate by crate, with one line for each. A crate that is proved already takes a moment.
 build() {
-    local crates crate number=0 status=0
-    mapfile -t crates < <(crates_for "$name")
-    [ "${#crates[@]}" -gt 0 ] || fail "crates.txt has no line for $name"
+    local name crates crate number=0 status=0
+    mapfile -t crates < <(crates_for "${names[@]}")
+    for name in "${names[@]}"; do
+        [[ " ${crates[*]} " == *" $name "* ]] || fail "crates.txt has no line for $name"
+    done
     for crate in "${crates[@]}"; do
         number=$((number + 1))
         echo "$crate, $number of ${#crates[@]}"
-        if [ "$crate" = "$name" ]; then
-            # This also runs it once: with nothing to list, it prints nothing.
-            run_rt "$crate" run -- --list || status=$?
-        else
-            run_rt "$crate" lib || status=$?
-        fi
+        prove "$crate" || status=$?
         [ "$status" -eq 0 ] ||
             fail "rt failed at $crate, $number of ${#crates[@]}, with status $status; nothing was installed; see $log"
     done
@@ -133,38 +149,58 @@ make_folder() {
     try mkdir -m 755 -- "$1"
 }
 
-# Copies a file to a new one, with this mode.
-copy() {
-    temporary+=("$2")
-    try cp --remove-destination -- "$1" "$2"
-    try chmod "$3" -- "$2"
+# Adds a file to those that are installed, with its place and mode.
+add() {
+    local beside=${2%/*}/.${2##*/}.$$
+    files+=("$1")
+    places+=("$2")
+    modes+=("$3")
+    copies+=("$beside.new")
+    old_files+=("$beside.old")
 }
 
-# Puts both new files into their places. A signal has to wait until both are there. If the program cannot follow the
-# manual page, the old page comes back.
+# Copies each file beside its place.
+copy_all() {
+    local i
+    for i in "${!places[@]}"; do
+        make_folder "${places[i]%/*}"
+        temporary+=("${copies[i]}")
+        try cp --remove-destination -- "${files[i]}" "${copies[i]}"
+        try chmod "${modes[i]}" -- "${copies[i]}"
+    done
+}
+
+# Copies the old files, so that they can come back.
+keep_old() {
+    local i
+    for i in "${!places[@]}"; do
+        temporary+=("${old_files[i]}")
+        if [ -e "${places[i]}" ] || [ -L "${places[i]}" ]; then
+            try cp -a --remove-destination -- "${places[i]}" "${old_files[i]}"
+        fi
+    done
+}
+
+# Makes the first files what they were. The argument is how many.
+put_back() {
+    local i
+    for ((i = 0; i < $1; i++)); do
+        mv -fT -- "${old_files[i]}" "${places[i]}" 2>/dev/null || rm -f -- "${places[i]}"
+    done
+}
+
+# Puts all new files into their places. A signal has to wait until all are there. If one cannot follow, the old ones come
+# back.
 put_in_place() {
-    local new_program=$1 new_page=$2 old_page=${2%.*}.old said
+    local i said
     trap '' HUP INT QUIT PIPE TERM
-    temporary+=("$old_page")
-    if [ -e "$page" ] || [ -L "$page" ]; then
-        try cp -a --remove-destination -- "$page" "$old_page"
-    fi
-    try mv -fT -- "$new_page" "$page"
-    if ! said=$(mv -fT -- "$new_program" "$program" 2>&1); then
-        mv -fT -- "$old_page" "$page" 2>/dev/null || rm -f -- "$page"
-        fail "${said:-mv failed}; nothing was installed"
-    fi
-}
-
-install_both() {
-    local new_program new_page
-    make_folder "${program%/*}"
-    make_folder "${page%/*}"
-    new_program=${program%/*}/.$name.$$.new
-    new_page=${page%/*}/.$name.1.$$.new
-    copy "$built" "$new_program" 755
-    copy "$manual" "$new_page" 644
-    put_in_place "$new_program" "$new_page"
+    keep_old
+    for i in "${!places[@]}"; do
+        if ! said=$(mv -fT -- "${copies[i]}" "${places[i]}" 2>&1); then
+            put_back "$i"
+            fail "${said:-mv failed}; nothing was installed"
+        fi
+    done
 }
 
 case ${1-} in
@@ -180,22 +216,30 @@ if [ -n "${DESTDIR-}" ]; then
     root=$(absolute DESTDIR "$DESTDIR")
 fi
 prefix=$(absolute PREFIX "${1-/usr/local}")
-program=$root$prefix/bin/$name
-page=$root$prefix/share/man/man1/$name.1
+# The manual pages come first, so that no program is there without its page.
+for name in "${names[@]}"; do
+    add "docs/$name.1" "$root$prefix/share/man/man1/$name.1" 644
+done
+for name in "${names[@]}"; do
+    add "crates/$name/out/$name" "$root$prefix/bin/$name" 755
+done
 
 trap clean_up EXIT
 trap 'fail "stopped by a signal; nothing was installed"' HUP INT QUIT PIPE TERM
 
-[ -f "$manual" ] || fail "there is no $PWD/$manual"
+for name in "${names[@]}"; do
+    [ -f "docs/$name.1" ] || fail "there is no $PWD/docs/$name.1"
+done
 command -v rt >/dev/null || fail "there is no command rt on PATH; the Rattle toolchain, which has it, must be installed"
-check_target "$program"
-check_target "$page"
+for place in "${places[@]}"; do
+    check_target "$place"
+done
 try mkdir -p "${log%/*}"
 (: >"$log") 2>/dev/null || fail "cannot write $log"
 
-echo "Proving and building $name: minutes for what is not proved yet, a moment for what is."
+echo "Proving and building ${names[0]} and ${names[1]}: minutes for what is not proved yet, a moment for what is."
 echo "The prover's output is in $log"
 build
-install_both
-echo "Installed $program"
-echo "Installed $page"
+copy_all
+put_in_place
+printf 'Installed %s\n' "${places[@]}"

@@ -10,6 +10,7 @@ trap 'jobs -pr | xargs -r kill; rm -rf "$temporary"' EXIT
 copy=$temporary/copy
 target=$temporary/target
 log=$copy/crates/dotenvy_run/out/install.log
+names=(dotenvy_run dotenvy_check)
 passed=0
 failed=0
 
@@ -30,11 +31,14 @@ check() {
 
 # Copies what install.sh needs. The crates are empty, as the stand-in for rt reads none.
 make_copy() {
+    local name
     mkdir -p "$copy/docs" "$copy/crates" "$copy/tests"
     cp install.sh crates.txt "$copy"
     cp tests/install.sh "$copy/tests"
     sed -n 's/:.*//p' crates.txt | (cd "$copy/crates" && xargs mkdir)
-    cp docs/dotenvy_run.1 "$copy/docs" 2>/dev/null || echo '.TH DOTENVY_RUN 1' >"$copy/docs/dotenvy_run.1"
+    for name in "${names[@]}"; do
+        cp "docs/$name.1" "$copy/docs" 2>/dev/null || echo ".TH $name 1" >"$copy/docs/$name.1"
+    done
 }
 
 # Makes the checks as nobody, on the copy.
@@ -81,8 +85,8 @@ if [ "$crate" = "$(cat "$TEMPORARY/fail_in")" ]; then
 fi
 if [ "$1" = run ]; then
     mkdir -p out
-    printf '#!/bin/sh\necho new\n' >out/dotenvy_run
-    chmod 700 out/dotenvy_run
+    printf '#!/bin/sh\necho new\n' >"out/$crate"
+    chmod 700 "out/$crate"
 fi
 echo 'logic=proved functions=8'
 END
@@ -99,6 +103,14 @@ END
     stand_in fixed mv <<'END'
 case $* in *new*/bin/dotenvy_run)
     echo 'mv: cannot move the program: Operation not permitted' >&2
+    exit 1
+    ;;
+esac
+exec mv "$@"
+END
+    stand_in fixed_last mv <<'END'
+case $* in *new*/bin/dotenvy_check)
+    echo 'mv: cannot move the last program: Operation not permitted' >&2
     exit 1
     ;;
 esac
@@ -141,12 +153,19 @@ empty_target() {
 }
 
 # An older program, which can run for long, an older manual page, and a program that is none of ours.
-old_target() {
+older_target() {
     empty_target
     mkdir -p "$target/bin" "$target/share/man/man1"
     cp "$(command -v bash)" "$target/bin/dotenvy_run"
     echo old >"$target/share/man/man1/dotenvy_run.1"
     echo other >"$target/bin/other"
+}
+
+# The same, and the other program with its page.
+old_target() {
+    older_target
+    echo old >"$target/bin/dotenvy_check"
+    echo old >"$target/share/man/man1/dotenvy_check.1"
 }
 
 # What a directory holds: the mode and name of each directory and file; and of a file its number and bytes.
@@ -198,7 +217,7 @@ refuses_at_once() {
     refuses "$@" && [ ! -s "$temporary/calls" ] && [ ! -s "$temporary/output" ]
 }
 
-# Whether a failed rename leaves the old bytes. The old manual page may have been put back, as another file.
+# Whether a failed rename leaves the old bytes. Old files may have been put back, as other ones.
 puts_back() {
     local before
     before=$(modes "$target" && bytes "$target")
@@ -211,17 +230,22 @@ prints_usage() {
 }
 
 installed() {
-    [ "$("$1/bin/dotenvy_run")" = new ] && cmp -s "$1/share/man/man1/dotenvy_run.1" "$copy/docs/dotenvy_run.1"
+    local name
+    for name in "${names[@]}"; do
+        [ "$("$1/bin/$name")" = new ] && cmp -s "$1/share/man/man1/$name.1" "$copy/docs/$name.1" || return 1
+    done
 }
 
-# Whether a directory holds the two files and the directories of their paths, with these modes, and nothing else.
-holds_both_alone() {
+# Whether a directory holds the four files and the directories of their paths, with these modes, and nothing else.
+holds_them_alone() {
     diff <(modes "$1") <(sort <<'END'
 755 bin/
+755 bin/dotenvy_check
 755 bin/dotenvy_run
 755 share/
 755 share/man/
 755 share/man/man1/
+644 share/man/man1/dotenvy_check.1
 644 share/man/man1/dotenvy_run.1
 END
     )
@@ -229,17 +253,17 @@ END
 
 holds_other_too() {
     diff <(cd "$target" && find . -type f | sort) \
-        <(printf './%s\n' bin/dotenvy_run bin/other share/man/man1/dotenvy_run.1)
+        <(printf './%s\n' bin/{dotenvy_check,dotenvy_run,other} share/man/man1/{dotenvy_check,dotenvy_run}.1)
 }
 
 says_where() {
     diff <(grep '^Installed ' "$temporary/output") \
-        <(printf 'Installed %s\n' "$1/bin/dotenvy_run" "$1/share/man/man1/dotenvy_run.1")
+        <(printf 'Installed %s\n' "$1"/share/man/man1/{dotenvy_run,dotenvy_check}.1 "$1"/bin/{dotenvy_run,dotenvy_check})
 }
 
-# The crates that dotenvy_run needs, and itself: names are added until the lines of crates.txt add no more.
+# The crates that the programs need, and themselves: names are added until the lines of crates.txt add no more.
 needed_crates() {
-    local name names=dotenvy_run before=
+    local name names='dotenvy_run dotenvy_check' before=
     while [ "$names" != "$before" ]; do
         before=$names
         names=$(
@@ -276,7 +300,11 @@ shows_needs_first() {
 }
 
 calls_rt_for_each() {
-    diff "$temporary/calls" <(shown_crates | sed 's/$/ lib/; s/^dotenvy_run lib$/dotenvy_run run -- --list/')
+    diff "$temporary/calls" <(shown_crates | sed '
+        s/$/ lib/
+        s/^dotenvy_run lib$/dotenvy_run run -- --list/
+        s|^dotenvy_check lib$|dotenvy_check run -- /dev/null|
+    ')
 }
 
 # Whether a text names the log, and the log has what rt printed for each crate that was shown.
@@ -348,12 +376,12 @@ check_arguments() {
 
 check_new() {
     empty_target
-    check 'an empty directory gets both files' with rt call "$target/"
+    check 'an empty directory gets the four files' with rt call "$target/"
     check 'they are those of the repository' installed "$target"
-    check 'it gets nothing else, and the modes are right' holds_both_alone "$target"
+    check 'it gets nothing else, and the modes are right' holds_them_alone "$target"
     check 'nothing is printed on standard error' test ! -s "$temporary/errors"
-    check 'the last lines say where both are' says_where "$target"
-    check 'each crate that the program needs is shown' shows_each_crate
+    check 'the last lines say where they are' says_where "$target"
+    check 'each crate that a program needs is shown' shows_each_crate
     check 'the crates are numbered, and counted' shows_numbers
     check 'each crate is shown after those that it needs' shows_needs_first
     check 'rt is called for each crate' calls_rt_for_each
@@ -364,7 +392,7 @@ check_new() {
     umask 077
     check 'the umask may be closed, and PREFIX may have a space' with rt call "$target/a directory"
     umask 022
-    check 'the modes are the same' holds_both_alone "$target/a directory"
+    check 'the modes are the same' holds_them_alone "$target/a directory"
 }
 
 # One crate more, on which the crate that was shown first depends.
@@ -389,11 +417,16 @@ check_old() {
     running=$!
     ln "$target/bin/dotenvy_run" "$temporary/old_program"
     check 'an older program is replaced while it runs' with rt call "$target"
-    check 'both files are the new ones' installed "$target"
+    check 'all files are the new ones' installed "$target"
     check 'the older program runs on' kill -0 "$running"
     check 'its bytes are as they were' cmp -s "$temporary/old_program" "$(command -v bash)"
     check 'other files stay, and nothing else is left' holds_other_too
     kill "$running"
+
+    older_target
+    check 'an older program may be there alone' with rt call "$target"
+    check 'all four files are there' installed "$target"
+    check 'other files stay' holds_other_too
 
     old_target
     mv "$target/bin" "$target/programs"
@@ -405,21 +438,29 @@ check_old() {
 check_destdir() {
     empty_target
     DESTDIR=$target/a/ check 'DESTDIR goes before PREFIX' with rt call /opt/tools
-    check 'both files are there' holds_both_alone "$target/a/opt/tools"
+    check 'all files are there' holds_them_alone "$target/a/opt/tools"
     DESTDIR=$target/b check 'DESTDIR goes before the default PREFIX' with rt call
-    check 'that is /usr/local' holds_both_alone "$target/b/usr/local"
-    check 'the last lines say where both are' says_where "$target/b/usr/local"
+    check 'that is /usr/local' holds_them_alone "$target/b/usr/local"
+    check 'the last lines say where they are' says_where "$target/b/usr/local"
     DESTDIR=$target/c check 'PREFIX may be /' with rt call /
-    check 'both files are in DESTDIR' holds_both_alone "$target/c"
+    check 'all files are in DESTDIR' holds_them_alone "$target/c"
 }
 
 # What can be found before the proof.
 check_early() {
+    local name
     old_target
     check 'without rt on PATH nothing is done' without_rt refuses_at_once 'no command rt on PATH' "$target"
     mv "$copy/docs" "$temporary/docs"
-    check 'without the manual page nothing is done' with rt refuses_at_once 'docs/dotenvy_run.1' "$target"
+    check 'without the manual pages nothing is done' with rt refuses_at_once 'docs/dotenvy_run.1' "$target"
     mv "$temporary/docs" "$copy/docs"
+    mv "$copy/docs/dotenvy_check.1" "$temporary"
+    check 'without one of them nothing is done' with rt refuses_at_once 'docs/dotenvy_check.1' "$target"
+    mv "$temporary/dotenvy_check.1" "$copy/docs"
+    cp "$copy/crates.txt" "$temporary/crates.txt"
+    sed -i '/^dotenvy_check:/d' "$copy/crates.txt"
+    check 'without a line of crates.txt nothing is done' with rt refuses 'no line for dotenvy_check' "$target"
+    mv "$temporary/crates.txt" "$copy/crates.txt"
     check 'PREFIX below a file is refused' with rt \
         refuses_at_once "$target/bin/other is not a directory" "$target/bin/other/x"
     check 'PREFIX below /proc is refused' with rt refuses_at_once 'cannot write in /proc: ' /proc/x
@@ -430,9 +471,11 @@ check_early() {
     ln -sf nowhere "$target/share"
     check 'a link to nowhere in place of share is refused' with rt \
         refuses_at_once "$target/share is not a directory" "$target"
-    empty_target
-    mkdir -p "$target/bin/dotenvy_run"
-    check 'a directory in place of the program is refused' with rt refuses_at_once 'it is a directory' "$target"
+    for name in "${names[@]}"; do
+        empty_target
+        mkdir -p "$target/bin/$name"
+        check "a directory in place of $name is refused" with rt refuses_at_once 'it is a directory' "$target"
+    done
     if [ "$(id -u)" -ne 0 ]; then
         old_target
         check 'a directory that the user may not write in is refused' with rt is_closed
@@ -441,7 +484,7 @@ check_early() {
 
 check_failures() {
     local crate make
-    for crate in dotenvy_lines dotenvy_run; do
+    for crate in dotenvy_lines dotenvy_run dotenvy_checker dotenvy_check; do
         echo "$crate" >"$temporary/fail_in"
         old_target
         check "$crate is not proved: older files stay" with rt refuses "rt failed at $crate, " "$target"
@@ -451,11 +494,13 @@ check_failures() {
         check "$crate is not proved: an empty directory stays empty" with rt refuses "rt failed at $crate, " "$target"
     done
     : >"$temporary/fail_in"
-    for make in empty_target old_target; do
+    for make in empty_target older_target old_target; do
         "$make"
         check "$make: the disk is full" with full refuses 'No space left on device' "$target"
         "$make"
-        check "$make: the program cannot be renamed" with fixed puts_back 'Operation not permitted' "$target"
+        check "$make: a program cannot be renamed" with fixed puts_back 'Operation not permitted' "$target"
+        "$make"
+        check "$make: the last program cannot be renamed" with fixed_last puts_back 'Operation not permitted' "$target"
     done
 }
 
@@ -471,7 +516,7 @@ check_signals() {
             check "$make: SIG$signal after the copies" with slow_copy stops_at "$signal" "$target"
         done
         check "SIG$signal between the renames comes too late" with slow_rename signalled "$signal" "$target"
-        check 'both files are the new ones' installed "$target"
+        check 'all files are the new ones' installed "$target"
     done
 }
 
