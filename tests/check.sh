@@ -109,7 +109,7 @@ check_words() {
     check 'a file whose name begins with a dash' 1 "$(unread ./-x 'No such file or directory (os error 2)')$nl" ''
 }
 
-# Each of these stands between two files that are checked all the same.
+# Checks a file between two others, which are checked all the same.
 check_between() {
     local what=$1 file=$2 text=$3
     call good.env "$file" bad.env

@@ -16,7 +16,7 @@ from grammar_rows import CODE, DOCS, FILE, listed, phrase, phrases, print_rows, 
 # The tables that have no examples, by their header lines.
 NO_EXAMPLES = ["| Word | Means |", "| Line | Means |", "| Text | Means |", "| Status | When |", "| Text | When |"]
 
-# Phrases for warnings. Before one stands on which line it is, such as `line 2: `, where that isn't the first.
+# Phrases for warnings. A warning that is not on the first line has its line before it, such as `line 2: `.
 WARNING = {
     "the empty name has no value": "'' has no value here; write \\$ for a dollar",
     "`([^`]*)` has no value": "'{0}' has no value here; write \\$ for a dollar",
