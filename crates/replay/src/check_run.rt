@@ -1,6 +1,6 @@
 //! Rows of the kinds `check_run` and `refused_check_run`: what the program dotenvy_check does of its words.
 
-use crate::answer::{push_answer, push_states};
+use crate::answer::{push_answer, push_compared};
 use crate::refused::MOST_REQUESTS;
 use crate::refused_words::copies;
 use crate::row::refuse_count;
@@ -12,6 +12,7 @@ use dotenvy::Plain;
 use dotenvy_checker::failure::Failure;
 use dotenvy_checker::run::run;
 use std::alloc::{Allocator, Global};
+use support::notation::texts;
 use support::writer::PlayedWriter;
 use support::{Rationed, writer};
 
@@ -50,20 +51,36 @@ pub fn play(answers: &mut Vec<Comparison>, scene: &mut Scene, fields: &[&str]) -
     push_answer(answers, "run", "opened", notes, scene.all_below(&noted)?)
 }
 
-// What a run answers and writes with the request of this number refused; nothing, if there was no such request.
+// What a run answers and writes with the request of this number refused, and whether there was such a request.
 fn told_at_refusal(
     alloc: Global,
     scene: &Scene,
     words: &[String],
     number: u64,
-) -> Result<(Vec<String>, bool)> {
+) -> Result<(String, bool)> {
     let plenty = Rationed::refusing(alloc, u64::MAX);
     let ration = Rationed::refusing(alloc, number);
     let copies = copies(alloc, &plenty, words)?;
     let mut writer = Plain::new(PlayedWriter::new(alloc, Vec::new(alloc)));
     let answered = run(&(&scene.system, &ration), &copies, &mut writer);
     let texts = told(alloc, &answered, writer.into_inner().into_taken())?;
-    Ok((texts, ration.has_refused()))
+    Ok((texts.join(alloc, "; ")?, ration.has_refused()))
+}
+
+// Refuses each request in turn, up to a run without a refusal. Of equal texts one after another there is one.
+fn told_in_turn(alloc: Global, scene: &Scene, words: &[String]) -> Result<Vec<String>> {
+    let mut met: Vec<String> = Vec::new(alloc);
+    for number in 1..MOST_REQUESTS {
+        let (text, is_refused) = told_at_refusal(alloc, scene, words, number)?;
+        if !is_refused {
+            met.push(text)?;
+            return Ok(met);
+        }
+        if met.last() != Some(&text) {
+            met.push(text)?;
+        }
+    }
+    bail!("each run met a refusal")
 }
 
 /// Plays a row of kind `refused_check_run`.
@@ -72,42 +89,22 @@ pub fn play_refused(
     scene: &mut Scene,
     fields: &[&str],
 ) -> Result<()> {
-    let [steps, words_field, answers_wanted @ ..] = fields else {
+    let [steps, words_field, wanted @ ..] = fields else {
         bail!("{} fields in place of 3 and more", fields.len());
     };
     let alloc = *answers.allocator();
     scene.set_up(steps)?;
     let words = words(alloc, scene.placed(words_field)?.as_str())?;
-    let mut met: Vec<String> = Vec::new(alloc);
-    for number in 1..MOST_REQUESTS {
-        let (texts, is_refused) = told_at_refusal(alloc, scene, &words, number)?;
-        let state = texts.join(alloc, "; ")?;
-        if !is_refused {
-            met.push(state)?;
-            return push_placed(answers, scene, answers_wanted, met);
-        }
-        if met.last() != Some(&state) {
-            met.push(state)?;
-        }
+    let met = told_in_turn(alloc, scene, &words)?;
+    let mut wanted_texts = Vec::new(alloc);
+    for field in wanted {
+        wanted_texts.push(joined(alloc, scene.placed(field)?.as_str())?)?;
     }
-    bail!("each run met a refusal")
+    push_compared(answers, "run", "at refusals and in all", wanted_texts, met)?;
+    Ok(())
 }
 
-// Adds what the runs answered: those that these fields stand for are wanted, in this order.
-fn push_placed(
-    answers: &mut Vec<Comparison>,
-    scene: &Scene,
-    wanted: &[&str],
-    met: Vec<String>,
-) -> Result<()> {
-    let alloc = *answers.allocator();
-    let mut placed = Vec::new(alloc);
-    for field in wanted {
-        placed.push(scene.placed(field)?)?;
-    }
-    let mut fields = Vec::new(alloc);
-    for field in &placed {
-        fields.push(field.as_str())?;
-    }
-    push_states(answers, "run", &fields, met)
+// The texts that a field stands for, as one.
+fn joined(alloc: Global, field: &str) -> Result<String> {
+    Ok(texts(alloc, field)?.join(alloc, "; ")?)
 }
