@@ -17,7 +17,7 @@ if [ ! -x "$built" ]; then
     echo "0 passed, 1 failed"
     exit 1
 fi
-cp "$built" "$room/program" 2>/dev/null
+cp "$built" "$room/program"
 # Root may read every file, so root has the checks made as nobody.
 as_nobody=(setpriv --reuid=65534 --regid=65534 --clear-groups)
 if [ "$(id -u)" -eq 0 ] && chmod 711 "$room" && "${as_nobody[@]}" test -x "$room/program"; then
