@@ -51,7 +51,21 @@ pub fn play(answers: &mut Vec<Comparison>, scene: &mut Scene, fields: &[&str]) -
     push_answer(answers, "run", "opened", notes, scene.all_below(&noted)?)
 }
 
-// What a run answers and writes with the request of this number refused, and whether there was such a request.
+// What a run answers and writes whose memory is of this allocator.
+fn told_with<'r>(
+    alloc: Global,
+    scene: &Scene,
+    ration: &'r Rationed<Global>,
+    words: &[String<&'r Rationed<Global>>],
+) -> Result<String> {
+    let system = (&scene.system, ration);
+    let mut writer = Plain::new(PlayedWriter::new(alloc, Vec::new(alloc)));
+    let answered = run(&system, words, &mut writer);
+    let texts = told(alloc, &answered, writer.into_inner().into_taken())?;
+    Ok(texts.join(alloc, "; ")?)
+}
+
+// The same with the request of this number refused, and whether there was such a request.
 fn told_at_refusal(
     alloc: Global,
     scene: &Scene,
@@ -61,10 +75,8 @@ fn told_at_refusal(
     let plenty = Rationed::refusing(alloc, u64::MAX);
     let ration = Rationed::refusing(alloc, number);
     let copies = copies(alloc, &plenty, words)?;
-    let mut writer = Plain::new(PlayedWriter::new(alloc, Vec::new(alloc)));
-    let answered = run(&(&scene.system, &ration), &copies, &mut writer);
-    let texts = told(alloc, &answered, writer.into_inner().into_taken())?;
-    Ok((texts.join(alloc, "; ")?, ration.has_refused()))
+    let text = told_with(alloc, scene, &ration, &copies)?;
+    Ok((text, ration.has_refused()))
 }
 
 // Refuses each request in turn, up to a run without a refusal. Of equal texts one after another there is one.
