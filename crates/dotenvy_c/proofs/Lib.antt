@@ -1,0 +1,4 @@
+mod Entries
+mod Answering
+mod Telling
+mod ReadBack
