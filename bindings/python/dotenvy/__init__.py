@@ -101,6 +101,19 @@ def _error(status: int, text: bytes, index: int, file: str | None, lines: tuple[
     return DotenvError("too many reads", **place)
 
 
+def _error_of(record: _library.Record, file: str | None) -> DotenvError:
+    lines = record.first_line, record.last_line
+    return _error(record.status, record.text, record.index, file, lines)
+
+
+def _records(
+    source: Source, environment: Mapping[str, str] | None, dialect: Dialect
+) -> tuple[list[_library.Record], str | None]:
+    file, name = _read(source)
+    options = dialect.value | _library.DROP_MARK
+    return _library.items(file, _block(environment), options), name
+
+
 def _read(source: Source) -> tuple[bytes, str | None]:
     if isinstance(source, bytes):
         return source, None
@@ -138,14 +151,14 @@ def dotenv_items(
     >>> list(dotenv_items(b"A=1\\nB=${A}0\\n", {}))[1]
     Pair(key='B', value='10', first_line=2, last_line=2)
     """
-    file, name = _read(source)
-    options = dialect.value | _library.DROP_MARK
-    for record in _library.items(file, _block(environment), options):
-        lines = record.first_line, record.last_line
+    records, name = _records(source, environment, dialect)
+    for record in records:
         if record.status == _library.OK:
-            yield Pair(record.key.decode(), record.text.decode(), *lines)
+            yield Pair(
+                record.key.decode(), record.text.decode(), record.first_line, record.last_line
+            )
         else:
-            yield _error(record.status, record.text, record.index, name, lines)
+            yield _error_of(record, name)
 
 
 def dotenv_values(
@@ -163,11 +176,12 @@ def dotenv_values(
     """
     if source is None:
         source = find_dotenv() or b""
+    records, name = _records(source, environment, dialect)
     values = {}
-    for item in dotenv_items(source, environment, dialect):
-        if isinstance(item, DotenvError):
-            raise item
-        values[item.key] = item.value
+    for record in records:
+        if record.status != _library.OK:
+            raise _error_of(record, name)
+        values[record.key.decode()] = record.text.decode()
     return values
 
 

@@ -3,6 +3,7 @@
 from __future__ import annotations
 
 import ctypes
+import struct
 from collections.abc import Iterable
 from pathlib import Path
 from typing import NamedTuple
@@ -69,6 +70,9 @@ def _open() -> ctypes.CDLL:
 
 
 _library = _open()
+
+# An `Item` as `struct` reads it, which for many items is much faster than its attributes are.
+_ITEM = struct.Struct("@IQQQQQQ")
 
 
 class Loaded(NamedTuple):
@@ -150,16 +154,13 @@ def items(file: bytes, block: bytes, options: int = 0) -> list[Record]:
             break
         count, room = counts.items, counts.text_len
     written = ctypes.string_at(out, counts.text_len)
-    return [_record(item, written) for item in found[: counts.items]]
-
-
-def _record(item: Item, written: bytes) -> Record:
-    text_at = item.key_at + item.key_len
-    return Record(
-        item.status,
-        written[item.key_at : text_at],
-        written[text_at : text_at + item.text_len],
-        item.index,
-        item.first_line,
-        item.last_line,
-    )
+    fields = _ITEM.iter_unpack(ctypes.string_at(found, counts.items * _ITEM.size))
+    return [
+        Record(
+            status,
+            written[key_at : key_at + key_len],
+            written[key_at + key_len : key_at + key_len + text_len],
+            *others,
+        )
+        for status, key_at, key_len, text_len, *others in fields
+    ]

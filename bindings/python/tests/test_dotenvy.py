@@ -244,6 +244,8 @@ class Library(unittest.TestCase):
                 for field, _ in type_._fields_
             ]
             self.assertEqual(" ".join([name, str(ctypes.sizeof(type_)), *fields]), line)
+        item = _library.Item(*range(1, 8))
+        self.assertEqual(list(_library._ITEM.iter_unpack(bytes(item))), [(1, 2, 3, 4, 5, 6, 7)])
 
     def test_examples(self):
         self.assertEqual(doctest.testmod(dotenvy).failed, 0)
