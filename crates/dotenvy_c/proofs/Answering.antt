@@ -19,7 +19,13 @@ pub answered : {options : ℕ} {file block : List ℕ} {loaded : Loaded} →
     IsLoaded options file block loaded → (fits : Bool) (bytes old new : List ℕ) →
     bytes ≡ loaded.bytes.items → (IsTrue fits ↔ (length bytes ≤ length old)) → new ≡ written_if fits bytes old →
     AnswersLoad options file block
-    (record { status = loaded.status; fits = fits; index = loaded.index; block_len = loaded.block_len; text_len = loaded.text_len })
+    (record {
+      status = loaded.status;
+      fits = fits;
+      index = loaded.index;
+      block_len = loaded.block_len;
+      text_len = loaded.text_len;
+    })
     old new
 answered is fits bytes old new same room written = record {
   names = is.names;

@@ -1,6 +1,7 @@
 -- The entries of a block.
-use Rattle.std.proofs.Common.{◌≡◌, ◌<◌, ◌+◌, ◌==◌, ℕ, Bool, true, false, List, [], ◌∷◌, ◌++◌, length, take, drop, get_or, refl, sym, ap, ◌∙◌, arith}
-use Rattle.std.specs.Prelude.{None, Some, string_bytes, IsTrue, ◌&&◌}
+use Rattle.std.proofs.Common.{◌≡◌, ◌<◌, ◌+◌, ◌==◌, ℕ, Bool, true, false, List, [], ◌∷◌, ◌++◌, length, take, drop}
+use Rattle.std.proofs.Common.{get_or, refl, sym, ap, ◌∙◌, arith}
+use Rattle.std.specs.Prelude.{None, Some, string_bytes, IsTrue}
 use Rattle.std.specs.Str.{IsUtf8, is_utf8}
 use Rattle.std.specs.List.{flat_map, list_all, position_or_len, before_first, after_first}
 use Rattle.std.specs.declared.string.String.{String}
@@ -62,7 +63,8 @@ last_block : (bs : List ℕ) → IsFirstByte (is_byte 0) bs None → block_pairs
 last_block bs none =
     ap (flat_map entry_pairs)
     (slice_split_none is_nul bs
-    (All-from_get_or (λ b. is_nul b ≡ false) bs 0 (λ k lt. false_unless (get_or bs k 0 == 0) (none k (omega arith) lt))))
+    (All-from_get_or (λ b. is_nul b ≡ false) bs 0
+    (λ k lt. false_unless (get_or bs k 0 == 0) (none k (omega arith) lt))))
     ∙ append-nil (entry_pairs bs)
 
 -- the entries up to a NUL were added
@@ -90,11 +92,7 @@ pub more_fits : {A : Type 0} (name value : String A) (left rest : List (List ℕ
 more_fits name value left rest is named valued others =
     let name_utf8 = is_utf8-from_IsUtf8 (string_bytes name) (IsUtf8-string_bytes name) in
     let value_utf8 = is_utf8-from_IsUtf8 (string_bytes value) (IsUtf8-string_bytes value) in
-    ap (list_all is_block_pair) is
-    ∙ ap (λ b. ((b && value_ok (string_bytes value)) && (is_utf8 (string_bytes name) && is_utf8 (string_bytes value))) && list_all is_block_pair rest) named
-    ∙ ap (λ b. (b && (is_utf8 (string_bytes name) && is_utf8 (string_bytes value))) && list_all is_block_pair rest) valued
-    ∙ ap (λ b. (b && is_utf8 (string_bytes value)) && list_all is_block_pair rest) name_utf8
-    ∙ ap (λ b. b && list_all is_block_pair rest) value_utf8 ∙ others
+    ap (list_all is_block_pair) is ∙ rw (named, valued, name_utf8, value_utf8) others
 
 -- with one entry more in front of those that are left the block is the same
 pub one_more : (block grown whole : List ℕ) (name value : List ℕ) (left rest : List (List ℕ × List ℕ)) →

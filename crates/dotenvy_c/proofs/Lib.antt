@@ -2,3 +2,5 @@ mod Entries
 mod Answering
 mod Telling
 mod ReadBack
+mod SaidItems
+mod SaidLoads

@@ -1,5 +1,6 @@
 -- The block of an environment reads back.
-use Rattle.std.proofs.Common.{◌≡◌, ◌+◌, ℕ, Bool, true, false, List, [], ◌∷◌, ◌++◌, length, refl, sym, ap, ◌∙◌, arith, filter}
+use Rattle.std.proofs.Common.{◌≡◌, ◌+◌, ℕ, Bool, true, false, List, [], ◌∷◌, ◌++◌, length, refl, sym, ap, ◌∙◌, arith}
+use Rattle.std.proofs.Common.{filter}
 use Rattle.std.proofs.Common.{lit<, append_assoc, append-nil, length-append}
 use Rattle.std.specs.Prelude.{◌&&◌, ◌||◌, not, take, drop, cond}
 use Rattle.std.specs.Str.{IsUtf8, is_utf8}
@@ -7,7 +8,8 @@ use Rattle.std.specs.List.{All, flat_map, list_all, list_any, slice_split, posit
 use Rattle.std.specs.FinMap as fin
 use Rattle.std.proofs.Math.Seq.{get_or-append_seam, take-append_seam, drop-append-add}
 use Rattle.std.proofs.lemmas.List.{get_or_append_left}
-use Rattle.std.proofs.lemmas.Str.{IsUtf8-nil, IsUtf8-append, IsUtf8-from_ascii, IsUtf8-from_is_utf8, is_utf8-from_IsUtf8}
+use Rattle.std.proofs.lemmas.Str.{IsUtf8-nil, IsUtf8-append, IsUtf8-from_ascii, IsUtf8-from_is_utf8}
+use Rattle.std.proofs.lemmas.Str.{is_utf8-from_IsUtf8}
 use Rattle.std.proofs.lemmas.Str.Ascii.{IsAscii-cons, IsAscii-nil}
 use Rattle.std.proofs.lemmas.List.Elements.{All-append, All-cons, All-nil, All-get_or}
 use Rattle.std.proofs.lemmas.List.Splits.{slice_split_at}
@@ -77,7 +79,9 @@ first_equals name value named =
 body_utf8 : (name value : List ℕ) → is_utf8 name ≡ true → is_utf8 value ≡ true → IsUtf8 (body_of (name, value))
 body_utf8 name value named valued =
     IsUtf8-append name (equals_sign ∷ value) (IsUtf8-from_is_utf8 name named)
-    (IsUtf8-append (equals_sign ∷ []) value (IsUtf8-from_ascii (equals_sign ∷ []) (IsAscii-cons equals_sign [] (lit< tt) IsAscii-nil)) (IsUtf8-from_is_utf8 value valued))
+    (IsUtf8-append (equals_sign ∷ []) value
+    (IsUtf8-from_ascii (equals_sign ∷ []) (IsAscii-cons equals_sign [] (lit< tt) IsAscii-nil))
+    (IsUtf8-from_is_utf8 value valued))
 
 -- the pair of an entry
 body_pair : (name value : List ℕ) → is_block_pair (name, value) ≡ true →

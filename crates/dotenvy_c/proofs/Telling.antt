@@ -80,7 +80,8 @@ one_taken {names = names} {s = s} {t = t} {u = u} {old = old} {item = item} {lin
           adds.adds.items
           ∙ ap (λ rs. rs ++ record_at (length old.text.items) more ∷ []) before.items
           ∙ ap (λ text. records_from 0 before.told ++ record_at (length text) more ∷ []) before.text
-          ∙ ap (λ n. records_from 0 before.told ++ record_at n more ∷ []) (sym (zero-add (length (texts_of before.told))))
+          ∙ ap (λ n. records_from 0 before.told ++ record_at n more ∷ [])
+          (sym (zero-add (length (texts_of before.told))))
           ∙ sym (records_more 0 before.told more);
       text =
           adds.adds.text ∙ ap (λ text. text ++ text_of more) before.text ∙ sym (texts_more before.told more);
@@ -110,7 +111,8 @@ pub answered_items : {options : ℕ} {file block : List ℕ} {records : Records}
     new_items ≡ written_if fits records.items.items old_items → new ≡ written_if fits records.text.items old →
     AnswersItems options file block
     (record { status = 0; fits = fits; items = count; text_len = text_len }) old_items new_items old new
-answered_items {records = records} has fits count text_len old_items new_items old new counted measured room items texts =
+answered_items {records = records} has fits count text_len old_items new_items old new counted measured room items
+    texts =
     let size = ap length has.items ∙ length-records_from 0 has.told in record {
       told = has.told;
       tells = has.tells;
@@ -119,7 +121,8 @@ answered_items {records = records} has fits count text_len old_items new_items o
       text_len = measured ∙ ap length has.text;
       fits =
           subst (λ n. IsTrue fits ↔ ((n ≤ length old_items) × (length (texts_of has.told) ≤ length old))) size
-          (subst (λ t. IsTrue fits ↔ ((length records.items.items ≤ length old_items) × (length t ≤ length old))) has.text room);
+          (subst (λ t. IsTrue fits
+          ↔ ((length records.items.items ≤ length old_items) × (length t ≤ length old))) has.text room);
       records = items ∙ ap (λ rs. written_if fits rs old_items) has.items;
       texts = texts ∙ ap (λ t. written_if fits t old) has.text;
     }

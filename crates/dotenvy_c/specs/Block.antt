@@ -1,7 +1,9 @@
 -- A block of an environment: NAME=VALUE and a NUL, one after the other.
-use Rattle.std.specs.Prelude.{ℕ, Bool, ◌&&◌, ◌==◌, List, [], ◌∷◌, ◌++◌, length, nat_lt, filter, IsTrue}
+use Rattle.std.specs.Prelude.{ℕ, Bool, ◌&&◌, ◌==◌, List, [], ◌∷◌, ◌++◌, length, nat_lt, filter}
+use Rattle.std.specs.Prelude.{IsTrue}
 use Rattle.std.specs.Prelude.{if◌then◌else◌}
-use Rattle.std.specs.List.{list_all, position_or_len, flat_map, slice_split, before_first, after_first}
+use Rattle.std.specs.List.{list_all, position_or_len, flat_map, slice_split, before_first}
+use Rattle.std.specs.List.{after_first}
 use Rattle.std.specs.Str.{is_utf8}
 use Rattle.std.specs.FinMap as fin
 use Rattle.dotenvy.specs.Environment.{Texts, equals_sign, pair_ok}
@@ -14,7 +16,8 @@ is_nul b = b == 0
 abbrev pub is_equals : ℕ → Bool
 is_equals b = b == equals_sign
 
--- the name and the value of an entry, around its first `=`; none of one that has none or is not UTF-8
+-- the name and the value of an entry, around its first `=`; an entry without one has no pair, nor
+-- has one that is not UTF-8
 abbrev pub entry_pairs : List ℕ → List (List ℕ × List ℕ)
 entry_pairs entry =
     if is_utf8 entry && nat_lt (position_or_len is_equals entry) (length entry)

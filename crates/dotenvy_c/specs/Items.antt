@@ -1,5 +1,6 @@
 -- The items of a file, as C is told of them.
-use Rattle.std.specs.Prelude.{ℕ, ◌≡◌, ◌≤◌, ◌+◌, ◌↔◌, false, IsTrue, List, [], ◌∷◌, ◌++◌, length, Some, None}
+use Rattle.std.specs.Prelude.{ℕ, ◌≡◌, ◌≤◌, ◌+◌, ◌↔◌, false, IsTrue, List, [], ◌∷◌, ◌++◌, length}
+use Rattle.std.specs.Prelude.{Some, None}
 use Rattle.std.specs.List.{flat_map}
 use Rattle.std.specs.declared.alloc.Global.{Global}
 use Rattle.dotenvy.specs.Environment.{Texts}
@@ -19,7 +20,8 @@ abbrev pub ToldItem : Type 0
 ToldItem = Told × (ℕ × ℕ)
 
 -- what C is told of a call of `next_item` from s to t
-pub record TellsItem (names : Texts) (s : IterState) (told : ToldItem) (t : IterState) : Type 0 where
+pub record TellsItem (names : Texts) (s : IterState) (told : ToldItem) (t : IterState)
+    : Type 0 where
   pub item : Item Global
   pub next : NextItem names s (Some item) t
   pub tells : item_told item ≡ Some told.0

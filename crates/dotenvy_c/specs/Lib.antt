@@ -5,4 +5,5 @@ pub mod Laws
 pub mod Load
 pub mod Options
 pub mod Room
+pub mod Said
 pub mod Told

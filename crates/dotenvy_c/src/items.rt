@@ -162,8 +162,8 @@ fn write_if_both_fit(records: &Records, items: &mut [Item], out: &mut [u8]) -> b
 /// Writes the items of a file under the environment of a block: its pairs and its errors, in order. A name that a value
 /// mentions means its value in the block, else the last one declared before it (docs/GRAMMAR.md, "What a name means").
 ///
-/// Where `items` has no room for all of them, or `out` none for their keys and texts, nothing is written, and the counts
-/// tell how much room they take.
+/// Where `items` has no room for all of them, or `out` none for their keys and texts, nothing is written, and the
+/// counts tell how much room they take.
 #[unsafe(no_mangle)]
 pub extern "C" fn dotenvy_items(
     alloc: Global,

@@ -1,6 +1,6 @@
 //! The two loads, for C.
 
-ghost use Rattle.std.specs.Prelude.{◌≡◌, ◌≤◌, ◌+◌, ◌++◌, ◌⊎◌, ◌↔◌, List, ℕ, Bool, IsTrue, IfOk, OnOk, IfErr, true, false, length};
+ghost use Rattle.std.specs.Prelude.{◌≡◌, ◌≤◌, ◌+◌, ◌⊎◌, ◌↔◌, IsTrue, IfOk, IfErr, true, false, length};
 ghost use Rattle.dotenvy.specs.Errors.{IsMemory};
 ghost use Rattle.dotenvy.specs.Iter.{IsOpen};
 ghost use Rattle.dotenvy.specs.LoadsRest.{ChangesKeys, LoadsRest};

@@ -12,7 +12,8 @@ pairs-preserved c =
           steps.1
           (c.in_ok-push_entry.ensures.ok
           ∙ ap (λ name. c.pairs.block.items ++ entry_of (name, c.as_str-in-pairs.result.now)) c.as_str.ensures.value
-          ∙ ap (λ value. c.pairs.block.items ++ entry_of (string_bytes c.in-Some.name.now, value)) c.as_str-in-pairs.ensures.value)
+          ∙ ap (λ value. c.pairs.block.items ++ entry_of (string_bytes c.in-Some.name.now, value))
+          c.as_str-in-pairs.ensures.value)
           c.pairs.invariant.whole;
       fits = λ rest.
           c.pairs.invariant.fits (more_fits c.in-Some.name.now c.in-Some.value.now c.pairs.name-iterator
