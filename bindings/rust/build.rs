@@ -6,7 +6,9 @@ fn main() {
     println!("cargo:rerun-if-env-changed=DOTENVY_LIB_DIR");
     let folder = match env::var_os("DOTENVY_LIB_DIR") {
         Some(folder) => PathBuf::from(folder),
-        None => PathBuf::from(env::var_os("CARGO_MANIFEST_DIR").expect("cargo sets it")).join("../out"),
+        None => {
+            PathBuf::from(env::var_os("CARGO_MANIFEST_DIR").expect("cargo sets it")).join("../out")
+        }
     };
     let archive = folder.join("libdotenvy.a");
     assert!(

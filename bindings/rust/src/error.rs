@@ -30,7 +30,10 @@ impl fmt::Display for Error {
     fn fmt(&self, f: &mut fmt::Formatter<'_>) -> fmt::Result {
         match self {
             Error::LineParse(line, index) => {
-                write!(f, "Error parsing line: '{line}', error at line index: {index}")
+                write!(
+                    f,
+                    "Error parsing line: '{line}', error at line index: {index}"
+                )
             }
             Error::Io(error) => error.fmt(f),
             Error::EnvVar(error) => error.fmt(f),

@@ -17,7 +17,10 @@ pub struct Iter<R> {
 impl<R: Read> Iter<R> {
     /// An iterator over a file that this reader gives. Nothing is read yet.
     pub fn new(reader: R) -> Iter<R> {
-        Iter { reader, items: None }
+        Iter {
+            reader,
+            items: None,
+        }
     }
 
     /// Sets the variables of the file that the process doesn't have, and stops at the first error.
@@ -35,7 +38,8 @@ impl<R: Read> Iter<R> {
 
     fn load_with(mut self, options: u32) -> Result<()> {
         if self.items.is_some() {
-            return self.try_for_each(|item| item.and_then(|(key, value)| set(key, value, options)));
+            return self
+                .try_for_each(|item| item.and_then(|(key, value)| set(key, value, options)));
         }
         let loaded = library::load(&self.read()?, &block_of_process(), options);
         for (name, value) in loaded.pairs() {
@@ -123,6 +127,6 @@ fn error_of(status: u32, said: Vec<u8>, index: usize) -> Error {
             "stream did not contain valid UTF-8",
         )),
         library::NO_MEMORY => Error::Io(io::ErrorKind::OutOfMemory.into()),
-        _ => Error::Io(io::Error::new(io::ErrorKind::Other, "too many reads")),
+        _ => Error::Io(io::Error::other("too many reads")),
     }
 }

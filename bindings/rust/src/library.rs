@@ -208,7 +208,10 @@ mod tests {
         let loaded = load(b"B=$A\nC=x y\n", b"A=9=8\0", 0);
         let pairs: Vec<_> = loaded.pairs().collect();
         assert_eq!(pairs, [(&b"A"[..], &b"9=8"[..]), (&b"B"[..], &b"9=8"[..])]);
-        assert_eq!((loaded.status, loaded.text(), loaded.index), (LINE_PARSE, &b"x y"[..], 2));
+        assert_eq!(
+            (loaded.status, loaded.text(), loaded.index),
+            (LINE_PARSE, &b"x y"[..], 2)
+        );
     }
 
     #[test]
@@ -216,9 +219,18 @@ mod tests {
         let block = [b"LONG=", &[b'x'; 1000][..], b"\0"].concat();
         let file = b"A=$LONG$LONG$LONG\nB=$A$A\n";
         let items = items(file, &block, 0).expect("there is memory");
-        assert_eq!(items.iter().map(|item| item.text.len()).collect::<Vec<_>>(), [3000, 6000]);
+        assert_eq!(
+            items.iter().map(|item| item.text.len()).collect::<Vec<_>>(),
+            [3000, 6000]
+        );
         let loaded = load(file, &block, OVERRIDE);
-        assert_eq!(loaded.pairs().map(|(_, value)| value.len()).collect::<Vec<_>>(), [3000, 6000, 1000]);
+        assert_eq!(
+            loaded
+                .pairs()
+                .map(|(_, value)| value.len())
+                .collect::<Vec<_>>(),
+            [3000, 6000, 1000]
+        );
     }
 
     #[test]

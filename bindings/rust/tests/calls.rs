@@ -16,7 +16,9 @@ struct Folder {
 
 impl Folder {
     fn new(name: &str) -> Folder {
-        let alone = PROCESS.lock().unwrap_or_else(|poisoned| poisoned.into_inner());
+        let alone = PROCESS
+            .lock()
+            .unwrap_or_else(|poisoned| poisoned.into_inner());
         let path = env::temp_dir().join(format!("dotenvy-{}-{name}", process::id()));
         fs::create_dir_all(&path).unwrap();
         let path = path.canonicalize().unwrap();
@@ -25,7 +27,11 @@ impl Folder {
         for name in ["DA", "DB", "DC", "DD"] {
             env::remove_var(name);
         }
-        Folder { path, before, _alone: alone }
+        Folder {
+            path,
+            before,
+            _alone: alone,
+        }
     }
 
     fn write(&self, name: &str, text: impl AsRef<[u8]>) -> PathBuf {
@@ -52,7 +58,10 @@ fn a_variable_that_exists_keeps_its_value() {
     let path = folder.write("a.env", "DA=1\nDB=$DA\n");
     env::set_var("DA", "9");
     dotenvy::from_path(&path).unwrap();
-    assert_eq!((value("DA"), value("DB")), (Some("9".into()), Some("9".into())));
+    assert_eq!(
+        (value("DA"), value("DB")),
+        (Some("9".into()), Some("9".into()))
+    );
 }
 
 #[test]
@@ -61,7 +70,10 @@ fn an_override_replaces_it() {
     let path = folder.write("a.env", "DA=1\nDA=2\nDB=$DA\n");
     env::set_var("DA", "9");
     dotenvy::from_path_override(&path).unwrap();
-    assert_eq!((value("DA"), value("DB")), (Some("2".into()), Some("2".into())));
+    assert_eq!(
+        (value("DA"), value("DB")),
+        (Some("2".into()), Some("2".into()))
+    );
     dotenvy::from_read_override(&b"DA=3\n"[..]).unwrap();
     assert_eq!(value("DA"), Some("3".into()));
 }
@@ -75,13 +87,22 @@ fn a_file_is_searched_for_upwards() {
     env::set_current_dir("x/y").unwrap();
     assert_eq!(dotenvy::dotenv().unwrap(), path);
     assert_eq!(dotenvy::from_filename("service.env").unwrap(), named);
-    assert_eq!((value("DA"), value("DB")), (Some("1".into()), Some("2".into())));
-    assert_eq!(dotenvy::from_filename_override("service.env").unwrap(), named);
+    assert_eq!(
+        (value("DA"), value("DB")),
+        (Some("1".into()), Some("2".into()))
+    );
+    assert_eq!(
+        dotenvy::from_filename_override("service.env").unwrap(),
+        named
+    );
     assert_eq!(value("DA"), Some("2".into()));
     assert_eq!(dotenvy::dotenv_override().unwrap(), path);
     assert_eq!(value("DA"), Some("1".into()));
     assert_eq!(dotenvy::dotenv_iter().unwrap().count(), 1);
-    assert_eq!(dotenvy::from_filename_iter("service.env").unwrap().count(), 2);
+    assert_eq!(
+        dotenvy::from_filename_iter("service.env").unwrap().count(),
+        2
+    );
     env::set_current_dir(&folder.path).unwrap();
 }
 
@@ -99,9 +120,15 @@ fn errors_and_what_is_before_them() {
     let _folder = Folder::new("errors");
     let error = dotenvy::from_read(&b"DA=1\nDB=x y\nDC=3\n"[..]).unwrap_err();
     assert!(matches!(&error, Error::LineParse(text, 2) if text == "x y"));
-    assert_eq!(error.to_string(), "Error parsing line: 'x y', error at line index: 2");
+    assert_eq!(
+        error.to_string(),
+        "Error parsing line: 'x y', error at line index: 2"
+    );
     assert!(!error.not_found());
-    assert_eq!((value("DA"), value("DB"), value("DC")), (Some("1".into()), None, None));
+    assert_eq!(
+        (value("DA"), value("DB"), value("DC")),
+        (Some("1".into()), None, None)
+    );
 
     let error = dotenvy::from_read(&b"DD=\xff\n"[..]).unwrap_err();
     assert!(matches!(&error, Error::Io(error) if error.kind() == io::ErrorKind::InvalidData));
@@ -115,9 +142,15 @@ fn items_and_the_errors_among_them() {
     let _folder = Folder::new("items");
     let items: Vec<_> = dotenvy::from_read_iter(&b"DA=1\nDB=x y\nDC=$DA\n"[..]).collect();
     assert_eq!(items.len(), 3);
-    assert_eq!(items[0].as_ref().unwrap(), &("DA".to_owned(), "1".to_owned()));
+    assert_eq!(
+        items[0].as_ref().unwrap(),
+        &("DA".to_owned(), "1".to_owned())
+    );
     assert!(matches!(&items[1], Err(Error::LineParse(text, 2)) if text == "x y"));
-    assert_eq!(items[2].as_ref().unwrap(), &("DC".to_owned(), "1".to_owned()));
+    assert_eq!(
+        items[2].as_ref().unwrap(),
+        &("DC".to_owned(), "1".to_owned())
+    );
     assert_eq!(value("DA"), None);
 }
 
@@ -128,7 +161,10 @@ fn a_load_of_what_is_left() {
     assert_eq!(items.next().unwrap().unwrap().0, "DA");
     env::set_var("DC", "9");
     assert!(matches!(items.load(), Err(Error::LineParse(..))));
-    assert_eq!((value("DA"), value("DB"), value("DC")), (None, Some("2".into()), Some("9".into())));
+    assert_eq!(
+        (value("DA"), value("DB"), value("DC")),
+        (None, Some("2".into()), Some("9".into()))
+    );
 
     let mut items = Iter::new(&b"DA=1\nDC=3\n"[..]);
     items.next().unwrap().unwrap();
@@ -141,7 +177,10 @@ fn a_byte_order_mark_is_dropped_by_a_load_alone() {
     let _folder = Folder::new("mark");
     dotenvy::from_read("\u{feff}DA=1\n".as_bytes()).unwrap();
     assert_eq!(value("DA"), Some("1".into()));
-    assert!(dotenvy::from_read_iter("\u{feff}DA=1\n".as_bytes()).next().unwrap().is_err());
+    assert!(dotenvy::from_read_iter("\u{feff}DA=1\n".as_bytes())
+        .next()
+        .unwrap()
+        .is_err());
 }
 
 struct Failing;
