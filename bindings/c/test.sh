@@ -14,7 +14,7 @@ failed=0
 # Runs a test program, and adds what it counted.
 run() {
     local last
-    last=$("$1" | tee /dev/stderr | tail -n 1)
+    last=$("$1" | tee >(cat >&2) | tail -n 1)
     if [[ $last =~ ^([0-9]+)' passed, '([0-9]+)' failed'$ ]]; then
         passed=$((passed + BASH_REMATCH[1]))
         failed=$((failed + BASH_REMATCH[2]))
