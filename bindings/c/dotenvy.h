@@ -98,7 +98,7 @@ bool dotenvy_is_key(const uint8_t *text, size_t text_len);
  * of the names, and the text of the error right after it. Where `out` has no room for both nothing is written, `fits`
  * is false, and block_len + text_len is the room that the same call needs.
  *
- * The key and the value of an index of DOTENVY_LINE_PARSE: docs/GRAMMAR.md, "Faults and their places". */
+ * docs/GRAMMAR.md, "Faults and their places", says which text a wrong line has, and what its index counts. */
 struct dotenvy_answer dotenvy_load(const uint8_t *file, size_t file_len, const uint8_t *block, size_t block_len,
                                    uint32_t options, uint8_t *out, size_t out_len);
 

@@ -107,17 +107,17 @@ def _error_of(record: _library.Record, file: str | None) -> DotenvError:
 
 
 def _records(
-    source: Source, environment: Mapping[str, str] | None, dialect: Dialect
+    path_or_bytes: Source, environment: Mapping[str, str] | None, dialect: Dialect
 ) -> tuple[list[_library.Record], str | None]:
-    file, name = _read(source)
+    file, name = _read(path_or_bytes)
     options = dialect.value | _library.DROP_MARK
     return _library.items(file, _block(environment), options), name
 
 
-def _read(source: Source) -> tuple[bytes, str | None]:
-    if isinstance(source, bytes):
-        return source, None
-    path = os.fspath(source)
+def _read(path_or_bytes: Source) -> tuple[bytes, str | None]:
+    if isinstance(path_or_bytes, bytes):
+        return path_or_bytes, None
+    path = os.fspath(path_or_bytes)
     return Path(path).read_bytes(), path
 
 
@@ -139,19 +139,19 @@ def is_key(text: str) -> bool:
 
 
 def dotenv_items(
-    source: Source,
+    path_or_bytes: Source,
     environment: Mapping[str, str] | None = None,
     dialect: Dialect = Dialect.V15,
 ) -> Iterator[Pair | DotenvError]:
     """The pairs and the errors of a file, in order; an error is given and not raised.
 
-    `source` is a path, or the bytes of a file. A name that a value mentions means its value in `environment`, else the
+    The file is given by its path, or as bytes. A name that a value mentions means its value in `environment`, else the
     last one declared before it in the file. `environment` is that of the process unless it is given.
 
     >>> list(dotenv_items(b"A=1\\nB=${A}0\\n", {}))[1]
     Pair(key='B', value='10', first_line=2, last_line=2)
     """
-    records, name = _records(source, environment, dialect)
+    records, name = _records(path_or_bytes, environment, dialect)
     for record in records:
         if record.status == _library.OK:
             yield Pair(
@@ -162,21 +162,21 @@ def dotenv_items(
 
 
 def dotenv_values(
-    source: Source | None = None,
+    path_or_bytes: Source | None = None,
     environment: Mapping[str, str] | None = None,
     dialect: Dialect = Dialect.V15,
 ) -> dict[str, str]:
     """The names that a file declares with their values. The last value of a name counts; `os.environ` stays as it is.
 
-    `source` is a path, the bytes of a file, or None for the file that `find_dotenv` finds: none at all has no names.
+    The file is given by its path or as bytes; None is the file that `find_dotenv` finds, and no file has no names.
     What names in values mean is as in `dotenv_items`. The first error of the file is raised.
 
     >>> dotenv_values(b"A=1\\nB=${A}0\\n", {})
     {'A': '1', 'B': '10'}
     """
-    if source is None:
-        source = find_dotenv() or b""
-    records, name = _records(source, environment, dialect)
+    if path_or_bytes is None:
+        path_or_bytes = find_dotenv() or b""
+    records, name = _records(path_or_bytes, environment, dialect)
     values = {}
     for record in records:
         if record.status != _library.OK:
@@ -186,23 +186,23 @@ def dotenv_values(
 
 
 def load_dotenv(
-    source: Source | None = None,
+    path: Source | None = None,
     override: bool = False,
     dialect: Dialect = Dialect.V15,
 ) -> bool:
     """Loads a file into `os.environ`, and returns whether there was one.
 
-    `source` is a path, the bytes of a file, or None for the file that `find_dotenv` finds. A variable that exists keeps
+    The file is given by its path, or as bytes; None is the file that `find_dotenv` finds. A variable that exists keeps
     its value, unless `override` is set; then each name gets the last value that the file gives it. A path at which
     there is no file raises `FileNotFoundError`.
 
     The first error of the file is raised, and what is before it was set.
     """
-    if source is None:
-        source = find_dotenv()
-        if not source:
+    if path is None:
+        path = find_dotenv()
+        if not path:
             return False
-    file, name = _read(source)
+    file, name = _read(path)
     block = _block(None)
     options = dialect.value | (_library.OVERRIDE if override else 0)
     loaded = _library.load(file, block, options)
