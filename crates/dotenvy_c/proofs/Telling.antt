@@ -6,7 +6,7 @@ use Rattle.std.specs.declared.alloc.Global.{Global}
 use Rattle.dotenvy.specs.Environment.{Texts}
 use Rattle.dotenvy.specs.Iter.{IterState}
 use Rattle.dotenvy.specs.NextItem.{Item, NextItem}
-use Rattle.dotenvy_c.specs.declared.items.Item as code
+use Rattle.dotenvy_c.specs.declared.items.Item as rust
 use Rattle.dotenvy_c.specs.declared.items.Records.{Records}
 use Rattle.dotenvy_c.specs.Block.{block_names}
 use Rattle.dotenvy_c.specs.File.{fresh_file}
@@ -105,7 +105,7 @@ length-records_from at (first ∷ told) = ap suc (length-records_from (at + leng
 -- records and texts, written where both fit, answer a call for items
 pub answered_items : {options : ℕ} {file block : List ℕ} {records : Records} →
     HasRecords (block_names block) (fresh_file (bytes_of options file) (dialect_of options)) records →
-    (fits : Bool) (count text_len : ℕ) (old_items new_items : List code.Item) (old new : List ℕ) →
+    (fits : Bool) (count text_len : ℕ) (old_items new_items : List rust.Item) (old new : List ℕ) →
     count ≡ length records.items.items → text_len ≡ length records.text.items →
     (IsTrue fits ↔ ((length records.items.items ≤ length old_items) × (length records.text.items ≤ length old))) →
     new_items ≡ written_if fits records.items.items old_items → new ≡ written_if fits records.text.items old →

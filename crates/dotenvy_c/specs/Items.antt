@@ -6,7 +6,7 @@ use Rattle.std.specs.declared.alloc.Global.{Global}
 use Rattle.dotenvy.specs.Environment.{Texts}
 use Rattle.dotenvy.specs.Iter.{IterState}
 use Rattle.dotenvy.specs.NextItem.{Item, NextItem}
-use Rattle.dotenvy_c.specs.declared.items.Item as code
+use Rattle.dotenvy_c.specs.declared.items.Item as rust
 use Rattle.dotenvy_c.specs.declared.items.Counts.{Counts}
 use Rattle.dotenvy_c.specs.declared.items.Records.{Records}
 use Rattle.dotenvy_c.specs.Block.{block_names}
@@ -38,7 +38,7 @@ abbrev pub text_of : ToldItem → List ℕ
 text_of told = told.0.key ++ told.0.text
 
 -- the record of an item whose key begins here
-abbrev pub record_at : ℕ → ToldItem → code.Item
+abbrev pub record_at : ℕ → ToldItem → rust.Item
 record_at at (told, (first, last)) = record {
   status = told.status;
   key_at = at;
@@ -50,7 +50,7 @@ record_at at (told, (first, last)) = record {
 }
 
 -- the records of items whose texts begin here
-abbrev pub records_from : ℕ → List ToldItem → List code.Item
+abbrev pub records_from : ℕ → List ToldItem → List rust.Item
 records_from at [] = []
 records_from at (told ∷ later) = record_at at told ∷ records_from (at + length (text_of told)) later
 
@@ -83,7 +83,7 @@ pub record AddsItem (item : Item Global) (lines : ℕ × ℕ) (old new : Records
 -- the answer to a call for the items of a file under the environment of a block: their records and
 -- their texts stand in the rooms where both fit, and their numbers are told
 pub record AnswersItems (options : ℕ) (file block : List ℕ) (counts : Counts)
-    (old_items new_items : List code.Item) (old new : List ℕ) : Type 0 where
+    (old_items new_items : List rust.Item) (old new : List ℕ) : Type 0 where
   pub told : List ToldItem
   pub tells :
       TellsItems (block_names block) (fresh_file (bytes_of options file) (dialect_of options)) told

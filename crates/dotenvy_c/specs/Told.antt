@@ -6,7 +6,7 @@ use Rattle.std.specs.IoError.{error_kind}
 use Rattle.dotenvy.specs.Error.{Error}
 use Rattle.dotenvy.specs.Error.TheVariants.{LineParse, Io, EnvVar, Nul, Memory}
 use Rattle.dotenvy.specs.NextItem.{Item}
-use Rattle.dotenvy_c.specs.declared.status.Told as code
+use Rattle.dotenvy_c.specs.declared.status.Told as rust
 
 -- a status; the key of a pair; the value of a pair, or the text of an error; a place in that text
 pub record Told : Type 0 where
@@ -15,8 +15,8 @@ pub record Told : Type 0 where
   pub text : List ℕ
   pub index : ℕ
 
--- what the code's record says
-abbrev pub told_of : code.Told → Told
+-- what the record of the code says
+abbrev pub told_of : rust.Told → Told
 told_of told = record {
   status = told.status;
   key = told.key.now;
