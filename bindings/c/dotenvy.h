@@ -1,0 +1,120 @@
+/* Environment files (.env) for C, read by a proved library.
+ *
+ * Link libdotenvy.a or libdotenvy.so (bindings/README.md says how they are built).
+ *
+ * Each call is a function of its bytes: nothing is kept between two calls, nothing has to be freed, and no call
+ * touches the process or its files. docs/GRAMMAR.md says what a file means.
+ *
+ * What you have to guarantee, since nothing checks C:
+ *   - No pointer is NULL, not even with a length of 0. A pointer has that many bytes, or items, behind it.
+ *   - `out` and `items` overlap nothing else that the call is given. `file` and `block` are only read, and may overlap.
+ *   - malloc, realloc and free come from one allocator. Threads may call at the same time; a signal handler may not
+ *     call, nor the forked child of a process with threads.
+ *
+ * A block is an environment as bytes: NAME=VALUE and a NUL, one after the other. An entry is skipped if it is not
+ * UTF-8, has no '=', or has no name before it. Of several entries with one name the first counts. The last entry may
+ * lack its NUL.
+ *
+ * An example:
+ *
+ *     static const char file[] = "HOST=localhost\nURL=\"http://${HOST}:$PORT/\"\n";
+ *     static const char block[] = "PORT=9";                 // its last NUL is in sizeof
+ *     uint8_t out[256];
+ *     struct dotenvy_answer a = dotenvy_load((const uint8_t *)file, sizeof file - 1,
+ *                                            (const uint8_t *)block, sizeof block, 0, out, sizeof out);
+ *     if (!a.fits) {
+ *         // a.status is DOTENVY_NO_MEMORY or DOTENVY_BAD_OPTION,
+ *         // or call again with a.block_len + a.text_len bytes of room
+ *         return 1;
+ *     }
+ *     for (size_t at = 0; at < a.block_len; at += strlen((char *)out + at) + 1)
+ *         puts((char *)out + at);                            // HOST=localhost, PORT=9, URL=http://localhost:9/
+ *     if (a.status != DOTENVY_OK)                            // what is before the error was loaded
+ *         fprintf(stderr, "error %u: %.*s\n", (unsigned)a.status, (int)a.text_len, (char *)out + a.block_len);
+ */
+#ifndef DOTENVY_H
+#define DOTENVY_H
+
+#include <stdbool.h>
+#include <stddef.h>
+#include <stdint.h>
+
+#ifdef __cplusplus
+extern "C" {
+#endif
+
+/* What a call or an item comes to. The numbers are the same in all calls. */
+enum {
+    DOTENVY_OK = 0,
+    DOTENVY_LINE_PARSE = 1,     /* a line is wrong: the text at fault, and the index in it where a reader gives up */
+    DOTENVY_NOT_UTF8 = 2,       /* a line is not UTF-8; no text */
+    DOTENVY_NUL = 3,            /* a value that was to be set has a NUL: the text is its key */
+    DOTENVY_TOO_MANY_READS = 4, /* the bound on reads was met; no file shorter than 2^32 bytes comes to it */
+    DOTENVY_NO_MEMORY = 5,      /* an allocation failed, and nothing was written */
+    DOTENVY_BAD_OPTION = 6      /* an option that the call doesn't have, and nothing was written */
+};
+
+/* What a call is asked for: 0, or some of these joined by `|`. */
+enum {
+    DOTENVY_OVERRIDE = 1,     /* dotenvy_load: a name that is there gets the value of the file */
+    DOTENVY_NEXT_DIALECT = 2, /* both: the second dialect of docs/GRAMMAR.md */
+    DOTENVY_DROP_MARK = 4     /* dotenvy_items: drop a byte order mark at the start; a load always does */
+};
+
+/* What a load comes to. */
+struct dotenvy_answer {
+    uint32_t status;  /* DOTENVY_OK, or the error at which the load stopped */
+    bool fits;        /* whether the block and the text were written */
+    size_t index;     /* DOTENVY_LINE_PARSE: the place in the text */
+    size_t block_len; /* bytes of the new block */
+    size_t text_len;  /* bytes of the text of the error, right after the block */
+};
+
+/* A pair of a file, or an error in its place. */
+struct dotenvy_item {
+    uint32_t status;     /* DOTENVY_OK for a pair, or which error */
+    size_t key_at;       /* where its key begins in `out`; its text begins at key_at + key_len */
+    size_t key_len;      /* bytes of the key; 0 for an error */
+    size_t text_len;     /* bytes of the value of a pair, or of the text of an error */
+    size_t index;        /* DOTENVY_LINE_PARSE: the place in the text */
+    uint64_t first_line; /* the physical line on which it begins, counted from 1; 0 if it is on none */
+    uint64_t last_line;  /* the physical line on which it ends */
+};
+
+/* How many items there are. */
+struct dotenvy_counts {
+    uint32_t status; /* DOTENVY_OK, DOTENVY_NO_MEMORY or DOTENVY_BAD_OPTION; items have statuses of their own */
+    bool fits;       /* whether the items and their texts were written */
+    size_t items;    /* how many items there are */
+    size_t text_len; /* bytes of all keys and texts */
+};
+
+/* Whether these bytes may be a key of a file. */
+bool dotenvy_is_key(const uint8_t *text, size_t text_len);
+
+/* Loads a file over the environment of a block: a name that is there keeps its value, unless DOTENVY_OVERRIDE is set.
+ *
+ * It stops at the first error; what is before it counts. The new block is written to the start of `out`, in byte order
+ * of the names, and the text of the error right after it. Where `out` has no room for both nothing is written, `fits`
+ * is false, and block_len + text_len is the room that the same call needs.
+ *
+ * docs/GRAMMAR.md, "Faults and their places", says which text a wrong line has, and what its index counts. */
+struct dotenvy_answer dotenvy_load(const uint8_t *file, size_t file_len, const uint8_t *block, size_t block_len,
+                                   uint32_t options, uint8_t *out, size_t out_len);
+
+/* Writes the items of a file to `items`, and their keys and texts one after the other to `out`: all pairs and all
+ * errors, in order. A name in a value means its value in the block, else the last one declared before it in the file.
+ *
+ * Where there is no room for all items, or for all texts, nothing is written, `fits` is false, and `items` and
+ * `text_len` are the room that the same call needs. */
+struct dotenvy_counts dotenvy_items(const uint8_t *file, size_t file_len, const uint8_t *block, size_t block_len,
+                                    uint32_t options, struct dotenvy_item *items, size_t items_len, uint8_t *out,
+                                    size_t out_len);
+
+/* 1000000 times the major version, 1000 times the minor one, and the number of the patch: 1000000 is 1.0.0. */
+uint32_t dotenvy_version(void);
+
+#ifdef __cplusplus
+}
+#endif
+#endif

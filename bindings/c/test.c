@@ -1,0 +1,346 @@
+/* Tests of the library for C: every call, every status, room that is exact or one byte short, empty inputs, the layout
+ * of the structs, and each request for memory refused in turn. It has an allocator of its own, and needs nothing but
+ * dotenvy.h and a C library. With the argument `layout` it prints the layout of the structs instead. The last line is
+ * `N passed, M failed`. */
+#include "dotenvy.h"
+
+/* Of the C library: declared here, so that the toolchain's clang, which has no headers, can compile this. */
+int printf(const char *format, ...);
+void *malloc(size_t size);
+void *realloc(void *block, size_t size);
+void free(void *block);
+void *memset(void *to, int byte, size_t size);
+void *memcpy(void *to, const void *from, size_t size);
+int memcmp(const void *a, const void *b, size_t size);
+size_t strlen(const char *text);
+int strcmp(const char *a, const char *b);
+
+/* The allocator of the library: it counts requests and blocks, and can refuse one request. */
+struct tried {
+    bool ok;
+    uint8_t *block;
+};
+
+static size_t requests;  /* asked for so far */
+static size_t blocks;    /* that are not given back */
+static size_t refuse_at; /* the number of the request that is refused, from 1; 0 refuses none */
+static uint8_t nothing;
+
+static bool is_refused(void) { return ++requests == refuse_at; }
+
+struct tried rattle_alloc(size_t size, size_t alignment) {
+    uint8_t *block = is_refused() ? NULL : malloc(size ? size : alignment);
+    blocks += block != NULL;
+    return (struct tried){block != NULL, block ? block : &nothing};
+}
+
+struct tried rattle_realloc(uint8_t *old, size_t kept, size_t size, size_t alignment) {
+    (void)kept;
+    uint8_t *block = is_refused() ? NULL : realloc(old, size ? size : alignment);
+    return (struct tried){block != NULL, block ? block : &nothing};
+}
+
+void rattle_dealloc(uint8_t *block) {
+    blocks--;
+    free(block);
+}
+
+static unsigned passed, failed;
+
+static void check(bool holds, const char *what, int line) {
+    if (holds) {
+        passed++;
+    } else {
+        failed++;
+        printf("FAILED at line %d: %s\n", line, what);
+    }
+}
+#define CHECK(condition) check((condition), #condition, __LINE__)
+
+enum { ROOM = 4096, ITEMS = 64, UNWRITTEN = 0xA5 };
+static uint8_t out[ROOM];
+static struct dotenvy_item items[ITEMS];
+
+static void clear(void) {
+    memset(out, UNWRITTEN, sizeof out);
+    memset(items, UNWRITTEN, sizeof items);
+}
+
+/* Whether nothing was written from this byte of `out` on. */
+static bool untouched_from(size_t at) {
+    for (; at < ROOM; at++)
+        if (out[at] != UNWRITTEN) return false;
+    return true;
+}
+
+/* Whether no item was written from this one on. */
+static bool no_items_from(size_t at) {
+    const uint8_t *bytes = (const uint8_t *)items;
+    for (size_t i = at * sizeof items[0]; i < sizeof items; i++)
+        if (bytes[i] != UNWRITTEN) return false;
+    return true;
+}
+
+static bool is_at(size_t at, const char *bytes, size_t length) { return memcmp(out + at, bytes, length) == 0; }
+
+/* A text with its length, which may have NULs in it. */
+struct bytes {
+    const char *at;
+    size_t length;
+};
+#define BYTES(literal) ((struct bytes){literal, sizeof(literal) - 1})
+
+static struct dotenvy_answer load(struct bytes file, struct bytes block, uint32_t options, size_t room) {
+    clear();
+    return dotenvy_load((const uint8_t *)file.at, file.length, (const uint8_t *)block.at, block.length, options, out, room);
+}
+
+static struct dotenvy_counts list(struct bytes file, struct bytes block, uint32_t options, size_t room_items, size_t room) {
+    clear();
+    return dotenvy_items((const uint8_t *)file.at, file.length, (const uint8_t *)block.at, block.length, options, items,
+                         room_items, out, room);
+}
+
+/* A load that answers this, leaves this block, and tells this text; with ample room, with exact room, and with one
+ * byte less. */
+static void loads(struct bytes file, struct bytes block, uint32_t options, uint32_t status, struct bytes left,
+                  struct bytes text, size_t index, int line) {
+    size_t need = left.length + text.length;
+    struct dotenvy_answer a = load(file, block, options, ROOM);
+    check(a.status == status, "the status", line);
+    check(a.fits, "it fits ample room", line);
+    check(a.index == index, "the index", line);
+    check(a.block_len == left.length, "the length of the block", line);
+    check(a.text_len == text.length, "the length of the text", line);
+    check(is_at(0, left.at, left.length), "the block", line);
+    check(is_at(left.length, text.at, text.length), "the text", line);
+    check(untouched_from(need), "nothing is written after them", line);
+
+    a = load(file, block, options, need);
+    check(a.fits && a.status == status && is_at(0, left.at, left.length) && is_at(left.length, text.at, text.length)
+              && untouched_from(need), "exact room serves", line);
+
+    if (need > 0) {
+        a = load(file, block, options, need - 1);
+        check(!a.fits && a.status == status && a.index == index && a.block_len == left.length && a.text_len == text.length,
+              "one byte short: the lengths are told", line);
+        check(untouched_from(0), "one byte short: nothing is written", line);
+    }
+}
+#define LOADS(file, block, options, status, left, text, index) \
+    loads(BYTES(file), BYTES(block), options, status, BYTES(left), BYTES(text), index, __LINE__)
+
+/* Whether this item has this status, key, text and index, and is on these lines. */
+static bool item_is(size_t at, uint32_t status, const char *key, const char *text, size_t index, uint64_t first, uint64_t last) {
+    const struct dotenvy_item *item = &items[at];
+    return item->status == status && item->key_len == strlen(key) && item->text_len == strlen(text)
+           && is_at(item->key_at, key, item->key_len) && is_at(item->key_at + item->key_len, text, item->text_len)
+           && item->index == index && item->first_line == first && item->last_line == last;
+}
+
+static void test_keys(void) {
+    CHECK(dotenvy_is_key((const uint8_t *)"A.b", 3));
+    CHECK(dotenvy_is_key((const uint8_t *)"_9", 2));
+    CHECK(!dotenvy_is_key((const uint8_t *)"1A", 2));
+    CHECK(!dotenvy_is_key((const uint8_t *)"A b", 3));
+    CHECK(!dotenvy_is_key((const uint8_t *)"A\0", 2));
+    CHECK(!dotenvy_is_key((const uint8_t *)"\xC3\xA9", 2));
+    CHECK(!dotenvy_is_key((const uint8_t *)"\xFF", 1));
+    CHECK(!dotenvy_is_key((const uint8_t *)"", 0));
+    CHECK(dotenvy_version() == 1000000);
+}
+
+static void test_loads(void) {
+    LOADS("A=1\nB=$A\n", "", 0, DOTENVY_OK, "A=1\0B=1\0", "", 0);
+    /* Which value counts, and what a name means meanwhile. */
+    LOADS("A=1\nA=2\nB=$A\n", "", 0, DOTENVY_OK, "A=1\0B=1\0", "", 0);
+    LOADS("A=1\nA=2\nB=$A\n", "", DOTENVY_OVERRIDE, DOTENVY_OK, "A=2\0B=2\0", "", 0);
+    LOADS("A=1\n", "A=9", 0, DOTENVY_OK, "A=9\0", "", 0);
+    LOADS("A=1\n", "A=9", DOTENVY_OVERRIDE, DOTENVY_OK, "A=1\0", "", 0);
+    /* The two dialects. */
+    LOADS("C=$A_B\n", "A_B=7\0A=5", 0, DOTENVY_OK, "A=5\0A_B=7\0C=5_B\0", "", 0);
+    LOADS("C=$A_B\n", "A_B=7\0A=5", DOTENVY_NEXT_DIALECT, DOTENVY_OK, "A=5\0A_B=7\0C=7\0", "", 0);
+    LOADS("A=1\nC=$A_B\n", "A_B=7\0A=5\0", DOTENVY_OVERRIDE | DOTENVY_NEXT_DIALECT, DOTENVY_OK, "A=1\0A_B=7\0C=7\0", "", 0);
+    /* A byte order mark is dropped. */
+    LOADS("\xEF\xBB\xBF" "A=1\n", "", 0, DOTENVY_OK, "A=1\0", "", 0);
+    /* Each error; what is before it was loaded. */
+    LOADS("B=$A\nC=x y\nD=1\n", "A=9", 0, DOTENVY_LINE_PARSE, "A=9\0B=9\0", "x y", 2);
+    LOADS("A=1\nB=\xFF\n", "", 0, DOTENVY_NOT_UTF8, "A=1\0", "", 0);
+    LOADS("A=1\nB=\"x\0y\"\nC=3\n", "", 0, DOTENVY_NUL, "A=1\0", "B", 0);
+    LOADS("A=1\nB=\"x\0y\"\nC=3\n", "B=old", 0, DOTENVY_OK, "A=1\0B=old\0C=3\0", "", 0);
+    LOADS("A=1\nB=\"x\0y\"\nC=3\n", "B=old", DOTENVY_OVERRIDE, DOTENVY_NUL, "A=1\0B=old\0", "B", 0);
+    /* Empty inputs. */
+    LOADS("", "", 0, DOTENVY_OK, "", "", 0);
+    LOADS("", "A=1", 0, DOTENVY_OK, "A=1\0", "", 0);
+    LOADS("A=1", "", 0, DOTENVY_OK, "A=1\0", "", 0);
+    LOADS("x y", "", 0, DOTENVY_LINE_PARSE, "", "x y", 2);
+    /* Blocks: with and without a last NUL, empty entries, what has no name or is no pair, twice the same name. */
+    LOADS("", "B=2\0A=1", 0, DOTENVY_OK, "A=1\0B=2\0", "", 0);
+    LOADS("", "B=2\0A=1\0", 0, DOTENVY_OK, "A=1\0B=2\0", "", 0);
+    LOADS("", "\0\0B=2\0\0=x\0no pair\0C=a=b\0\xFF=1\0D=\xFF\0B=3\0 E=\0", 0, DOTENVY_OK, " E=\0B=2\0C=a=b\0", "", 0);
+    /* What a load writes, the next one reads: twice the same. */
+    LOADS("A=2\n", "A=1\0B=x=y\0", 0, DOTENVY_OK, "A=1\0B=x=y\0", "", 0);
+}
+
+static void test_refused_options(void) {
+    static const uint32_t bad[] = {4, 8, 5, 0x80000000u, 0xFFFFFFFFu};
+    for (size_t i = 0; i < sizeof bad / sizeof bad[0]; i++) {
+        struct dotenvy_answer a = load(BYTES("A=1\n"), BYTES(""), bad[i], ROOM);
+        CHECK(a.status == DOTENVY_BAD_OPTION && !a.fits && a.index == 0 && a.block_len == 0 && a.text_len == 0);
+        CHECK(untouched_from(0));
+    }
+    static const uint32_t bad_of_items[] = {1, 8, 3, 0x80000000u, 0xFFFFFFFFu};
+    for (size_t i = 0; i < sizeof bad_of_items / sizeof bad_of_items[0]; i++) {
+        struct dotenvy_counts c = list(BYTES("A=1\n"), BYTES(""), bad_of_items[i], ITEMS, ROOM);
+        CHECK(c.status == DOTENVY_BAD_OPTION && !c.fits && c.items == 0 && c.text_len == 0);
+        CHECK(untouched_from(0) && no_items_from(0));
+    }
+}
+
+static void test_items(void) {
+    static const char file[] = "# a comment\nA=1\nB=\"2\n${A}\"\nC=x y\nD=\xFF\nA=$HOME\nE=\"u\0v\"\nopen='\n";
+    static const char block[] = "HOME=/root";
+    struct bytes given = BYTES(file), environment = BYTES(block);
+    struct dotenvy_counts c = list(given, environment, 0, ITEMS, ROOM);
+    size_t texts = 2 + 4 + 3 + 0 + 6 + 4 + 7; /* A1, B2.1, x y, nothing, A/root, Eu.v, open=' and its line feed */
+    CHECK(c.status == DOTENVY_OK && c.fits && c.items == 7 && c.text_len == texts);
+    CHECK(item_is(0, DOTENVY_OK, "A", "1", 0, 2, 2));
+    CHECK(item_is(1, DOTENVY_OK, "B", "2\n1", 0, 3, 4));
+    CHECK(item_is(2, DOTENVY_LINE_PARSE, "", "x y", 2, 5, 5));
+    CHECK(item_is(3, DOTENVY_NOT_UTF8, "", "", 0, 6, 6));
+    CHECK(item_is(4, DOTENVY_OK, "A", "/root", 0, 7, 7));
+    CHECK(items[5].status == DOTENVY_OK && items[5].text_len == 3 && is_at(items[5].key_at, "Eu\0v", 4));
+    CHECK(items[6].status == DOTENVY_LINE_PARSE && items[6].first_line == 9 && items[6].last_line == 9);
+    CHECK(items[6].text_len == 7 && is_at(items[6].key_at, "open='\n", 7) && items[6].index == 7);
+    CHECK(untouched_from(texts) && no_items_from(7));
+
+    c = list(given, environment, 0, 7, texts);
+    CHECK(c.fits && c.items == 7 && c.text_len == texts && untouched_from(texts) && no_items_from(7));
+    c = list(given, environment, 0, 6, texts);
+    CHECK(!c.fits && c.status == DOTENVY_OK && c.items == 7 && c.text_len == texts && untouched_from(0) && no_items_from(0));
+    c = list(given, environment, 0, 7, texts - 1);
+    CHECK(!c.fits && c.status == DOTENVY_OK && c.items == 7 && c.text_len == texts && untouched_from(0) && no_items_from(0));
+    c = list(given, environment, 0, 0, 0);
+    CHECK(!c.fits && c.items == 7 && c.text_len == texts && untouched_from(0) && no_items_from(0));
+
+    /* Empty inputs need no room. */
+    c = list(BYTES(""), BYTES(""), 0, 0, 0);
+    CHECK(c.status == DOTENVY_OK && c.fits && c.items == 0 && c.text_len == 0 && untouched_from(0) && no_items_from(0));
+    c = list(BYTES("A="), BYTES(""), 0, 1, 1);
+    CHECK(c.fits && c.items == 1 && c.text_len == 1 && item_is(0, DOTENVY_OK, "A", "", 0, 1, 1));
+
+    /* The dialects, and the mark. */
+    c = list(BYTES("C=$A_B\n"), BYTES("A=5\0A_B=7"), 0, ITEMS, ROOM);
+    CHECK(c.items == 1 && item_is(0, DOTENVY_OK, "C", "5_B", 0, 1, 1));
+    c = list(BYTES("C=$A_B\n"), BYTES("A=5\0A_B=7"), DOTENVY_NEXT_DIALECT, ITEMS, ROOM);
+    CHECK(c.items == 1 && item_is(0, DOTENVY_OK, "C", "7", 0, 1, 1));
+    c = list(BYTES("\xEF\xBB\xBF" "A=1\n"), BYTES(""), 0, ITEMS, ROOM);
+    CHECK(c.items == 1 && item_is(0, DOTENVY_LINE_PARSE, "", "\xEF\xBB\xBF" "A=1", 0, 1, 1));
+    c = list(BYTES("\xEF\xBB\xBF" "A=1\n"), BYTES(""), DOTENVY_DROP_MARK, ITEMS, ROOM);
+    CHECK(c.items == 1 && item_is(0, DOTENVY_OK, "A", "1", 0, 1, 1));
+    c = list(BYTES("\xEF\xBB\xBF\xEF\xBB\xBF" "A=1\n"), BYTES(""), DOTENVY_DROP_MARK, ITEMS, ROOM);
+    CHECK(c.items == 1 && item_is(0, DOTENVY_LINE_PARSE, "", "\xEF\xBB\xBF" "A=1", 0, 1, 1));
+    c = list(BYTES("A=1\n"), BYTES(""), DOTENVY_DROP_MARK | DOTENVY_NEXT_DIALECT, ITEMS, ROOM);
+    CHECK(c.items == 1 && item_is(0, DOTENVY_OK, "A", "1", 0, 1, 1));
+}
+
+/* Refuses each request of a load and of a call for items in turn: the call answers so, writes nothing, and gives back
+ * all that it took. The first number that no request has is the one after the last. */
+static void test_refused_memory(void) {
+    static const char file[] = "A=1\nB=\"$A $HOME\"\nC=x y\nD='a longer value than the others are, to be sure'\n";
+    static const char block[] = "HOME=/root\0PATH=/bin:/usr/bin";
+    size_t first_of_load = 0, first_of_items = 0;
+    for (refuse_at = 1;; refuse_at++) {
+        requests = 0;
+        struct dotenvy_answer a = load(BYTES(file), BYTES(block), 0, ROOM);
+        CHECK(blocks == 0);
+        if (requests < refuse_at) {
+            CHECK(a.fits && a.status == DOTENVY_LINE_PARSE);
+            break;
+        }
+        first_of_load = refuse_at;
+        CHECK(a.status == DOTENVY_NO_MEMORY && !a.fits && a.index == 0 && a.block_len == 0 && a.text_len == 0);
+        CHECK(untouched_from(0));
+    }
+    for (refuse_at = 1;; refuse_at++) {
+        requests = 0;
+        struct dotenvy_counts c = list(BYTES(file), BYTES(block), 0, ITEMS, ROOM);
+        CHECK(blocks == 0);
+        if (requests < refuse_at) {
+            CHECK(c.fits && c.status == DOTENVY_OK && c.items == 4);
+            break;
+        }
+        first_of_items = refuse_at;
+        CHECK(c.status == DOTENVY_NO_MEMORY && !c.fits && c.items == 0 && c.text_len == 0);
+        CHECK(untouched_from(0) && no_items_from(0));
+    }
+    refuse_at = 0;
+    /* Each of the loops met requests. */
+    CHECK(first_of_load > 10 && first_of_items > 10);
+}
+
+static uint64_t number_at(const void *from, size_t at, size_t size) {
+    uint64_t number = 0;
+    memcpy(&number, (const uint8_t *)from + at, size);
+    return number;
+}
+
+/* The bytes that the archive writes, read at the offsets of bindings/layout.txt and not by the header's structs. */
+static void test_layout_of_archive(void) {
+    struct dotenvy_answer a = load(BYTES("B=$A\nC=x y\n"), BYTES("A=9"), 0, ROOM);
+    CHECK(sizeof a == 32 && number_at(&a, 0, 4) == 1 && number_at(&a, 4, 1) == 1 && number_at(&a, 8, 8) == 2);
+    CHECK(number_at(&a, 16, 8) == 8 && number_at(&a, 24, 8) == 3);
+    struct dotenvy_counts c = list(BYTES("\nAB=cde\nC=x y\n\n"), BYTES(""), 0, ITEMS, ROOM);
+    CHECK(sizeof c == 24 && number_at(&c, 0, 4) == 0 && number_at(&c, 4, 1) == 1 && number_at(&c, 8, 8) == 2);
+    CHECK(number_at(&c, 16, 8) == 8);
+    const uint8_t *second = (const uint8_t *)items + 56;
+    CHECK(sizeof items[0] == 56 && number_at(items, 0, 4) == 0 && number_at(items, 8, 8) == 0);
+    CHECK(number_at(items, 16, 8) == 2 && number_at(items, 24, 8) == 3 && number_at(items, 32, 8) == 0);
+    CHECK(number_at(items, 40, 8) == 2 && number_at(items, 48, 8) == 2);
+    CHECK(number_at(second, 0, 4) == 1 && number_at(second, 8, 8) == 5 && number_at(second, 16, 8) == 0);
+    CHECK(number_at(second, 24, 8) == 3 && number_at(second, 32, 8) == 2);
+    CHECK(number_at(second, 40, 8) == 3 && number_at(second, 48, 8) == 3);
+}
+
+#define FIELD(type, field) \
+    printf(" " #field "=%d:%d", (int)offsetof(struct type, field), (int)sizeof(((struct type *)0)->field))
+
+/* Prints the layout of the header's structs, as bindings/layout.txt has it. */
+static void print_layout(void) {
+    printf("answer %d", (int)sizeof(struct dotenvy_answer));
+    FIELD(dotenvy_answer, status);
+    FIELD(dotenvy_answer, fits);
+    FIELD(dotenvy_answer, index);
+    FIELD(dotenvy_answer, block_len);
+    FIELD(dotenvy_answer, text_len);
+    printf("\nitem %d", (int)sizeof(struct dotenvy_item));
+    FIELD(dotenvy_item, status);
+    FIELD(dotenvy_item, key_at);
+    FIELD(dotenvy_item, key_len);
+    FIELD(dotenvy_item, text_len);
+    FIELD(dotenvy_item, index);
+    FIELD(dotenvy_item, first_line);
+    FIELD(dotenvy_item, last_line);
+    printf("\ncounts %d", (int)sizeof(struct dotenvy_counts));
+    FIELD(dotenvy_counts, status);
+    FIELD(dotenvy_counts, fits);
+    FIELD(dotenvy_counts, items);
+    FIELD(dotenvy_counts, text_len);
+    printf("\n");
+}
+
+int main(int argc, char **argv) {
+    if (argc == 2 && strcmp(argv[1], "layout") == 0) {
+        print_layout();
+        return 0;
+    }
+    test_keys();
+    test_loads();
+    test_refused_options();
+    test_items();
+    test_refused_memory();
+    test_layout_of_archive();
+    CHECK(blocks == 0);
+    printf("%u passed, %u failed\n", passed, failed);
+    return failed != 0;
+}

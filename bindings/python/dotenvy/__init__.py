@@ -1,0 +1,242 @@
+"""Reads environment files (`.env`) by a proved library.
+
+    from dotenvy import load_dotenv
+
+    load_dotenv()    # the variables of .env are in os.environ; those that exist keep their values
+
+The file format is that of the Rust crate dotenvy 0.15; docs/GRAMMAR.md says all of it. What is proved is the parsing
+and which value counts; searching for files and reading them is Python's.
+"""
+
+from __future__ import annotations
+
+import enum
+import os
+from collections.abc import Iterator, Mapping
+from dataclasses import dataclass
+from pathlib import Path
+from typing import Union
+
+from . import _library
+
+__all__ = [
+    "Dialect",
+    "DotenvError",
+    "LineParseError",
+    "NotUtf8Error",
+    "NulError",
+    "Pair",
+    "dotenv_items",
+    "dotenv_values",
+    "find_dotenv",
+    "is_key",
+    "load_dotenv",
+]
+
+Source = Union[str, "os.PathLike[str]", bytes]
+
+
+class Dialect(enum.Enum):
+    """How substitutions without braces are read."""
+
+    V15 = 0
+    """As dotenvy 0.15: a name ends before `_`, and can't be right before a closing double quote."""
+
+    NEXT = _library.NEXT_DIALECT
+    """A name may have `_`, and in double quotes it may be right before the closing quote."""
+
+
+class DotenvError(ValueError):
+    """A file is wrong. It is one of the three classes below, unless the library read for too long."""
+
+    def __init__(
+        self, message: str, *, file: str | None, line: int, last_line: int, text: str = "", index: int = 0
+    ) -> None:
+        where = [part for part in (file, str(line) if line else None) if part]
+        super().__init__(f"{':'.join(where)}: {message}" if where else message)
+        self.file = file
+        """The path of the file, or None for bytes."""
+        self.line = line
+        """The physical line on which the error begins, counted from 1; 0 if it is on none."""
+        self.last_line = last_line
+        """The physical line on which it ends."""
+        self.text = text
+        """The text at fault, or for `NulError` the key."""
+        self.index = index
+        """The place in the text where a reader has to give up, counted from 0."""
+
+
+class LineParseError(DotenvError):
+    """A line is no `KEY=value`, or its value is wrong."""
+
+
+class NotUtf8Error(DotenvError):
+    """A line is not UTF-8."""
+
+
+class NulError(DotenvError):
+    """The value of a key has a NUL, which no environment can hold."""
+
+
+@dataclass(frozen=True)
+class Pair:
+    """A key with its value, and the physical lines that it is on, counted from 1."""
+
+    key: str
+    value: str
+    first_line: int
+    last_line: int
+
+
+def _error(status: int, text: bytes, index: int, file: str | None, lines: tuple[int, int]) -> DotenvError:
+    place = {"file": file, "line": lines[0], "last_line": lines[1]}
+    said = text.decode()
+    if status == _library.LINE_PARSE:
+        message = f"Error parsing line: '{said}', error at line index: {index}"
+        return LineParseError(message, text=said, index=index, **place)
+    if status == _library.NOT_UTF8:
+        return NotUtf8Error("stream did not contain valid UTF-8", **place)
+    if status == _library.NUL:
+        return NulError(f"value of '{said}' contains a NUL", text=said, **place)
+    return DotenvError("too many reads", **place)
+
+
+def _error_of(record: _library.Record, file: str | None) -> DotenvError:
+    lines = record.first_line, record.last_line
+    return _error(record.status, record.text, record.index, file, lines)
+
+
+def _records(
+    path_or_bytes: Source, environment: Mapping[str, str] | None, dialect: Dialect
+) -> tuple[list[_library.Record], str | None]:
+    file, name = _read(path_or_bytes)
+    options = dialect.value | _library.DROP_MARK
+    return _library.items(file, _block(environment), options), name
+
+
+def _read(path_or_bytes: Source) -> tuple[bytes, str | None]:
+    if isinstance(path_or_bytes, bytes):
+        return path_or_bytes, None
+    path = os.fspath(path_or_bytes)
+    return Path(path).read_bytes(), path
+
+
+def _block(environment: Mapping[str, str] | None) -> bytes:
+    if environment is None:
+        return _library.block_of(os.environb.items())
+    return _library.block_of(
+        (os.fsencode(name), os.fsencode(value)) for name, value in environment.items()
+    )
+
+
+def is_key(text: str) -> bool:
+    """Whether a file may assign a value to this name.
+
+    >>> is_key("_a.B9"), is_key("1A")
+    (True, False)
+    """
+    return _library.is_key(text.encode(errors="surrogatepass"))
+
+
+def dotenv_items(
+    path_or_bytes: Source,
+    environment: Mapping[str, str] | None = None,
+    dialect: Dialect = Dialect.V15,
+) -> Iterator[Pair | DotenvError]:
+    """The pairs and the errors of a file, in order; an error is given and not raised.
+
+    The file is given by its path, or as bytes. A name that a value mentions means its value in `environment`, else the
+    last one declared before it in the file. `environment` is that of the process unless it is given.
+
+    >>> list(dotenv_items(b"A=1\\nB=${A}0\\n", {}))[1]
+    Pair(key='B', value='10', first_line=2, last_line=2)
+    """
+    records, name = _records(path_or_bytes, environment, dialect)
+    for record in records:
+        if record.status == _library.OK:
+            yield Pair(
+                record.key.decode(), record.text.decode(), record.first_line, record.last_line
+            )
+        else:
+            yield _error_of(record, name)
+
+
+def dotenv_values(
+    path_or_bytes: Source | None = None,
+    environment: Mapping[str, str] | None = None,
+    dialect: Dialect = Dialect.V15,
+) -> dict[str, str]:
+    """The names that a file declares with their values. The last value of a name counts; `os.environ` stays as it is.
+
+    The file is given by its path or as bytes; None is the file that `find_dotenv` finds, and no file has no names.
+    What names in values mean is as in `dotenv_items`. The first error of the file is raised.
+
+    >>> dotenv_values(b"A=1\\nB=${A}0\\n", {})
+    {'A': '1', 'B': '10'}
+    """
+    if path_or_bytes is None:
+        path_or_bytes = find_dotenv() or b""
+    records, name = _records(path_or_bytes, environment, dialect)
+    values = {}
+    for record in records:
+        if record.status != _library.OK:
+            raise _error_of(record, name)
+        values[record.key.decode()] = record.text.decode()
+    return values
+
+
+def load_dotenv(
+    path: Source | None = None,
+    override: bool = False,
+    dialect: Dialect = Dialect.V15,
+) -> bool:
+    """Loads a file into `os.environ`, and returns whether there was one.
+
+    The file is given by its path, or as bytes; None is the file that `find_dotenv` finds. A variable that exists keeps
+    its value, unless `override` is set; then each name gets the last value that the file gives it. A path at which
+    there is no file raises `FileNotFoundError`.
+
+    The first error of the file is raised, and what is before it was set.
+    """
+    if path is None:
+        path = find_dotenv()
+        if not path:
+            return False
+    file, name = _read(path)
+    block = _block(None)
+    options = dialect.value | (_library.OVERRIDE if override else 0)
+    loaded = _library.load(file, block, options)
+    for key, value in loaded.pairs.items():
+        if os.environb.get(key) != value:
+            os.environb[key] = value
+    if loaded.status != _library.OK:
+        lines = _lines_of(loaded, file, block, dialect)
+        raise _error(loaded.status, loaded.text, loaded.index, name, lines)
+    return True
+
+
+def _lines_of(loaded: _library.Loaded, file: bytes, block: bytes, dialect: Dialect) -> tuple[int, int]:
+    """The lines of the error at which a load stopped: it is the first error of the file, or a value with a NUL."""
+    for record in _library.items(file, block, dialect.value | _library.DROP_MARK):
+        if loaded.status == _library.NUL:
+            is_it = record.key == loaded.text and b"\0" in record.text
+        else:
+            is_it = record.status == loaded.status
+        if is_it:
+            return record.first_line, record.last_line
+    return 0, 0
+
+
+def find_dotenv(filename: str = ".env", raise_error_if_not_found: bool = False) -> str:
+    """The path of the file of this name in the current directory, or in the nearest directory above that has it.
+
+    It is the empty text if there is none, or `FileNotFoundError` is raised where that is asked for.
+    """
+    here = Path.cwd()
+    for directory in (here, *here.parents):
+        path = directory / filename
+        if path.is_file():
+            return str(path)
+    if raise_error_if_not_found:
+        raise FileNotFoundError(f"no {filename} in {here} or above it")
+    return ""

@@ -1,0 +1,166 @@
+"""The calls of libdotenvy.so, by ctypes: bytes in, bytes out. bindings/c/dotenvy.h says what each does."""
+
+from __future__ import annotations
+
+import ctypes
+import struct
+from collections.abc import Iterable
+from pathlib import Path
+from typing import NamedTuple
+
+OK, LINE_PARSE, NOT_UTF8, NUL, TOO_MANY_READS, NO_MEMORY, BAD_OPTION = range(7)
+OVERRIDE, NEXT_DIALECT, DROP_MARK = 1, 2, 4
+
+
+class Answer(ctypes.Structure):
+    """`struct dotenvy_answer`."""
+
+    _fields_ = [
+        ("status", ctypes.c_uint32),
+        ("fits", ctypes.c_bool),
+        ("index", ctypes.c_size_t),
+        ("block_len", ctypes.c_size_t),
+        ("text_len", ctypes.c_size_t),
+    ]
+
+
+class Item(ctypes.Structure):
+    """`struct dotenvy_item`."""
+
+    _fields_ = [
+        ("status", ctypes.c_uint32),
+        ("key_at", ctypes.c_size_t),
+        ("key_len", ctypes.c_size_t),
+        ("text_len", ctypes.c_size_t),
+        ("index", ctypes.c_size_t),
+        ("first_line", ctypes.c_uint64),
+        ("last_line", ctypes.c_uint64),
+    ]
+
+
+class Counts(ctypes.Structure):
+    """`struct dotenvy_counts`."""
+
+    _fields_ = [
+        ("status", ctypes.c_uint32),
+        ("fits", ctypes.c_bool),
+        ("items", ctypes.c_size_t),
+        ("text_len", ctypes.c_size_t),
+    ]
+
+
+def _open() -> ctypes.CDLL:
+    path = Path(__file__).with_name("libdotenvy.so")
+    if not path.exists():
+        raise ImportError(f"{path} is missing: bindings/build.sh builds it")
+    library = ctypes.CDLL(str(path))
+    bytes_in = [ctypes.c_char_p, ctypes.c_size_t]
+    room = [ctypes.c_char_p, ctypes.c_size_t]
+    library.dotenvy_is_key.restype = ctypes.c_bool
+    library.dotenvy_is_key.argtypes = bytes_in
+    library.dotenvy_version.restype = ctypes.c_uint32
+    library.dotenvy_version.argtypes = []
+    library.dotenvy_load.restype = Answer
+    library.dotenvy_load.argtypes = [*bytes_in, *bytes_in, ctypes.c_uint32, *room]
+    library.dotenvy_items.restype = Counts
+    library.dotenvy_items.argtypes = [
+        *bytes_in, *bytes_in, ctypes.c_uint32, ctypes.POINTER(Item), ctypes.c_size_t, *room
+    ]
+    return library
+
+
+_library = _open()
+
+# An `Item` as `struct` reads it, which for many items is much faster than its attributes are.
+_ITEM = struct.Struct("@IQQQQQQ")
+
+
+class Loaded(NamedTuple):
+    """What a load leaves, and the error at which it stopped, if its status is not `OK`."""
+
+    status: int
+    pairs: dict[bytes, bytes]
+    text: bytes
+    index: int
+
+
+class Record(NamedTuple):
+    """An item of a file: a pair if its status is `OK`, else an error."""
+
+    status: int
+    key: bytes
+    text: bytes
+    index: int
+    first_line: int
+    last_line: int
+
+
+def _refuse(status: int) -> None:
+    if status == NO_MEMORY:
+        raise MemoryError
+    if status == BAD_OPTION:
+        raise ValueError("an option that this call doesn't have")
+
+
+def block_of(pairs: Iterable[tuple[bytes, bytes]]) -> bytes:
+    """The block of these pairs. A pair that no block can hold is left out."""
+    return b"".join(
+        b"%b=%b\0" % (name, value)
+        for name, value in pairs
+        if b"=" not in name and b"\0" not in name + value
+    )
+
+
+def pairs_of(block: bytes) -> dict[bytes, bytes]:
+    """The pairs of a block that the library wrote."""
+    return dict(entry.split(b"=", 1) for entry in block.split(b"\0")[:-1])
+
+
+def is_key(text: bytes) -> bool:
+    """Whether these bytes may be a key of a file."""
+    return _library.dotenvy_is_key(text, len(text))
+
+
+def version() -> int:
+    """1000000 times the major version, 1000 times the minor one, and the number of the patch."""
+    return _library.dotenvy_version()
+
+
+def load(file: bytes, block: bytes, options: int = 0) -> Loaded:
+    """Loads a file over the environment of a block."""
+    room = 2 * (len(file) + len(block)) + 64
+    while True:
+        out = ctypes.create_string_buffer(room)
+        answer = _library.dotenvy_load(file, len(file), block, len(block), options, out, room)
+        _refuse(answer.status)
+        if answer.fits:
+            break
+        room = answer.block_len + answer.text_len
+    written = ctypes.string_at(out, answer.block_len + answer.text_len)
+    left = pairs_of(written[: answer.block_len])
+    return Loaded(answer.status, left, written[answer.block_len :], answer.index)
+
+
+def items(file: bytes, block: bytes, options: int = 0) -> list[Record]:
+    """The items of a file under the environment of a block."""
+    count, room = file.count(b"\n") + 1, 2 * len(file) + 64
+    while True:
+        found, out = (Item * count)(), ctypes.create_string_buffer(room)
+        counts = _library.dotenvy_items(
+            file, len(file), block, len(block), options, found, count, out, room
+        )
+        _refuse(counts.status)
+        if counts.fits:
+            break
+        count, room = counts.items, counts.text_len
+    written = ctypes.string_at(out, counts.text_len)
+    fields = _ITEM.iter_unpack(ctypes.string_at(found, counts.items * _ITEM.size))
+    return [
+        Record(
+            status,
+            written[key_at : key_at + key_len],
+            written[key_at + key_len : key_at + key_len + text_len],
+            *others,
+        )
+        for status, key_at, key_len, text_len, *others in fields
+    ]

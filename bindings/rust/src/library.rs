@@ -1,0 +1,241 @@
+//! The calls of libdotenvy.a, made safe: bytes in, bytes out. bindings/c/dotenvy.h says what each does.
+
+use std::ops::Range;
+
+pub const OK: u32 = 0;
+pub const LINE_PARSE: u32 = 1;
+pub const NOT_UTF8: u32 = 2;
+pub const NUL: u32 = 3;
+pub const NO_MEMORY: u32 = 5;
+
+/// `dotenvy_load`: a name that is there gets the value of the file.
+pub const OVERRIDE: u32 = 1;
+
+#[repr(C)]
+struct Answer {
+    status: u32,
+    fits: bool,
+    index: usize,
+    block_len: usize,
+    text_len: usize,
+}
+
+#[repr(C)]
+#[derive(Clone, Copy, Default)]
+struct Item {
+    status: u32,
+    key_at: usize,
+    key_len: usize,
+    text_len: usize,
+    index: usize,
+    first_line: u64,
+    last_line: u64,
+}
+
+#[repr(C)]
+struct Counts {
+    status: u32,
+    fits: bool,
+    items: usize,
+    text_len: usize,
+}
+
+extern "C" {
+    fn dotenvy_load(
+        file: *const u8,
+        file_len: usize,
+        block: *const u8,
+        block_len: usize,
+        options: u32,
+        out: *mut u8,
+        out_len: usize,
+    ) -> Answer;
+
+    fn dotenvy_items(
+        file: *const u8,
+        file_len: usize,
+        block: *const u8,
+        block_len: usize,
+        options: u32,
+        items: *mut Item,
+        items_len: usize,
+        out: *mut u8,
+        out_len: usize,
+    ) -> Counts;
+}
+
+/// What a load leaves, and the error at which it stopped, if its status is not `OK`.
+pub struct Loaded {
+    pub status: u32,
+    pub index: usize,
+    bytes: Vec<u8>,
+    block_len: usize,
+}
+
+impl Loaded {
+    /// The names and values that the load leaves.
+    pub fn pairs(&self) -> impl Iterator<Item = (&[u8], &[u8])> {
+        let entries = self.bytes[..self.block_len].split(|byte| *byte == 0);
+        entries.filter_map(|entry| {
+            let at = entry.iter().position(|byte| *byte == b'=')?;
+            Some((&entry[..at], &entry[at + 1..]))
+        })
+    }
+
+    /// The text of the error.
+    pub fn text(&self) -> &[u8] {
+        &self.bytes[self.block_len..]
+    }
+}
+
+/// An item of a file: a pair if its status is `OK`, else an error.
+pub struct Record {
+    pub status: u32,
+    pub key: Vec<u8>,
+    pub text: Vec<u8>,
+    pub index: usize,
+}
+
+/// Loads a file over the environment of a block.
+pub fn load(file: &[u8], block: &[u8], options: u32) -> Loaded {
+    let mut out = vec![0; 2 * (file.len() + block.len()) + 64];
+    loop {
+        // SAFETY: each pointer is that of a slice or a vector, with its length, so none is NULL. `out` is a vector of
+        // its own. `Answer` is the struct of the header, as a test compares.
+        let answer = unsafe {
+            dotenvy_load(
+                file.as_ptr(),
+                file.len(),
+                block.as_ptr(),
+                block.len(),
+                options,
+                out.as_mut_ptr(),
+                out.len(),
+            )
+        };
+        let need = answer.block_len + answer.text_len;
+        if answer.status == NO_MEMORY || answer.fits {
+            out.truncate(need);
+            return Loaded {
+                status: answer.status,
+                index: answer.index,
+                bytes: out,
+                block_len: answer.block_len,
+            };
+        }
+        assert!(need > out.len(), "these options are known");
+        out.resize(need, 0);
+    }
+}
+
+/// The items of a file under the environment of a block, or `None` if an allocation failed.
+pub fn items(file: &[u8], block: &[u8], options: u32) -> Option<Vec<Record>> {
+    let mut items = vec![Item::default(); file.iter().filter(|byte| **byte == b'\n').count() + 1];
+    let mut out = vec![0; 2 * file.len() + 64];
+    loop {
+        // SAFETY: as in `load`; `items` is a vector of its own, of the header's struct.
+        let counts = unsafe {
+            dotenvy_items(
+                file.as_ptr(),
+                file.len(),
+                block.as_ptr(),
+                block.len(),
+                options,
+                items.as_mut_ptr(),
+                items.len(),
+                out.as_mut_ptr(),
+                out.len(),
+            )
+        };
+        if counts.status == NO_MEMORY {
+            return None;
+        }
+        if counts.fits {
+            items.truncate(counts.items);
+            return Some(items.iter().map(|item| record(item, &out)).collect());
+        }
+        assert!(
+            counts.items > items.len() || counts.text_len > out.len(),
+            "these options are known"
+        );
+        items.resize(counts.items.max(items.len()), Item::default());
+        out.resize(counts.text_len.max(out.len()), 0);
+    }
+}
+
+fn record(item: &Item, out: &[u8]) -> Record {
+    let text_at = item.key_at + item.key_len;
+    let bytes = |range: Range<usize>| out[range].to_vec();
+    Record {
+        status: item.status,
+        key: bytes(item.key_at..text_at),
+        text: bytes(text_at..text_at + item.text_len),
+        index: item.index,
+    }
+}
+
+#[cfg(test)]
+mod tests {
+    use super::*;
+    use std::mem::{offset_of, size_of};
+
+    // A line of bindings/layout.txt: each field with its offset and its size.
+    macro_rules! layout {
+        ($name:literal, $type:ident: $($field:ident),*) => {{
+            let size_of_field = |at: usize, size: usize, name: &str| format!(" {name}={at}:{size}");
+            let mut line = format!("{} {}", $name, size_of::<$type>());
+            $(line += &size_of_field(offset_of!($type, $field), field_size(|it: &$type| &it.$field), stringify!($field));)*
+            line
+        }};
+    }
+
+    fn field_size<T, F>(_: fn(&T) -> &F) -> usize {
+        size_of::<F>()
+    }
+
+    #[test]
+    fn structs_have_the_layout_of_the_header() {
+        let lines = [
+            layout!("answer", Answer: status, fits, index, block_len, text_len),
+            layout!("item", Item: status, key_at, key_len, text_len, index, first_line, last_line),
+            layout!("counts", Counts: status, fits, items, text_len),
+        ];
+        assert_eq!(lines.join("\n") + "\n", include_str!("../../layout.txt"));
+    }
+
+    #[test]
+    fn a_load_leaves_pairs_and_the_text_of_its_error() {
+        let loaded = load(b"B=$A\nC=x y\n", b"A=9=8\0", 0);
+        let pairs: Vec<_> = loaded.pairs().collect();
+        assert_eq!(pairs, [(&b"A"[..], &b"9=8"[..]), (&b"B"[..], &b"9=8"[..])]);
+        assert_eq!(
+            (loaded.status, loaded.text(), loaded.index),
+            (LINE_PARSE, &b"x y"[..], 2)
+        );
+    }
+
+    #[test]
+    fn room_that_is_too_small_is_made_larger() {
+        let block = [b"LONG=", &[b'x'; 1000][..], b"\0"].concat();
+        let file = b"A=$LONG$LONG$LONG\nB=$A$A\n";
+        let items = items(file, &block, 0).expect("there is memory");
+        assert_eq!(
+            items.iter().map(|item| item.text.len()).collect::<Vec<_>>(),
+            [3000, 6000]
+        );
+        let loaded = load(file, &block, OVERRIDE);
+        assert_eq!(
+            loaded
+                .pairs()
+                .map(|(_, value)| value.len())
+                .collect::<Vec<_>>(),
+            [3000, 6000, 1000]
+        );
+    }
+
+    #[test]
+    fn empty_inputs() {
+        assert_eq!(load(b"", b"", 0).pairs().count(), 0);
+        assert_eq!(items(b"", b"", 0).map(|items| items.len()), Some(0));
+    }
+}

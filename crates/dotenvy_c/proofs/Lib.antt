@@ -1,0 +1,6 @@
+mod Entries
+mod Answering
+mod Telling
+mod ReadBack
+mod SaidItems
+mod SaidLoads

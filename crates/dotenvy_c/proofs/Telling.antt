@@ -1,0 +1,128 @@
+-- The items that were told so far, and those of a whole file.
+use Rattle.std.proofs.Common.{ℕ, suc, ◌≡◌, ◌≤◌, ◌+◌, Bool, List, [], ◌∷◌, ◌++◌, length, refl, sym, subst, ap, ◌∙◌}
+use Rattle.std.proofs.Common.{length-append, append_assoc, append-nil, add_assoc, add-zero, zero-add}
+use Rattle.std.specs.Prelude.{Some, None, IsTrue, ◌↔◌}
+use Rattle.std.specs.declared.alloc.Global.{Global}
+use Rattle.dotenvy.specs.Environment.{Texts}
+use Rattle.dotenvy.specs.Iter.{IterState}
+use Rattle.dotenvy.specs.NextItem.{Item, NextItem}
+use Rattle.dotenvy_c.specs.declared.items.Item as rust
+use Rattle.dotenvy_c.specs.declared.items.Records.{Records}
+use Rattle.dotenvy_c.specs.Block.{block_names}
+use Rattle.dotenvy_c.specs.File.{fresh_file}
+use Rattle.dotenvy_c.specs.Options.{bytes_of, dialect_of}
+use Rattle.dotenvy_c.specs.Room.{written_if}
+use Rattle.dotenvy_c.specs.Items.{AddsItem, AnswersItems, HasRecords, TellsItem, TellsItems, ToldItem}
+use Rattle.dotenvy_c.specs.Items.{record_at, records_from, text_of, texts_of}
+
+-- calls of `next_item` from s on gave these items, and left t
+abbrev pub TellsUpTo : Texts → IterState → List ToldItem → IterState → Type 0
+TellsUpTo names s [] t = s ≡ t
+TellsUpTo names s (told ∷ later) t =
+    (next : IterState) × TellsItem names s told next × TellsUpTo names next later t
+
+-- from s to t some items were taken, and these are their records
+pub record HasTaken (names : Texts) (s t : IterState) (records : Records) : Type 0 where
+  pub told : List ToldItem
+  pub tells : TellsUpTo names s told t
+  pub items : records.items.items ≡ records_from 0 told
+  pub text : records.text.items ≡ texts_of told
+
+-- one item more
+tells_more : (names : Texts) (s t u : IterState) (told : List ToldItem) (more : ToldItem) →
+    TellsUpTo names s told t → TellsItem names t more u → TellsUpTo names s (told ++ more ∷ []) u
+tells_more names s t u [] more before next =
+    (u, subst (λ x. TellsItem names x more u) (sym before) next, refl)
+tells_more names s t u (first ∷ told) more (x, is, before) next =
+    (x, is, tells_more names x t u told more before next)
+
+-- and then none
+tells_all : (names : Texts) (s t u : IterState) (told : List ToldItem) → TellsUpTo names s told t →
+    NextItem {A = Global} names t None u → TellsItems names s told
+tells_all names s t u [] before none = (u, subst (λ x. NextItem {A = Global} names x None u) (sym before) none)
+tells_all names s t u (first ∷ told) (x, is, before) none = (x, is, tells_all names x t u told before none)
+
+-- the records with one more
+records_more : (at : ℕ) (told : List ToldItem) (more : ToldItem) →
+    records_from at (told ++ more ∷ []) ≡ records_from at told ++ record_at (at + length (texts_of told)) more ∷ []
+records_more at [] more = ap (λ n. record_at n more ∷ []) (sym (add-zero at))
+records_more at (first ∷ told) more =
+    ap (λ rs. record_at at first ∷ rs)
+    (records_more (at + length (text_of first)) told more
+    ∙ ap (λ n. records_from (at + length (text_of first)) told ++ record_at n more ∷ [])
+    (sym (ap (λ n. at + n) (length-append (text_of first) (texts_of told))
+    ∙ sym (add_assoc at (length (text_of first)) (length (texts_of told))))))
+
+-- the texts with one more
+texts_more : (told : List ToldItem) (more : ToldItem) →
+    texts_of (told ++ more ∷ []) ≡ texts_of told ++ text_of more
+texts_more [] more = append-nil (text_of more)
+texts_more (first ∷ told) more =
+    ap (λ t. text_of first ++ t) (texts_more told more)
+    ∙ sym (append_assoc (text_of first) (texts_of told) (text_of more))
+
+-- nothing was taken yet
+pub none_taken : (names : Texts) (s : IterState) (records : Records) → records.items.items ≡ [] →
+    records.text.items ≡ [] → HasTaken names s s records
+none_taken names s records no_items no_text = record { told = []; tells = refl; items = no_items; text = no_text }
+
+-- an item was taken, and added
+pub one_taken : {names : Texts} {s t u : IterState} {old new : Records} {item : Item Global} {lines : ℕ × ℕ} →
+    HasTaken names s t old → NextItem names t (Some item) u → u.item_lines ≡ lines →
+    AddsItem item lines old new → HasTaken names s u new
+one_taken {names = names} {s = s} {t = t} {u = u} {old = old} {item = item} {lines = lines} before next on adds =
+    let more : ToldItem = (adds.told, lines) in record {
+      told = before.told ++ more ∷ [];
+      tells =
+          tells_more names s t u before.told more before.tells
+          (record { item = item; next = next; tells = adds.tells; lines = on });
+      items =
+          adds.adds.items
+          ∙ ap (λ rs. rs ++ record_at (length old.text.items) more ∷ []) before.items
+          ∙ ap (λ text. records_from 0 before.told ++ record_at (length text) more ∷ []) before.text
+          ∙ ap (λ n. records_from 0 before.told ++ record_at n more ∷ [])
+          (sym (zero-add (length (texts_of before.told))))
+          ∙ sym (records_more 0 before.told more);
+      text =
+          adds.adds.text ∙ ap (λ text. text ++ text_of more) before.text ∙ sym (texts_more before.told more);
+    }
+
+-- all were taken
+pub all_taken : {names : Texts} {s t u : IterState} {records : Records} → HasTaken names s t records →
+    NextItem {A = Global} names t None u → HasRecords names s records
+all_taken {names = names} {s = s} {t = t} {u = u} before none = record {
+  told = before.told;
+  tells = tells_all names s t u before.told before.tells none;
+  items = before.items;
+  text = before.text;
+}
+
+-- there are as many records as items
+length-records_from : (at : ℕ) (told : List ToldItem) → length (records_from at told) ≡ length told
+length-records_from at [] = refl
+length-records_from at (first ∷ told) = ap suc (length-records_from (at + length (text_of first)) told)
+
+-- records and texts, written where both fit, answer a call for items
+pub answered_items : {options : ℕ} {file block : List ℕ} {records : Records} →
+    HasRecords (block_names block) (fresh_file (bytes_of options file) (dialect_of options)) records →
+    (fits : Bool) (count text_len : ℕ) (old_items new_items : List rust.Item) (old new : List ℕ) →
+    count ≡ length records.items.items → text_len ≡ length records.text.items →
+    (IsTrue fits ↔ ((length records.items.items ≤ length old_items) × (length records.text.items ≤ length old))) →
+    new_items ≡ written_if fits records.items.items old_items → new ≡ written_if fits records.text.items old →
+    AnswersItems options file block
+    (record { status = 0; fits = fits; items = count; text_len = text_len }) old_items new_items old new
+answered_items {records = records} has fits count text_len old_items new_items old new counted measured room items
+    texts =
+    let size = ap length has.items ∙ length-records_from 0 has.told in record {
+      told = has.told;
+      tells = has.tells;
+      status = refl;
+      items = counted ∙ size;
+      text_len = measured ∙ ap length has.text;
+      fits =
+          subst (λ n. IsTrue fits ↔ ((n ≤ length old_items) × (length (texts_of has.told) ≤ length old))) size
+          (subst (λ t. IsTrue fits
+          ↔ ((length records.items.items ≤ length old_items) × (length t ≤ length old))) has.text room);
+      records = items ∙ ap (λ rs. written_if fits rs old_items) has.items;
+      texts = texts ∙ ap (λ t. written_if fits t old) has.text;
+    }

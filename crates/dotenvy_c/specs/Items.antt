@@ -1,0 +1,97 @@
+-- The items of a file, as C is told of them.
+use Rattle.std.specs.Prelude.{ℕ, ◌≡◌, ◌≤◌, ◌+◌, ◌↔◌, false, IsTrue, List, [], ◌∷◌, ◌++◌, length}
+use Rattle.std.specs.Prelude.{Some, None}
+use Rattle.std.specs.List.{flat_map}
+use Rattle.std.specs.declared.alloc.Global.{Global}
+use Rattle.dotenvy.specs.Environment.{Texts}
+use Rattle.dotenvy.specs.Iter.{IterState}
+use Rattle.dotenvy.specs.NextItem.{Item, NextItem}
+use Rattle.dotenvy_c.specs.declared.items.Item as rust
+use Rattle.dotenvy_c.specs.declared.items.Counts.{Counts}
+use Rattle.dotenvy_c.specs.declared.items.Records.{Records}
+use Rattle.dotenvy_c.specs.Block.{block_names}
+use Rattle.dotenvy_c.specs.File.{fresh_file}
+use Rattle.dotenvy_c.specs.Options.{bytes_of, dialect_of}
+use Rattle.dotenvy_c.specs.Room.{written_if}
+use Rattle.dotenvy_c.specs.Told.{Told, item_told}
+
+-- what C is told of an item, and the first and the last physical line that it is on
+abbrev pub ToldItem : Type 0
+ToldItem = Told × (ℕ × ℕ)
+
+-- what C is told of a call of `next_item` from s to t
+pub record TellsItem (names : Texts) (s : IterState) (told : ToldItem) (t : IterState)
+    : Type 0 where
+  pub item : Item Global
+  pub next : NextItem names s (Some item) t
+  pub tells : item_told item ≡ Some told.0
+  pub lines : t.item_lines ≡ told.1
+
+-- calls of `next_item` from s on give these items one after another, and then `None`
+abbrev pub TellsItems : Texts → IterState → List ToldItem → Type 0
+TellsItems names s [] = (t : IterState) × NextItem {A = Global} names s None t
+TellsItems names s (told ∷ later) =
+    (t : IterState) × TellsItem names s told t × TellsItems names t later
+
+-- the key and the text of an item, one after the other
+abbrev pub text_of : ToldItem → List ℕ
+text_of told = told.0.key ++ told.0.text
+
+-- the record of an item whose key begins here
+abbrev pub record_at : ℕ → ToldItem → rust.Item
+record_at at (told, (first, last)) = record {
+  status = told.status;
+  key_at = at;
+  key_len = length told.key;
+  text_len = length told.text;
+  index = told.index;
+  first_line = first;
+  last_line = last;
+}
+
+-- the records of items whose texts begin here
+abbrev pub records_from : ℕ → List ToldItem → List rust.Item
+records_from at [] = []
+records_from at (told ∷ later) = record_at at told ∷ records_from (at + length (text_of told)) later
+
+-- the keys and texts of items
+abbrev pub texts_of : List ToldItem → List ℕ
+texts_of = flat_map text_of
+
+-- the records of the items that are left of s, under these names
+pub record HasRecords (names : Texts) (s : IterState) (records : Records) : Type 0 where
+  pub told : List ToldItem
+  pub tells : TellsItems names s told
+  pub items : records.items.items ≡ records_from 0 told
+  pub text : records.text.items ≡ texts_of told
+
+-- no items were written, for the reason that this status names
+abbrev pub refused_items : ℕ → Counts
+refused_items status = record { status = status; fits = false; items = 0; text_len = 0 }
+
+-- a told item was added to records
+pub record AddsTold (told : ToldItem) (old new : Records) : Type 0 where
+  pub items : new.items.items ≡ old.items.items ++ record_at (length old.text.items) told ∷ []
+  pub text : new.text.items ≡ old.text.items ++ text_of told
+
+-- an item that is on these lines was added to records, as it is told
+pub record AddsItem (item : Item Global) (lines : ℕ × ℕ) (old new : Records) : Type 0 where
+  pub told : Told
+  pub tells : item_told item ≡ Some told
+  pub adds : AddsTold (told, lines) old new
+
+-- the answer to a call for the items of a file under the environment of a block: their records and
+-- their texts stand in the rooms where both fit, and their numbers are told
+pub record AnswersItems (options : ℕ) (file block : List ℕ) (counts : Counts)
+    (old_items new_items : List rust.Item) (old new : List ℕ) : Type 0 where
+  pub told : List ToldItem
+  pub tells :
+      TellsItems (block_names block) (fresh_file (bytes_of options file) (dialect_of options)) told
+  pub status : counts.status ≡ 0
+  pub items : counts.items ≡ length told
+  pub text_len : counts.text_len ≡ length (texts_of told)
+  pub fits :
+      IsTrue counts.fits
+      ↔ ((length told ≤ length old_items) × (length (texts_of told) ≤ length old))
+  pub records : new_items ≡ written_if counts.fits (records_from 0 told) old_items
+  pub texts : new ≡ written_if counts.fits (texts_of told) old

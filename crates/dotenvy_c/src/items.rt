@@ -1,0 +1,194 @@
+//! The items of a file, for C.
+
+ghost use Rattle.std.specs.Prelude.{◌≡◌, ◌≤◌, ◌+◌, ◌⊎◌, ◌↔◌, true, false, IfOk, IfErr, IsTrue, OnOk, length};
+ghost use Rattle.dotenvy.specs.Errors.{IsMemory};
+ghost use Rattle.dotenvy_c.specs.Block.{block_names};
+ghost use Rattle.dotenvy_c.specs.File.{fresh_file};
+ghost use Rattle.dotenvy_c.specs.Items.{AddsItem, AddsTold, AnswersItems, HasRecords, refused_items};
+ghost use Rattle.dotenvy_c.specs.Options.{are_among, bytes_of, dialect_of};
+ghost use Rattle.dotenvy_c.specs.Room.{written_if};
+ghost use Rattle.dotenvy_c.specs.Told.{told_of};
+
+use crate::block::environment_of;
+use crate::options::{DROP_MARK, NEXT_DIALECT, are_among, dialect_of, has_option};
+use crate::room::write_front;
+use crate::status::{BAD_OPTION, DONE, NO_MEMORY, Told, item_told};
+use dotenvy::{Bytes, Environment, Error, Iter, Result};
+use std::alloc::{AllocError, Global};
+
+const BYTE_ORDER_MARK: [u8; 3] = [0xef, 0xbb, 0xbf];
+
+/// An item of a file: a pair, or an error in its place. Its key and its text are in the room for texts, one after the
+/// other.
+#[repr(C)]
+#[derive(Clone, Copy, Drop)]
+pub struct Item {
+    /// 0 for a pair, or which error.
+    pub status: u32,
+    /// Where the key begins in the room for texts; the text begins after it.
+    pub key_at: usize,
+    /// How many bytes the key takes: none for an error.
+    pub key_len: usize,
+    /// How many bytes the text takes: the value of a pair, or the text of an error.
+    pub text_len: usize,
+    /// The place in the text of a wrong line.
+    pub index: usize,
+    /// The physical line on which the item begins, counted from 1; 0 for one that is on no line.
+    pub first_line: u64,
+    /// The physical line on which the item ends.
+    pub last_line: u64,
+}
+
+/// How many items a file has, and how much room they take.
+#[repr(C)]
+#[derive(Drop)]
+pub struct Counts {
+    /// 0, or why there are no items.
+    pub status: u32,
+    /// Whether the items and their texts were written.
+    pub fits: bool,
+    /// How many items there are.
+    pub items: usize,
+    /// How many bytes their keys and texts take together.
+    pub text_len: usize,
+}
+
+// The records of items, and their keys and texts one after the other.
+#[derive(Drop)]
+struct Records {
+    items: Vec<Item>,
+    text: Vec<u8>,
+}
+
+// Nothing was written, for this reason.
+fn refused_items(status: u32) -> Counts
+    ensures { result ≡ refused_items status }
+{
+    Counts {
+        status,
+        fits: false,
+        items: 0,
+        text_len: 0,
+    }
+}
+
+// Adds the record of an item. The error is `Memory`.
+fn add_told(records: &mut Records, told: Told<'_>, lines: (u64, u64)) -> Result<()>
+    ensures ok { OnOk result (AddsTold (told_of told.entry, lines) records.old records.new) }
+    ensures memory { IfErr result IsMemory }
+{
+    records.items.push(Item {
+        status: told.status,
+        key_at: records.text.len(),
+        key_len: told.key.len(),
+        text_len: told.text.len(),
+        index: told.index,
+        first_line: lines.0,
+        last_line: lines.1,
+    })?;
+    records.text.extend_from_slice(told.key)?;
+    records.text.extend_from_slice(told.text)?;
+    Ok(())
+}
+
+// Adds the record of an item that is on these lines, unless it is refused memory. The error is `Memory`.
+fn add_item(records: &mut Records, item: Result<(String, String)>, lines: (u64, u64)) -> Result<()>
+    ensures ok { OnOk result (AddsItem item lines records.old records.new) }
+    ensures memory { IfErr result IsMemory }
+{
+    match item_told(&item) {
+        Some(told) => add_told(records, told, lines),
+        None => Err(Error::Memory(AllocError)),
+    }
+}
+
+// The bytes whose items are asked for.
+fn bytes_of(file: &[u8], options: u32) -> &[u8]
+    ensures { result.now ≡ bytes_of options file.now }
+{
+    if has_option(options, DROP_MARK) && file.starts_with(&BYTE_ORDER_MARK) {
+        &file[BYTE_ORDER_MARK.len()..]
+    } else {
+        file
+    }
+}
+
+// The records of all items that a file has left. The error is `Memory`.
+fn records_of(
+    alloc: Global,
+    mut file: Iter<Bytes<'_>>,
+    environment: &Environment,
+) -> Result<Records>
+    ensures ok { IfOk result (HasRecords environment.now.names file.entry) }
+    ensures memory { IfErr result IsMemory }
+{
+    let mut records = Records {
+        items: Vec::new(alloc),
+        text: Vec::new(alloc),
+    };
+    'items: while let Some(item) = file.next_item(environment) {
+        add_item(&mut records, item, (file.first_line(), file.last_line()))?;
+    }
+    Ok(records)
+}
+
+// The records of all items of a file under the environment of a block. The error is `Memory`.
+fn records_over(alloc: Global, file: &[u8], block: &[u8], options: u32) -> Result<Records>
+    ensures ok { IfOk result (HasRecords (block_names block.now)
+        (fresh_file (bytes_of options file.now) (dialect_of options))) }
+    ensures memory { IfErr result IsMemory }
+{
+    let environment = environment_of(alloc, block)?;
+    let bytes = Bytes::new(bytes_of(file, options));
+    let file = Iter::with_dialect(alloc, bytes, dialect_of(options))?;
+    records_of(alloc, file, &environment)
+}
+
+// Writes records and texts to the fronts of their rooms, where both have place for them, and tells whether they have.
+fn write_if_both_fit(records: &Records, items: &mut [Item], out: &mut [u8]) -> bool
+    ensures fits { IsTrue result ↔ ((length records.now.items.items ≤ length items.old)
+        × (length records.now.text.items ≤ length out.old)) }
+    ensures items { items.new ≡ written_if result records.now.items.items items.old }
+    ensures texts { out.new ≡ written_if result records.now.text.items out.old }
+{
+    let fits = records.items.len() <= items.len() && records.text.len() <= out.len();
+    if fits {
+        write_front(items, records.items.as_slice());
+        write_front(out, records.text.as_slice());
+    }
+    fits
+}
+
+/// Writes the items of a file under the environment of a block: its pairs and its errors, in order. A name that a value
+/// mentions means its value in the block, else the last one declared before it (docs/GRAMMAR.md, "What a name means").
+///
+/// Where `items` has no room for all of them, or `out` none for their keys and texts, nothing is written, and the
+/// counts tell how much room they take.
+#[unsafe(no_mangle)]
+pub extern "C" fn dotenvy_items(
+    alloc: Global,
+    file: &[u8],
+    block: &[u8],
+    options: u32,
+    items: &mut [Item],
+    out: &mut [u8],
+) -> Counts
+    ensures option { are_among options (NEXT_DIALECT + DROP_MARK) ≡ false →
+        (result ≡ refused_items BAD_OPTION) × (items.new ≡ items.old) × (out.new ≡ out.old) }
+    ensures items { are_among options (NEXT_DIALECT + DROP_MARK) ≡ true →
+        AnswersItems options file.now block.now result items.old items.new out.old out.new
+        ⊎ ((result ≡ refused_items NO_MEMORY) × (items.new ≡ items.old) × (out.new ≡ out.old)) }
+{
+    if !are_among(options, NEXT_DIALECT + DROP_MARK) {
+        return refused_items(BAD_OPTION);
+    }
+    let Ok(records) = records_over(alloc, file, block, options) else {
+        return refused_items(NO_MEMORY);
+    };
+    Counts {
+        status: DONE,
+        fits: write_if_both_fit(&records, items, out),
+        items: records.items.len(),
+        text_len: records.text.len(),
+    }
+}

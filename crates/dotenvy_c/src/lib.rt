@@ -1,0 +1,13 @@
+//! Environment files for C, and for every language that calls C: bytes in, bytes out, nothing kept between two calls.
+//!
+//! `bindings/c/dotenvy.h` declares these calls, and says what their callers have to guarantee.
+#![tactic(auto)]
+
+pub mod block;
+pub mod calls;
+pub mod items;
+pub mod laws;
+pub mod load;
+pub mod options;
+pub mod room;
+pub mod status;

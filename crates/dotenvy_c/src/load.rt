@@ -1,0 +1,136 @@
+//! The two loads, for C.
+
+ghost use Rattle.std.specs.Prelude.{◌≡◌, ◌≤◌, ◌+◌, ◌⊎◌, ◌↔◌, IsTrue, IfOk, IfErr, true, false, length};
+ghost use Rattle.dotenvy.specs.Errors.{IsMemory};
+ghost use Rattle.dotenvy.specs.Iter.{IsOpen};
+ghost use Rattle.dotenvy.specs.LoadsRest.{ChangesKeys, LoadsRest};
+ghost use Rattle.dotenvy_c.specs.Options.{are_among, dialect_of, rule_of};
+ghost use Rattle.dotenvy_c.specs.Load.{AnswersLoad, IsLoaded, refusal};
+ghost use Rattle.dotenvy_c.specs.Room.{written_if};
+
+use crate::block::{block_of, environment_of};
+use crate::options::{NEXT_DIALECT, OVERRIDE, are_among, dialect_of, has_option};
+use crate::room::write_front;
+use crate::status::{BAD_OPTION, NO_MEMORY, outcome_told};
+use dotenvy::{Bytes, Environment, Error, Iter, Result};
+use std::alloc::{AllocError, Global};
+
+/// What a load tells C.
+#[repr(C)]
+#[derive(Drop)]
+pub struct Answer {
+    /// 0, or which error.
+    pub status: u32,
+    /// Whether the block and the text were written.
+    pub fits: bool,
+    /// The place in the text of a wrong line.
+    pub index: usize,
+    /// How many bytes the block takes.
+    pub block_len: usize,
+    /// How many bytes the text of the error takes, after the block.
+    pub text_len: usize,
+}
+
+// What is to be written of a load: the bytes of its block and of the text of its error, and how long each is.
+#[derive(Drop)]
+struct Loaded {
+    bytes: Vec<u8>,
+    block_len: usize,
+    text_len: usize,
+    status: u32,
+    index: usize,
+}
+
+// Nothing was written, for this reason.
+fn refusal(status: u32) -> Answer
+    ensures { result ≡ refusal status }
+{
+    Answer {
+        status,
+        fits: false,
+        index: 0,
+        block_len: 0,
+        text_len: 0,
+    }
+}
+
+// Writes bytes to the front of the room, where it has place for them, and tells whether it has.
+fn write_if_fits(out: &mut [u8], bytes: &[u8]) -> bool
+    ensures fits { IsTrue result ↔ (length bytes.now ≤ length out.old) }
+    ensures written { out.new ≡ written_if result bytes.now out.old }
+{
+    let fits = bytes.len() <= out.len();
+    if fits {
+        write_front(out, bytes);
+    }
+    fits
+}
+
+// Loads what is left of a file by the rule that is asked for.
+fn load_file(file: Iter<Bytes<'_>>, options: u32, environment: &mut Environment) -> Result<()>
+    ensures loads { IsOpen file.entry →
+        LoadsRest (rule_of options) file.entry environment.old.names result environment.new.names }
+    ensures keys { ChangesKeys environment.old.names environment.new.names }
+{
+    if has_option(options, OVERRIDE) {
+        file.load_override(environment)
+    } else {
+        file.load(environment)
+    }
+}
+
+// Loads a file over the environment of a block. The error is `Memory`.
+fn load_over(alloc: Global, file: &[u8], block: &[u8], options: u32) -> Result<Loaded>
+    ensures ok { IfOk result (IsLoaded options file.now block.now) }
+    ensures memory { IfErr result IsMemory }
+{
+    let mut environment = environment_of(alloc, block)?;
+    let file = Iter::with_dialect(alloc, Bytes::new(file), dialect_of(options))?;
+    let outcome = load_file(file, options, &mut environment);
+    let Some(told) = outcome_told(&outcome) else {
+        return Err(Error::Memory(AllocError));
+    };
+    let mut bytes = block_of(alloc, &environment)?;
+    let block_len = bytes.len();
+    bytes.extend_from_slice(told.text)?;
+    Ok(Loaded {
+        bytes,
+        block_len,
+        text_len: told.text.len(),
+        status: told.status,
+        index: told.index,
+    })
+}
+
+/// Loads a file over the environment of a block, and writes the new block, and after it the text of the error, to
+/// `out`. docs/GRAMMAR.md, "Loading", says what a load does; it stops at the first error, and what is before it counts.
+///
+/// Where `out` has no room for both, nothing is written, and the answer tells how long both are.
+#[unsafe(no_mangle)]
+pub extern "C" fn dotenvy_load(
+    alloc: Global,
+    file: &[u8],
+    block: &[u8],
+    options: u32,
+    out: &mut [u8],
+) -> Answer
+    ensures option { are_among options (OVERRIDE + NEXT_DIALECT) ≡ false →
+        (result ≡ refusal BAD_OPTION) × (out.new ≡ out.old) }
+    ensures loads { are_among options (OVERRIDE + NEXT_DIALECT) ≡ true →
+        AnswersLoad options file.now block.now result out.old out.new
+        ⊎ ((result ≡ refusal NO_MEMORY) × (out.new ≡ out.old)) }
+{
+    if !are_among(options, OVERRIDE + NEXT_DIALECT) {
+        return refusal(BAD_OPTION);
+    }
+    let Ok(loaded) = load_over(alloc, file, block, options) else {
+        return refusal(NO_MEMORY);
+    };
+    Answer {
+        status: loaded.status,
+        fits: write_if_fits(out, loaded.bytes.as_slice()),
+        index: loaded.index,
+        block_len: loaded.block_len,
+        text_len: loaded.text_len,
+    }
+}
