@@ -1,5 +1,6 @@
 #!/usr/bin/env python3
-"""Runs the examples of bindings/README.md as they stand, and compares what they print with the text after each.
+"""Runs the examples of bindings/README.md as they stand, and compares what they print with the text after each. Runs the
+Python of the README at the top, too, beside a `service.env`; it prints nothing.
 
 Where cc or cargo isn't there, the example that needs it is left out, and this says so. The last line is
 `N passed, M failed`.
@@ -14,6 +15,7 @@ from pathlib import Path
 
 HERE = Path(__file__).resolve().parent
 EXAMPLE = re.compile(r"```(c|python|rust)\n(.*?)```\n.*?```text\n(.*?)```", re.DOTALL)
+SILENT = re.compile(r"```python\n(.*?)```", re.DOTALL)
 MANIFEST = """[package]
 name = "example"
 version = "0.1.0"
@@ -50,6 +52,7 @@ LANGUAGES = {"c": (c, ["cc"]), "python": (python, []), "rust": (rust, ["cargo", 
 def printed(language, code):
     """What an example prints, in a folder of its own with no `.env` in it."""
     with tempfile.TemporaryDirectory() as folder:
+        Path(folder, "service.env").write_text("A=1\n")
         command = LANGUAGES[language][0](code, Path(folder))
         environment = {**os.environ, "PYTHONPATH": str(HERE / "python")}
         environment.pop("HOST", None)
@@ -60,6 +63,7 @@ def printed(language, code):
 def main():
     passed = failed = 0
     examples = EXAMPLE.findall((HERE / "README.md").read_text())
+    examples += [("python", code, "") for code in SILENT.findall((HERE.parent / "README.md").read_text())]
     for language, code, wanted in examples:
         if not all(shutil.which(tool) for tool in LANGUAGES[language][1]):
             print(f"left out: the example in {language}, whose tools aren't there", file=sys.stderr)
@@ -70,9 +74,9 @@ def main():
         else:
             failed += 1
             print(f"FAILED: the example in {language} prints\n{found}", file=sys.stderr)
-    if len(examples) != len(LANGUAGES):
+    if len(examples) != len(LANGUAGES) + 1:
         failed += 1
-        print(f"FAILED: README.md has {len(examples)} examples", file=sys.stderr)
+        print(f"FAILED: the two READMEs have {len(examples)} examples", file=sys.stderr)
     print(f"{passed} passed, {failed} failed")
     return failed != 0
 
