@@ -19,6 +19,28 @@ use std::io::ErrorKind;
 use std::path::{Path, PathBuf};
 use std::{env, fs, io};
 
+/// Searches for the file of a name in the current directory and in those above it. Links are followed.
+///
+/// Returns the path that was found, which also names the file in messages; nothing is opened (docs/GRAMMAR.md, "Finding
+/// the file"). The errors are those of [`from_filename`](crate::from_filename) that come before the file is opened.
+///
+/// ```
+/// let path = find_filename(&rt, Path::new(".env"))?; // for example `/srv/app/.env`
+/// ```
+pub fn find_filename<A: Allocator + Clone, R: Files + Env + Alloc<A = A>>(
+    rt: &R,
+    filename: Path<'_>,
+) -> Result<PathBuf<A>, A>
+    ensures path { IfOk result (λ path.
+        IsPathOf (path_bytes filename.entry) (path_buf_bytes path)) }
+    ensures fault { IfErr result IsFileFault }
+{
+    match search_from_current(rt, filename) {
+        Ok(path) => Ok(path),
+        Err(error) => Err(or_memory(error)),
+    }
+}
+
 /// Searches for the file of a name in the current directory and in those above it, and opens it. Links are followed.
 ///
 /// Returns the path that was found, and a fresh iterator over the file, in this dialect; nothing is read yet, and nothing
@@ -55,13 +77,25 @@ fn search_and_open<A: Allocator + Clone, R: Files + Env + Alloc<A = A>>(
     ensures file { IfOk result (λ found. found.1 ≡ fresh nothing_told dialect) }
     ensures fault { IfErr result IsSystemFault }
 {
-    let directory = env::current_dir(rt)?;
-    let path = search_up(rt, directory.as_path(), filename)?;
+    let path = search_from_current(rt, filename)?;
     let file = open(rt, path.as_path())?;
     Ok((path, Iter::with_dialect(rt.alloc(), file, dialect)?))
 }
 
-// The path of the file of this name in the current directory or above it. Its own text says where nothing was found.
+// As `find_filename`, but a fault of a system that had no memory is left as it is.
+fn search_from_current<A: Allocator + Clone, R: Files + Env + Alloc<A = A>>(
+    rt: &R,
+    filename: Path<'_>,
+) -> Result<PathBuf<A>, A>
+    ensures path { IfOk result (λ path.
+        IsPathOf (path_bytes filename.entry) (path_buf_bytes path)) }
+    ensures fault { IfErr result IsSystemFault }
+{
+    let directory = env::current_dir(rt)?;
+    search_up(rt, directory.as_path(), filename)
+}
+
+// The path of the file of this name in this directory or above it. Its own text says where nothing was found.
 fn search_up<A: Allocator + Clone, R: Files + Alloc<A = A>>(
     rt: &R,
     directory: Path<'_>,

@@ -19,7 +19,7 @@ pub use files::{
     dotenv, dotenv_iter, dotenv_override, from_filename, from_filename_iter,
     from_filename_override, from_filename_with, from_path, from_path_iter, from_path_override,
 };
-pub use find::open_filename;
+pub use find::{find_filename, open_filename};
 pub use first_use::{var, vars};
 
 /// Environments: names with their values.

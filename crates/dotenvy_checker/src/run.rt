@@ -8,7 +8,7 @@ use crate::check::{Found, check};
 use crate::failure::{Failure, Stop};
 use crate::report::unread_line;
 use crate::words::{Words, read_words};
-use dotenvy::{Dialect, Environment, Error, Iter, Plain, Sink, Source, open_filename};
+use dotenvy::{Dialect, Environment, Error, Iter, Plain, Sink, Source, find_filename};
 use dotenvy_base::errors::or_memory;
 use dotenvy_base::output::{MOST_WRITES, write_all};
 use std::alloc::{Alloc, AllocError, Allocator};
@@ -50,7 +50,7 @@ pub fn run<A: Allocator + Clone, R: Files + Env + Alloc<A = A>, W: Sink>(
         files.check_default(rt, words.dialect)?;
     }
     'files: for name in &words.files {
-        let opened = open(rt, name.as_str(), words.dialect);
+        let opened = open(rt, Path::new(name.as_str()), words.dialect);
         files.check(name.as_str(), opened)?;
     }
     Ok(u8::from(files.found.is_bad(words.strict)))
@@ -67,13 +67,13 @@ fn process_environment<A: Allocator + Clone, R: Env + Alloc<A = A>>(
     }
 }
 
-// Opens a file as it is named.
+// Opens the file at a path.
 fn open<A: Allocator + Clone, R: Files + Alloc<A = A>>(
     rt: &R,
-    name: &str,
+    path: Path<'_>,
     dialect: Dialect,
 ) -> dotenvy::Result<Iter<Plain<R::File>, A>, A> {
-    match File::open(rt, Path::new(name)) {
+    match File::open(rt, path) {
         Ok(file) => Iter::with_dialect(rt.alloc(), Plain::new(file), dialect),
         Err(fault) => Err(or_memory(Error::Io(fault))),
     }
@@ -97,13 +97,13 @@ impl<'a, A: Allocator + Clone, W: Sink> CheckedFiles<'a, A, W> {
     ) -> Result<(), Failure<A>>
         ensures { IfErr result (λ failure. ¬ (IsOfWords failure)) }
     {
-        match open_filename(rt, Path::new(".env"), dialect) {
-            Ok((path, file)) => {
-                let name = format!(in rt.alloc(); "{}", path.display())?;
-                self.check(name.as_str(), Ok(file))
-            }
-            Err(error) => self.say_unread(".env", &error),
-        }
+        let path = match find_filename(rt, Path::new(".env")) {
+            Ok(path) => path,
+            Err(error) => return self.say_unread(".env", &error),
+        };
+        let name = format!(in rt.alloc(); "{}", path.display())?;
+        let opened = open(rt, path.as_path(), dialect);
+        self.check(name.as_str(), opened)
     }
 
     // Checks a file, if it could be opened.

@@ -28,6 +28,7 @@ enum Finding {
     FromFilenameWith(Dialect),
     AddFile(Dialect),
     AddFileWith(Dialect, Mode),
+    FindFilename,
     /// The opened file is loaded.
     OpenFilename(Dialect),
     Dotenv,
@@ -79,6 +80,7 @@ fn form_named(name: &str) -> Option<Form> {
         "add_file_keep" => Form::Find(Finding::AddFileWith(Dialect::V15, Mode::Keep)),
         "add_file_override" => Form::Find(Finding::AddFileWith(Dialect::V15, Mode::Override)),
         "add_file_override_next" => Form::Find(Finding::AddFileWith(Dialect::Next, Mode::Override)),
+        "find_filename" => Form::Find(Finding::FindFilename),
         "open_filename_v15" => Form::Find(Finding::OpenFilename(Dialect::V15)),
         "open_filename_next" => Form::Find(Finding::OpenFilename(Dialect::Next)),
         "dotenv" => Form::Find(Finding::Dotenv),
@@ -189,6 +191,7 @@ impl<'a> Call<'a> {
                 *environment = layers.into_environment();
                 answer
             }
+            Finding::FindFilename => dotenvy::find_filename(rt, name),
             Finding::OpenFilename(dialect) => {
                 let (path, mut file) = dotenvy::open_filename(rt, name, dialect)?;
                 file.load_rest(environment)?;
