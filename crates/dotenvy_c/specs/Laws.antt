@@ -26,7 +26,8 @@ ItemsAreTold =
     TellsItems names (fresh_file file dialect) told →
     SayTold told (items (values_of names) entries)
 
--- of a file of fewer than 2^32 bytes a load leaves what its specification says, and its result is told
+-- of a file of fewer than 2^32 bytes a load leaves what its specification says, and its result is
+-- told
 abbrev pub LoadsAreTold : Type 0
 LoadsAreTold =
     (options : ℕ) (file block : List ℕ) (names : Texts) (entries : List Entry) (told : Told) →

@@ -1,5 +1,6 @@
 -- How far the lines of a file were read, each line that is taken, and how reading ends.
-use Rattle.std.proofs.Common.{◌≡◌, ◌≢◌, ℕ, ◌+◌, ◌-◌, ◌<◌, ◌≤◌, ◌^◌, ◌⊎◌, inl, inr, List, [], ◌∷◌, ◌++◌, length, drop, map, Bool, true, false}
+use Rattle.std.proofs.Common.{◌≡◌, ◌≢◌, ℕ, ◌+◌, ◌-◌, ◌<◌, ◌≤◌, ◌^◌, ◌⊎◌, inl, inr, List, [], ◌∷◌, ◌++◌, length, drop}
+use Rattle.std.proofs.Common.{map, Bool, true, false}
 use Rattle.std.proofs.Common.{Option, Some, None, Result, Ok, Err, refl, sym, ◌∙◌, ap, subst, arith, append_assoc}
 use Rattle.std.proofs.Common.{length-append, nat_lt}
 use Rattle.std.proofs.lemmas.Bool.{ltb-true, ltb-false}
@@ -25,7 +26,8 @@ use Rattle.dotenvy_format.proofs.statements.Outcomes.{one_outcome}
 use Rattle.dotenvy_lines.specs.declared.lines.Stage.TheVariants.{Open, Ended, Failed}
 use Rattle.dotenvy_lines.specs.Input.{InputState, IsTold, Moves, IsFinal, DropsMark, begins_mark, end_reads}
 use Rattle.dotenvy_lines.specs.Lines.{LinesState, whole_lines, IsAtEnd, Counts, GoesOn, FailsFor}
-use Rattle.dotenvy_lines.specs.inside.NextLine.{lines_so_far, TakesNext, CountsLine, IsNextAlways, IsUndecided, AdvanceIs}
+use Rattle.dotenvy_lines.specs.inside.NextLine.{lines_so_far, TakesNext, CountsLine, IsNextAlways, IsUndecided}
+use Rattle.dotenvy_lines.specs.inside.NextLine.{AdvanceIs}
 use Rattle.dotenvy_lines.proofs.Inputs.{ahead_of, the_bytes, the_fault, moves_on, final_before}
 use Rattle.dotenvy_lines.proofs.LineEntries.{no_lines, decided-next, decided-none}
 use Rattle.dotenvy_lines.proofs.DroppedMarks.{marked, mark_decides}
@@ -85,7 +87,8 @@ unnumbered-more numbered number front =
     own [] = refl
     own (e ∷ es) = ap (λ l. e ∷ l) (own es)
 
--- the bytes used and a first part of what is left: their complete lines begin with these lines, and decide their entries
+-- the bytes used and a first part of what is left: their complete lines begin with these lines, and decide their
+-- entries
 pub record Decides (dialect : Dialect) (number : ℕ) (lines : List Logical) (count : ℕ) (numbered : List (ℕ × Entry))
     (used more : List ℕ) : Type 0 where
   pub are : AreNumbered dialect number (lines_so_far (without_mark (used ++ more))) count lines numbered

@@ -1,5 +1,6 @@
 -- What the code returns for words, and how a run ends.
-use Rattle.std.specs.Prelude.{ℕ, ◌≡◌, ◌++◌, List, map, find, Option, Some, None, Result, Ok, Err, codes, string_bytes}
+use Rattle.std.specs.Prelude.{ℕ, ◌≡◌, ◌++◌, List, map, find, Option, Some, None, Result, Ok, Err}
+use Rattle.std.specs.Prelude.{codes, string_bytes}
 use Rattle.std.specs.Option.{option_map}
 use Rattle.std.specs.declared.string.String.{String}
 use Rattle.dotenvy_base.specs.Errors.{error_text}
@@ -17,7 +18,8 @@ abbrev pub asked_by : {A : Type 0} → Words A → Asked
 asked_by words =
     record { dialect = words.dialect; strict = words.strict; files = texts words.files.items }
 
--- the result is what these words ask for, or the first of them that is unknown, unless an allocation failed
+-- the result is what these words ask for, or the first of them that is unknown, unless an
+-- allocation failed
 abbrev pub AnswersWords : {A : Type 0} → List (List ℕ) → Result (Words A) (Failure A) → Type 0
 AnswersWords words (Ok read) = (find is_unknown words ≡ None) × (asked_by read ≡ asked_of words)
 AnswersWords words (Err (UnknownOption word)) = find is_unknown words ≡ Some (string_bytes word)

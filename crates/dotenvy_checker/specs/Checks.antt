@@ -1,5 +1,6 @@
 -- What a check of a file writes and returns.
-use Rattle.std.specs.Prelude.{ℕ, ◌≡◌, ◌+◌, ◌<◌, ◌^◌, not, List, length, is_some, map, Option, Some, None}
+use Rattle.std.specs.Prelude.{ℕ, ◌≡◌, ◌+◌, ◌<◌, ◌^◌, not, List, length, is_some, map, Option, Some}
+use Rattle.std.specs.Prelude.{None}
 use Rattle.std.specs.Prelude.{Result, Ok, Err}
 use Rattle.std.specs.List.{list_any}
 use Rattle.dotenvy_base.specs.Environment.{Texts}
@@ -30,7 +31,8 @@ names_in texts name = is_some (values_of texts name)
 abbrev pub FewLines : LinesState → Ahead → Type 0
 FewLines s a = s.lines_taken + length (whole_lines (unmarked a)) < 2 ^ 64
 
--- what of a is read from s on, without a byte order mark: all of its entries, or those that are decided before this fault
+-- what of a is read from s on, without a byte order mark: all of its entries, or those that are
+-- decided before this fault
 abbrev pub ReadsEntries : {A : Type 0} → Dialect → LinesState → Ahead → Option (Error A) →
     List (ℕ × Entry) → Type 0
 ReadsEntries dialect s a None numbered =
@@ -47,7 +49,8 @@ found_in found = record {
   warnings = list_any (λ finding. not (is_fault finding)) (unnumbered found);
 }
 
--- the report of the entries that are read of a is sent to a sink, and the result is: what is found in all of them; the fault of reading; or that of writing
+-- the report of the entries that are read of a is sent to a sink, and the result is: what is found
+-- in all of them; the fault of reading; or that of writing
 abbrev pub Reports : {A W : Type 0} → (W → SinkTold) → List ℕ → Names → IterState → Ahead → W →
     Result Found (Stop A) → W → Type 0
 Reports {A = A} told file env s a old (Ok found) new =

@@ -1,12 +1,14 @@
 -- What is found in a file: its faults, and what looks like a mistake.
-use Rattle.std.specs.Prelude.{ℕ, Bool, true, false, not, ◌||◌, List, [], ◌∷◌, ◌++◌, bytes_eq, if◌then◌else◌}
+use Rattle.std.specs.Prelude.{ℕ, Bool, true, false, not, ◌||◌, List, [], ◌∷◌, ◌++◌, bytes_eq}
+use Rattle.std.specs.Prelude.{if◌then◌else◌}
 use Rattle.std.specs.List.{flat_map}
 use Rattle.dotenvy_format.specs.Characters.{underscore, begins_with}
 use Rattle.dotenvy_format.specs.Value.{Piece, Text, Name, LastBackslash as lone_backslash}
 use Rattle.dotenvy_format.specs.Entries.{Failure, Entry, Declares, Fails}
 use Rattle.dotenvy_checker.specs.Numbered.{at_line}
 
--- a finding: a fault; or a warning of a name without a value, of one that `_` ends, of a last backslash, or of a second declaration
+-- a finding: a fault; or a warning of a name without a value, of one that `_` ends, of a last
+-- backslash, or of a second declaration
 pub data Finding : Type 0 where
   Wrong : Failure → Finding
   NoValue : List ℕ → Finding

@@ -20,13 +20,15 @@ IsOkOrNul (Err Memory) = ⊥
 abbrev pub HasNoFault : Names → List (ℕ × Entry) → Type 0
 HasNoFault env numbered = list_any is_fault (unnumbered (findings env numbered)) ≡ false
 
--- a load of these entries by this rule into an empty environment returns Ok only if no fault is found; and if none is found, it returns Ok, or stops at a NUL
+-- a load of these entries by this rule into an empty environment returns Ok only if no fault is
+-- found; and if none is found, it returns Ok, or stops at a NUL
 abbrev pub LoadsIfNoFault : Rule → Names → List (ℕ × Entry) → Type 0
 LoadsIfNoFault rule env numbered =
     ((rule no_values no_values (unnumbered numbered)).answer ≡ Ok tt → HasNoFault env numbered)
     × (HasNoFault env numbered → IsOkOrNul (rule no_values no_values (unnumbered numbered)).answer)
 
--- where no value has a NUL, no fault is found exactly where both loads into an empty environment return Ok
+-- where no value has a NUL, no fault is found exactly where both loads into an empty environment
+-- return Ok
 abbrev pub FaultsStopLoads : Type 0
 FaultsStopLoads =
     (env : Names) (numbered : List (ℕ × Entry)) →

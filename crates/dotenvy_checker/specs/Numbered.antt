@@ -14,7 +14,8 @@ at_line number xs = map (λ x. (number, x)) xs
 abbrev pub unnumbered : {T : Type 0} → List (ℕ × T) → List T
 unnumbered numbered = map (λ p. p.1) numbered
 
--- the first `count` of these physical lines, numbered from here on, are these logical lines, and have these entries
+-- the first `count` of these physical lines, numbered from here on, are these logical lines, and
+-- have these entries
 abbrev pub AreNumbered : Dialect → ℕ → List (Option (List ℕ)) → ℕ → List Logical →
     List (ℕ × Entry) → Type 0
 AreNumbered dialect number physical count [] numbered = (count ≡ 0) × (numbered ≡ [])
@@ -32,7 +33,8 @@ pub record HasNumbered (dialect : Dialect) (number : ℕ) (bytes : List ℕ)
   pub are : AreNumbered dialect number (line_texts bytes) count lines numbered
   pub all : drop count (line_texts bytes) ≡ []
 
--- whatever follows the bytes, their complete lines have these entries, which are all that the bytes decide
+-- whatever follows the bytes, their complete lines have these entries, which are all that the bytes
+-- decide
 pub record DecidesNumbered (dialect : Dialect) (number : ℕ) (bytes : List ℕ)
     (numbered : List (ℕ × Entry)) : Type 0 where
   pub lines : List Logical

@@ -7,7 +7,8 @@ use Rattle.std.specs.Fmt.{decimal}
 use Rattle.dotenvy_base.specs.Errors.{line_parse_text}
 use Rattle.dotenvy_format.specs.Characters.{line_feed}
 use Rattle.dotenvy_format.specs.Entries.{Failure, LineParse, Io, Nul, Memory}
-use Rattle.dotenvy_checker.specs.Findings.{Finding, Wrong, NoValue, EndsAtUnderscore, LastBackslash, DeclaredTwice}
+use Rattle.dotenvy_checker.specs.Findings.{Finding, Wrong, NoValue, EndsAtUnderscore, LastBackslash}
+use Rattle.dotenvy_checker.specs.Findings.{DeclaredTwice}
 
 -- a character as it is shown: a control character as its escape
 abbrev pub shown_character : ℕ → List ℕ

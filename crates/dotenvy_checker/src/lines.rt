@@ -1,6 +1,7 @@
 //! Reads the lines of a file, and reports what is found on each.
 
-ghost use Rattle.std.specs.Prelude.{◌≡◌, ◌≢◌, ◌⊎◌, ℕ, [], ◌∷◌, Err, None, Ok, IfErr, IfOk, List, OnOk, IsTrue, string_bytes};
+ghost use Rattle.std.specs.Prelude.{◌≡◌, ◌≢◌, ◌⊎◌, ℕ, [], ◌∷◌, Err, None, Ok, IfErr, IfOk, List, OnOk, IsTrue};
+ghost use Rattle.std.specs.Prelude.{string_bytes};
 ghost use Rattle.std.specs.List.{flat_map};
 ghost use Rattle.std.specs.Str.{chars};
 ghost use Rattle.dotenvy_base.specs.Environment.{name_ok};
@@ -20,7 +21,8 @@ ghost use Rattle.dotenvy_items.specs.inside.FirstPass.{IsAssigned};
 ghost use Rattle.dotenvy_checker.specs.Findings.{has_value, no_names, only_if, piece_findings, with_name};
 ghost use Rattle.dotenvy_checker.specs.Numbered.{at_line};
 ghost use Rattle.dotenvy_checker.specs.inside.Reports.{finding_of, nothing_found};
-ghost use Rattle.dotenvy_checker.specs.inside.CheckedLines.{declared_of, env_of, failure_of, ChecksEntries, ChecksOutcome, ChecksRead, ChecksUpTo, Finds};
+ghost use Rattle.dotenvy_checker.specs.inside.CheckedLines.{declared_of, env_of, failure_of, ChecksEntries};
+ghost use Rattle.dotenvy_checker.specs.inside.CheckedLines.{ChecksOutcome, ChecksRead, ChecksUpTo, Finds};
 
 use crate::report::{Finding, Report};
 use dotenvy_base::environment::Environment;
@@ -270,8 +272,8 @@ impl<'a, A: Allocator + Clone> Checker<'a, A> {
 
     // Reports this finding, if it is one.
     fn report_if(&mut self, is_found: bool, line: u64, finding: Finding<'_>) -> Result<(), A>
-        ensures finds { OnOk result (Finds (at_line line (only_if is_found (finding_of finding.entry)))
-            self.old self.new) }
+        ensures finds { OnOk result (Finds (at_line line (only_if is_found
+            (finding_of finding.entry))) self.old self.new) }
         ensures memory { IfErr result IsMemory }
     {
         if is_found {

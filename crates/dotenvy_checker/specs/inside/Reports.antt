@@ -1,5 +1,6 @@
 -- What the code adds to a report.
-use Rattle.std.specs.Prelude.{ℕ, ◌≡◌, ◌||◌, ◌++◌, not, Bool, false, List, ◌∷◌, [], map, string_bytes}
+use Rattle.std.specs.Prelude.{ℕ, ◌≡◌, ◌||◌, ◌++◌, not, Bool, false, List, ◌∷◌, [], map}
+use Rattle.std.specs.Prelude.{string_bytes}
 use Rattle.std.specs.List.{list_any}
 use Rattle.std.specs.Str.{chars}
 use Rattle.std.specs.declared.io.ErrorKind.TheVariants.{InvalidData}
@@ -25,7 +26,8 @@ finding_of (code.DeclaredTwice name) = DeclaredTwice (chars name.now)
 abbrev pub found_more : Found → List (ℕ × Finding) → Found
 found_more found findings = record {
   faults = found.faults || list_any is_fault (map (λ p. p.1) findings);
-  warnings = found.warnings || list_any (λ finding. not (is_fault finding)) (map (λ p. p.1) findings);
+  warnings =
+      found.warnings || list_any (λ finding. not (is_fault finding)) (map (λ p. p.1) findings);
 }
 
 -- these findings were added to a report of this file
