@@ -34,7 +34,8 @@ use Rattle.dotenvy_checker.proofs.ReadLines.{Reading, reading_none, reading_more
 use Rattle.dotenvy_checker.proofs.ReadLines.{mark_before, DecidedBefore}
 
 -- of what is told at s some entries were read up to t, and checked
-pub record CheckedTo {A : Type 0} (dialect : Dialect) (a : Ahead) (s t : LinesState) (old new : Checker A) : Type 0 where
+pub record CheckedTo {A : Type 0} (dialect : Dialect) (a : Ahead) (s t : LinesState)
+    (old new : Checker A) : Type 0 where
   pub numbered : List (ℕ × Entry)
   pub reading : Reading dialect a s t numbered
   pub checks : ChecksEntries numbered old new
@@ -90,7 +91,8 @@ outcome_checked dialect a s t u old now new (Err (error.LineParse text index)) s
     (Fails (LineParse (chars (string_bytes text)) index) ∷ []) few k takes counts goes_on refl checks
 outcome_checked dialect a s t u old now new (Err (error.Io x)) same few k (inl (count, takes, counts, goes_on))
     (not_failed, checks) =
-    line_checked dialect a s t u.lines old now new Broken (Fails (Io InvalidData) ∷ []) few k takes.1 counts goes_on refl
+    line_checked dialect a s t u.lines old now new Broken
+        (Fails (Io InvalidData) ∷ []) few k takes.1 counts goes_on refl
     checks
 outcome_checked dialect a s t u old now new (Err (error.EnvVar x)) same few k (inl (count, takes, counts, goes_on))
     checks = absurd takes
@@ -135,7 +137,8 @@ checked_all {A = A} dialect s t u text old new came next opened a told few =
 before_failure : {A : Type 0} (dialect : Dialect) (a : Ahead) (s t u : LinesState) (text : List ℕ) (old now : Checker A)
     (e : Error A) (k : CheckedTo dialect a s t old now) → u.stage ≡ Failed →
     AdvanceIs {A = A} (ahead_of k.reading.left a.fault) t (Some (Err e)) text u → ChecksRead dialect s a (Err e) old now
-before_failure dialect a s t u text old now e k failed (inl (count, takes, counts, goes_on)) = absurd (not_going goes_on)
+before_failure dialect a s t u text old now e k failed (inl (count, takes, counts, goes_on)) = absurd
+    (not_going goes_on)
   where
     not_going : GoesOn u → ⊥
     not_going (inl is_open) = let h : Failed ≡ Open = sym failed ∙ is_open in cc

@@ -38,7 +38,8 @@ entry_faults env declared (Declares key pieces) =
     warned true finding h = ap (λ f. f || false) h
     warned false finding h = refl
 
-    pieces_faults : (ps : List Piece) → list_any is_fault (flat_map (piece_findings (has_value env declared)) ps) ≡ false
+    pieces_faults : (ps : List Piece) → list_any is_fault (flat_map (piece_findings (has_value env declared)) ps)
+        ≡ false
     pieces_faults [] = refl
     pieces_faults (Text text ∷ ps) = pieces_faults ps
     pieces_faults (Name name after ∷ ps) =

@@ -34,7 +34,8 @@ names_in-empty = same_names (λ name. ap (λ o. is_some (option_map chars o)) (f
 pub names_in-insert : (texts : Texts) (key value : List ℕ) → IsUtf8 key →
     names_in (fin.insert texts key value) ≡ with_name (names_in texts) (chars key)
 names_in-insert texts key value utf8 =
-    same_names (λ name. ap is_some (values_of-insert texts key value utf8 name) ∙ at (bytes_eq (chars key) name) (values_of texts name))
+    same_names (λ name. ap is_some (values_of-insert texts key value utf8 name)
+        ∙ at (bytes_eq (chars key) name) (values_of texts name))
   where
     at : (b : Bool) (o : Option (List ℕ)) → is_some (if b then Some (chars value) else o) ≡ (b || is_some o)
     at true o = refl

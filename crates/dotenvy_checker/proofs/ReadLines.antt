@@ -43,7 +43,8 @@ numbered_more : (dialect : Dialect) (number : ℕ) (physical : List (Option (Lis
     (numbered : List (ℕ × Entry)) (these : ℕ) (next : Logical) (front : List Entry) →
     AreNumbered dialect number physical count lines numbered → IsNext (drop count physical) these next →
     Gives dialect next front →
-    AreNumbered dialect number physical (count + these) (lines ++ next ∷ []) (numbered ++ at_line (number + count) front)
+    AreNumbered dialect number physical (count + these) (lines ++ next ∷ [])
+        (numbered ++ at_line (number + count) front)
 numbered_more dialect number physical count [] numbered these next front (none, empty) is gives = (
   these,
   0,
@@ -81,7 +82,8 @@ numbered_more dialect number physical count (first ∷ others) numbered these ne
 unnumbered-more : (numbered : List (ℕ × Entry)) (number : ℕ) (front : List Entry) →
     unnumbered (numbered ++ at_line number front) ≡ unnumbered numbered ++ front
 unnumbered-more numbered number front =
-    map-append (λ (p : ℕ × Entry). p.1) numbered (at_line number front) ∙ ap (λ es. unnumbered numbered ++ es) (own front)
+    map-append (λ (p : ℕ × Entry). p.1) numbered (at_line number front)
+        ∙ ap (λ es. unnumbered numbered ++ es) (own front)
   where
     own : (es : List Entry) → unnumbered (at_line number es) ≡ es
     own [] = refl
@@ -113,7 +115,8 @@ pub record Reading (dialect : Dialect) (a : Ahead) (s t : LinesState) (numbered 
   pub counts : Counts s.lines_taken count t.lines_taken
 
 -- nothing was read yet but a byte order mark
-pub reading_none : (A : Type 0) (dialect : Dialect) (a : Ahead) (s t : LinesState) → s.stage ≡ Open → IsTold s.input.left a →
+pub reading_none : (A : Type 0) (dialect : Dialect) (a : Ahead) (s t : LinesState) → s.stage ≡ Open →
+    IsTold s.input.left a →
     t.stage ≡ s.stage → t.lines_taken ≡ s.lines_taken → DropsMark {A = A} a s.input (Ok tt) t.input →
     Reading dialect a s t []
 reading_none A dialect a s t opened told stage taken drops =
@@ -189,7 +192,8 @@ reading_more {these = these} dialect a s t u numbered next front k takes counts 
   lines = k.lines ++ next ∷ [];
   count = k.count + these;
   are =
-      numbered_more dialect (s.lines_taken + 1) (whole_lines (unmarked a)) k.count k.lines numbered these next front k.are
+      numbered_more dialect (s.lines_taken + 1) (whole_lines (unmarked a)) k.count k.lines numbered these next front
+          k.are
       (subst (λ lines. IsNext lines these next) k.later takes.is_next) gives;
   later = takes.later ∙ ap (drop these) k.later ∙ drop-drop these k.count (whole_lines (unmarked a));
   stays = elim takes.stays [
@@ -282,7 +286,8 @@ pub reads_before : {A : Type 0} (dialect : Dialect) (a : Ahead) (s t : LinesStat
 reads_before dialect a s t m numbered e k final =
     final_before a s.input t.input m IsUndecided (DecidedBefore dialect s numbered) k.used k.left e k.moves.joins
     k.moves.reads
-    (λ kind front later cut why undecided. decided_read dialect a s t numbered kind front later k cut why undecided) final
+    (λ kind front later cut why undecided. decided_read dialect a s t numbered kind front later k cut why undecided)
+        final
 
 -- a fault before a byte order mark is decided is one before which no entry is decided
 pub mark_before : {A : Type 0} (dialect : Dialect) (a : Ahead) (s : LinesState) (m : InputState) (e : Error A) →

@@ -45,8 +45,10 @@ impl Found {
 
     /// What is found in two files together.
     pub fn and(self, other: Found) -> Found
-        ensures { result ≡ record { faults = self.faults || other.faults;
-            warnings = self.warnings || other.warnings } }
+        ensures { result ≡ record {
+          faults = self.faults || other.faults;
+          warnings = self.warnings || other.warnings;
+        } }
     {
         Found {
             faults: self.faults || other.faults,

@@ -38,7 +38,8 @@ returns-in-None-clause-reports g c = λ opened a told few.
       found = made.report.2;
     }) c.into_lines-lines.ensures.lines c.in_ok-fault.ensures.told opened told few in (
       k.numbered,
-      subst (λ fault. ReadsEntries {A = g.row.A.Denot} c.args.file.dialect c.args.file.lines a fault k.numbered) c.in-None.is k.reads,
+      subst (λ fault. ReadsEntries {A = g.row.A.Denot} c.args.file.dialect c.args.file.lines a fault k.numbered)
+          c.in-None.is k.reads,
       k.found,
       subst (λ bytes. Sends {A = g.row.A.Denot} g.W.Sink.told most_writes c.args.writer.now
           c.write_all.new.writer bytes (Ok tt)) (c.as_bytes.ensures.value ∙ k.text) c.in_default.ensures,
@@ -57,7 +58,8 @@ returns-clause-reports g c = λ opened a told few.
       found = made.report.2;
     }) c.into_lines-lines.ensures.lines c.in_ok-fault.ensures.told opened told few in (
       k.numbered,
-      subst (λ fault. ReadsEntries {A = g.row.A.Denot} c.args.file.dialect c.args.file.lines a fault k.numbered) c.in-Some.is k.reads,
+      subst (λ fault. ReadsEntries {A = g.row.A.Denot} c.args.file.dialect c.args.file.lines a fault k.numbered)
+          c.in-Some.is k.reads,
       subst (λ bytes. Sends {A = g.row.A.Denot} g.W.Sink.told most_writes c.args.writer.now
           c.write_all.new.writer bytes (Ok tt)) (c.as_bytes.ensures.value ∙ k.text) c.in_default.ensures,
     )

@@ -17,5 +17,6 @@ returns-clause-checks g c = λ look_up rest pieces is.
     let twice = names_in-contains c.args.self.now.declared.names c.args.key.now c.contains-is_declared.result c.utf8.key
     c.contains-is_declared.ensures in
     after_ok c.declare.result (λ declared. checks_declared c.args.line (chars c.args.key.now) pieces twice first
-    (c.in_ok-check_assigned.ensures.finds look_up rest pieces (assigned_still look_up rest pieces c.args.value first is)) declared.0 declared.1)
+    (c.in_ok-check_assigned.ensures.finds look_up rest pieces
+        (assigned_still look_up rest pieces c.args.value first is)) declared.0 declared.1)
     (both_ok _ _ c.declare.result c.declare.ensures.declared c.declare.ensures.same)

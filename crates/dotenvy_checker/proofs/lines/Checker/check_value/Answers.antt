@@ -32,7 +32,8 @@ pieces-preserved g c =
           (subst (λ d. IsReadTo d (base (quoting_of c.pieces.quoting)) (chars c.pieces.rest.now) next.pieces
           (base (quoting_of c.in-Piece.given.quoting)) (chars c.in-Piece.given.rest.now)) (same_dialect i.finds)
           next.is_read);
-      finds = finds_pieces c.args.line i.pieces next.pieces c.in-Piece.given.piece i.finds next.names c.in_ok-check_piece.ensures.finds;
+      finds = finds_pieces c.args.line i.pieces next.pieces c.in-Piece.given.piece i.finds next.names
+          c.in_ok-check_piece.ensures.finds;
     }
 
 pub returns : goal.returns

@@ -17,7 +17,8 @@ abbrev pub invariant-pieces : goal.invariant-pieces
 invariant-pieces g l = record {
   utf8 : shadow (Utf8 l.rest);
   pieces : List Piece;
-  read : IsReadTo l.fn.self.dialect (base unquoted) (chars l.fn.value) pieces (base (quoting_of l.quoting)) (chars l.rest);
+  read : IsReadTo l.fn.self.dialect (base unquoted) (chars l.fn.value) pieces (base (quoting_of l.quoting))
+      (chars l.rest);
   finds : Finds (at_line l.fn.line (flat_map (piece_findings
       (has_value (env_of l.fn.self) (declared_of l.fn.self))) pieces)) l.fn.self l.self;
 }
