@@ -97,13 +97,14 @@ impl<'a, A: Allocator + Clone, W: Sink> CheckedFiles<'a, A, W> {
     ) -> Result<(), Failure<A>>
         ensures { IfErr result (λ failure. ¬ (IsOfWords failure)) }
     {
-        let path = match find_filename(rt, Path::new(".env")) {
-            Ok(path) => path,
-            Err(error) => return self.say_unread(".env", &error),
-        };
-        let name = format!(in rt.alloc(); "{}", path.display())?;
-        let opened = open(rt, path.as_path(), dialect);
-        self.check(name.as_str(), opened)
+        match find_filename(rt, Path::new(".env")) {
+            Ok(path) => {
+                let name = format!(in rt.alloc(); "{}", path.display())?;
+                let opened = open(rt, path.as_path(), dialect);
+                self.check(name.as_str(), opened)
+            }
+            Err(error) => self.say_unread(".env", &error),
+        }
     }
 
     // Checks a file, if it could be opened.
