@@ -45,7 +45,7 @@ pub fn run<A: Allocator + Clone, R: Files + Env + Starter + Alloc<A = A>, S: Sou
         W.told writer.old writer.new) result }
 
     // These reads are made of it, whatever comes of the list.
-    ensures reads { (line : Line) → HasUsage (texts words.now) (Ok line) → line.list ≡ true
+    ensures asks { (line : Line) → HasUsage (texts words.now) (Ok line) → line.list ≡ true
         → ReadsBetween (S.told reader.old) (S.told reader.new) }
 
     // A run of a command leaves the reader and the writer unchanged.
@@ -74,7 +74,7 @@ fn list<A: Allocator + Clone, S: Source, W: Sink>(
 ) -> Result<u8, Failure<A>>
     ensures lists { EndsAs (Lists (fresh (S.told reader.old) dialect)
         W.told writer.old writer.new) result }
-    ensures reads { ReadsBetween (S.told reader.old) (S.told reader.new) }
+    ensures asks { ReadsBetween (S.told reader.old) (S.told reader.new) }
 {
     list_lent(alloc, reader, writer, dialect)?;
     Ok(0)
