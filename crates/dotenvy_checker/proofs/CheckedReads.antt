@@ -11,7 +11,7 @@ use Rattle.dotenvy_base.specs.Errors.{IsMemory, IsIoOf}
 use Rattle.dotenvy_base.specs.Source.{Ahead}
 use Rattle.dotenvy_format.specs.declared.dialect.Dialect.{Dialect}
 use Rattle.dotenvy_format.specs.LogicalLine.{Logical, Skip, Text, Open as OpenEnd, Broken}
-use Rattle.dotenvy_format.specs.Outcome.{Outcome, Nothing, Says}
+use Rattle.dotenvy_format.specs.Outcome.{Nothing, Says}
 use Rattle.dotenvy_format.specs.Entries.{Entry, Fails, LineParse, Io, Gives, outcome_entries}
 use Rattle.dotenvy_format.proofs.statements.Outcomes.{one_outcome}
 use Rattle.dotenvy_lines.specs.declared.lines.Stage.TheVariants.{Open, Ended, Failed}
@@ -27,7 +27,7 @@ use Rattle.dotenvy_checker.specs.Checks.{found_in, FewLines, ReadsEntries}
 use Rattle.dotenvy_checker.specs.Findings.{Names, no_names, findings, findings_from}
 use Rattle.dotenvy_checker.specs.Report.{report}
 use Rattle.dotenvy_checker.specs.inside.Reports.{found_more, nothing_found, Adds}
-use Rattle.dotenvy_checker.specs.inside.CheckedLines.{env_of, declared_of, failure_of, ChecksEntries, ChecksOutcome}
+use Rattle.dotenvy_checker.specs.inside.CheckedLines.{env_of, declared_of, ChecksEntries, ChecksOutcome}
 use Rattle.dotenvy_checker.specs.inside.CheckedLines.{ChecksRead, ChecksUpTo}
 use Rattle.dotenvy_checker.proofs.Found.{checks_none, checks_more}
 use Rattle.dotenvy_checker.proofs.ReadLines.{Reading, reading_none, reading_more, number_of, reads_all, reads_before}
@@ -92,7 +92,7 @@ outcome_checked dialect a s t u old now new (Err (error.LineParse text index)) s
 outcome_checked dialect a s t u old now new (Err (error.Io x)) same few k (inl (count, takes, counts, goes_on))
     (not_failed, checks) =
     line_checked dialect a s t u.lines old now new Broken
-        (Fails (Io InvalidData) ∷ []) few k takes.1 counts goes_on refl
+    (Fails (Io InvalidData) ∷ []) few k takes.1 counts goes_on refl
     checks
 outcome_checked dialect a s t u old now new (Err (error.EnvVar x)) same few k (inl (count, takes, counts, goes_on))
     checks = absurd takes

@@ -97,7 +97,7 @@ at_line-append number xs ys = map-append (λ x. (number, x)) xs ys
 -- the findings of two rows of entries are those of the first, and then those of the second
 pub findings_from-append : (env declared : Names) (xs ys : List (ℕ × Entry)) →
     findings_from env declared (xs ++ ys) ≡ findings_from env declared xs ++ findings_from env
-        (declared_by declared xs) ys
+    (declared_by declared xs) ys
 findings_from-append env declared [] ys = refl
 findings_from-append env declared ((number, entry) ∷ xs) ys =
     ap (λ t. at_line number (entry_findings env declared entry) ++ t)
@@ -123,7 +123,7 @@ checks_more {xs = xs} {ys = ys} {a = a} {b = b} {c = c} h k = record {
   report =
       subst (λ fs. Adds fs a.report c.report) (sym (findings_from-append (env_of a) (declared_of a) xs ys))
       (adds_more h.report (subst (λ e. Adds (findings_from e (declared_by (declared_of a) xs) ys) b.report c.report)
-          h.env
+      h.env
       (subst (λ d. Adds (findings_from (env_of b) d ys) b.report c.report) h.declared k.report)));
   declared =
       k.declared ∙ ap (λ d. declared_by d ys) h.declared ∙ sym (declared_by-append (declared_of a) xs ys);
@@ -176,7 +176,7 @@ finds_pieces number pieces more piece {a = a} {b = b} {c = c} h e k =
     let known = has_value (env_of a) (declared_of a) in
     let found = subst (λ ps. Finds (at_line number (flat_map (piece_findings known) ps)) b c) (sym e)
     (subst (λ names. Finds (at_line number (flat_map (piece_findings names) (named_piece piece))) b c)
-        (same_known h) k) in
+    (same_known h) k) in
     subst (λ fs. Finds (at_line number fs) a c) (sym (flat_map-append (piece_findings known) pieces more))
     (finds_on_line number (flat_map (piece_findings known) pieces) (flat_map (piece_findings known) more) h
     (subst (λ fs. Finds (at_line number fs) b c) (without_texts-finds known more) found))
@@ -231,13 +231,13 @@ pub checks_declared : {A : Type 0} {twice : Bool} (number : ℕ) (key : List ℕ
 checks_declared {twice = twice} number key pieces {a = a} {b = b} {c = c} {d = d} e h k declared same =
     let known = has_value (env_of a) (declared_of a) in
     let all = finds_on_line number (only_if (declared_of a key) (DeclaredTwice key))
-        (flat_map (piece_findings known) pieces)
+    (flat_map (piece_findings known) pieces)
     (subst (λ t. Finds (at_line number (only_if t (DeclaredTwice key))) a b) (sym e) h)
     (subst (λ names. Finds (at_line number (flat_map (piece_findings names) pieces)) b c) (same_known h) k) in
     let report = ap (λ (s : Checker _). s.report) same in record {
       report =
           subst (λ r. Adds (at_line number (entry_findings (env_of a) (declared_of a) (Declares key pieces)) ++ [])
-              a.report r)
+          a.report r)
           (sym report) (subst (λ fs. Adds fs a.report c.report)
           (sym (append-nil (at_line number (entry_findings (env_of a) (declared_of a) (Declares key pieces)))))
           all.report);

@@ -1,22 +1,22 @@
 -- Faults that are found, and loads that meet them.
-use Rattle.std.proofs.Common.{◌≡◌, ℕ, Bool, true, false, ◌||◌, ◌&&◌, List, [], ◌∷◌, ◌++◌, map, refl, sym, ◌∙◌, ap}
+use Rattle.std.proofs.Common.{◌≡◌, ℕ, Bool, true, false, ◌||◌, ◌&&◌, List, [], ◌∷◌, ◌++◌, refl, sym, ◌∙◌, ap}
 use Rattle.std.proofs.Common.{subst}
-use Rattle.std.proofs.Common.{Result, Ok, Err, not, cond}
+use Rattle.std.proofs.Common.{Ok, Err, not, cond}
 use Rattle.std.specs.List.{flat_map, list_any}
 use Rattle.std.proofs.lemmas.List.{map-append}
 use Rattle.std.proofs.lemmas.List.Folds.{list_any-append}
 use Rattle.dotenvy_format.specs.Characters.{underscore, begins_with}
-use Rattle.dotenvy_format.specs.Entries.{Failure, Entry, Declares, Fails, Nul}
+use Rattle.dotenvy_format.specs.Entries.{Entry, Declares, Fails, Nul}
 use Rattle.dotenvy_format.specs.Items.{LookUp, no_values, meaning, or_else, with_value}
 use Rattle.dotenvy_format.specs.Loads.{load_result, override_result}
 use Rattle.dotenvy_format.specs.Run.{Mode, Keep, Replace, Loaded, run, sets, has_nul, after_declaration}
 use Rattle.dotenvy_format.specs.Value.{Piece, Text, Name, LastBackslash as lone_backslash}
 use Rattle.dotenvy_format.proofs.loads.LoadLaws.{run-keep, run-replace}
 use Rattle.dotenvy_checker.specs.Numbered.{at_line, unnumbered}
-use Rattle.dotenvy_checker.specs.Findings.{Finding, Wrong, NoValue, EndsAtUnderscore, DeclaredTwice, is_fault, Names}
+use Rattle.dotenvy_checker.specs.Findings.{Finding, NoValue, EndsAtUnderscore, DeclaredTwice, is_fault, Names}
 use Rattle.dotenvy_checker.specs.Findings.{no_names, only_if, piece_findings, has_value, entry_findings, declared_after}
 use Rattle.dotenvy_checker.specs.Findings.{findings_from}
-use Rattle.dotenvy_checker.specs.Laws.{IsOkOrNul, HasNoFault, LoadsIfNoFault, FaultsStopLoads}
+use Rattle.dotenvy_checker.specs.Laws.{IsOkOrNul, LoadsIfNoFault, FaultsStopLoads}
 
 -- an entry is a fault
 abbrev is_failure : Entry → Bool

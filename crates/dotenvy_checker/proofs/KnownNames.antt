@@ -1,5 +1,5 @@
 -- The names that environments have, by their characters.
-use Rattle.std.proofs.Common.{◌≡◌, ℕ, Bool, true, false, ◌||◌, not, cond, List, refl, sym, ◌∙◌, ap, Option, Some, None}
+use Rattle.std.proofs.Common.{◌≡◌, ℕ, Bool, true, false, ◌||◌, not, List, refl, ◌∙◌, ap, Option, Some, None}
 use Rattle.std.specs.Prelude.{bytes_eq, is_some, is_none, option_map, if◌then◌else◌}
 use Rattle.std.specs.FinMap as fin
 use Rattle.std.specs.Str.{chars, encode_utf8_all, IsUtf8}
@@ -35,7 +35,7 @@ pub names_in-insert : (texts : Texts) (key value : List ℕ) → IsUtf8 key →
     names_in (fin.insert texts key value) ≡ with_name (names_in texts) (chars key)
 names_in-insert texts key value utf8 =
     same_names (λ name. ap is_some (values_of-insert texts key value utf8 name)
-        ∙ at (bytes_eq (chars key) name) (values_of texts name))
+    ∙ at (bytes_eq (chars key) name) (values_of texts name))
   where
     at : (b : Bool) (o : Option (List ℕ)) → is_some (if b then Some (chars value) else o) ≡ (b || is_some o)
     at true o = refl

@@ -1,34 +1,27 @@
 -- How far the lines of a file were read, each line that is taken, and how reading ends.
-use Rattle.std.proofs.Common.{◌≡◌, ◌≢◌, ℕ, ◌+◌, ◌-◌, ◌<◌, ◌≤◌, ◌^◌, ◌⊎◌, inl, inr, List, [], ◌∷◌, ◌++◌, length, drop}
-use Rattle.std.proofs.Common.{map, Bool, true, false}
-use Rattle.std.proofs.Common.{Option, Some, None, Result, Ok, Err, refl, sym, ◌∙◌, ap, subst, arith, append_assoc}
+use Rattle.std.proofs.Common.{◌≡◌, ◌≢◌, ℕ, ◌+◌, ◌<◌, ◌≤◌, ◌⊎◌, inl, inr, List, [], ◌∷◌, ◌++◌, length, drop}
+use Rattle.std.proofs.Common.{Bool, true, false}
+use Rattle.std.proofs.Common.{Option, Some, None, Ok, refl, sym, ◌∙◌, ap, subst, arith, append_assoc}
 use Rattle.std.proofs.Common.{length-append, nat_lt}
 use Rattle.std.proofs.lemmas.Bool.{ltb-true, ltb-false}
-use Rattle.std.specs.Str.{chars}
-use Rattle.std.specs.IoError.{error_kind}
 use Rattle.std.specs.declared.io.ErrorKind.{ErrorKind}
-use Rattle.std.specs.declared.io.ErrorKind.TheVariants.{Interrupted, InvalidData}
+use Rattle.std.specs.declared.io.ErrorKind.TheVariants.{Interrupted}
 use Rattle.std.proofs.lemmas.List.{append-nil, drop-drop, map-append}
 use Rattle.std.proofs.lemmas.Option.{none-some}
 use Rattle.std.proofs.lemmas.Grind.{common_steps}
-use Rattle.std.proofs.lemmas.Str.{chars-nil}
 use Rattle.dotenvy_base.specs.declared.errors.Error.{Error}
-use Rattle.dotenvy_base.specs.declared.errors.Error.TheVariants as error
 use Rattle.dotenvy_base.specs.Source.{Ahead}
 use Rattle.dotenvy_format.specs.declared.dialect.Dialect.{Dialect}
 use Rattle.dotenvy_format.specs.PhysicalLines.{line_texts}
-use Rattle.dotenvy_format.specs.LogicalLine.{Logical, Skip, Text, Open as OpenEnd, Broken, IsNext, IsOpenEnd}
-use Rattle.dotenvy_format.specs.Outcome.{Outcome, Nothing, Says}
-use Rattle.dotenvy_format.specs.Entries.{Entry, Fails, LineParse, Io, Gives, outcome_entries}
+use Rattle.dotenvy_format.specs.LogicalLine.{Logical, IsNext, IsOpenEnd}
+use Rattle.dotenvy_format.specs.Entries.{Entry, Gives}
 use Rattle.dotenvy_format.specs.Decided.{HasDecided}
 use Rattle.dotenvy_format.specs.Marks.{without_mark}
-use Rattle.dotenvy_format.proofs.statements.Outcomes.{one_outcome}
-use Rattle.dotenvy_lines.specs.declared.lines.Stage.TheVariants.{Open, Ended, Failed}
+use Rattle.dotenvy_lines.specs.declared.lines.Stage.TheVariants.{Open}
 use Rattle.dotenvy_lines.specs.Input.{InputState, IsTold, Moves, IsFinal, DropsMark, begins_mark, end_reads}
-use Rattle.dotenvy_lines.specs.Lines.{LinesState, whole_lines, IsAtEnd, Counts, GoesOn, FailsFor}
+use Rattle.dotenvy_lines.specs.Lines.{LinesState, whole_lines, IsAtEnd, Counts, GoesOn}
 use Rattle.dotenvy_lines.specs.inside.NextLine.{lines_so_far, TakesNext, CountsLine, IsNextAlways, IsUndecided}
-use Rattle.dotenvy_lines.specs.inside.NextLine.{AdvanceIs}
-use Rattle.dotenvy_lines.proofs.Inputs.{ahead_of, the_bytes, the_fault, moves_on, final_before}
+use Rattle.dotenvy_lines.proofs.Inputs.{ahead_of, moves_on, final_before}
 use Rattle.dotenvy_lines.proofs.LineEntries.{no_lines, decided-next, decided-none}
 use Rattle.dotenvy_lines.proofs.DroppedMarks.{marked, mark_decides}
 use Rattle.dotenvy_lines.proofs.NumberedLines.{counts_none, counts_more}
@@ -44,7 +37,7 @@ numbered_more : (dialect : Dialect) (number : ℕ) (physical : List (Option (Lis
     AreNumbered dialect number physical count lines numbered → IsNext (drop count physical) these next →
     Gives dialect next front →
     AreNumbered dialect number physical (count + these) (lines ++ next ∷ [])
-        (numbered ++ at_line (number + count) front)
+    (numbered ++ at_line (number + count) front)
 numbered_more dialect number physical count [] numbered these next front (none, empty) is gives = (
   these,
   0,
@@ -83,7 +76,7 @@ unnumbered-more : (numbered : List (ℕ × Entry)) (number : ℕ) (front : List 
     unnumbered (numbered ++ at_line number front) ≡ unnumbered numbered ++ front
 unnumbered-more numbered number front =
     map-append (λ (p : ℕ × Entry). p.1) numbered (at_line number front)
-        ∙ ap (λ es. unnumbered numbered ++ es) (own front)
+    ∙ ap (λ es. unnumbered numbered ++ es) (own front)
   where
     own : (es : List Entry) → unnumbered (at_line number es) ≡ es
     own [] = refl
@@ -193,7 +186,7 @@ reading_more {these = these} dialect a s t u numbered next front k takes counts 
   count = k.count + these;
   are =
       numbered_more dialect (s.lines_taken + 1) (whole_lines (unmarked a)) k.count k.lines numbered these next front
-          k.are
+      k.are
       (subst (λ lines. IsNext lines these next) k.later takes.is_next) gives;
   later = takes.later ∙ ap (drop these) k.later ∙ drop-drop these k.count (whole_lines (unmarked a));
   stays = elim takes.stays [
@@ -287,7 +280,7 @@ reads_before dialect a s t m numbered e k final =
     final_before a s.input t.input m IsUndecided (DecidedBefore dialect s numbered) k.used k.left e k.moves.joins
     k.moves.reads
     (λ kind front later cut why undecided. decided_read dialect a s t numbered kind front later k cut why undecided)
-        final
+    final
 
 -- a fault before a byte order mark is decided is one before which no entry is decided
 pub mark_before : {A : Type 0} (dialect : Dialect) (a : Ahead) (s : LinesState) (m : InputState) (e : Error A) →

@@ -1,5 +1,5 @@
 -- The law of faults: none is reported exactly where a load meets none.
-use Rattle.std.specs.Prelude.{ℕ, ◌≡◌, ◌⊎◌, Bool, false, List, Result, Ok, Err}
+use Rattle.std.specs.Prelude.{ℕ, ◌≡◌, false, List, Result, Ok, Err}
 use Rattle.std.specs.List.{list_any}
 use Rattle.dotenvy_format.specs.Entries.{Failure, Entry, LineParse, Io, Nul, Memory}
 use Rattle.dotenvy_format.specs.Items.{no_values}

@@ -15,7 +15,7 @@ use Rattle.dotenvy_lines.specs.Lines.{LinesState}
 use Rattle.dotenvy_lines.specs.inside.Splitter.{SplitterState, last_lines}
 use Rattle.dotenvy_checker.specs.Numbered.{at_line}
 use Rattle.dotenvy_checker.specs.declared.lines.Checker.{Checker}
-use Rattle.dotenvy_checker.specs.Findings.{Finding, Names, has_value, declared_after, findings_from}
+use Rattle.dotenvy_checker.specs.Findings.{Finding, Names, declared_after, findings_from}
 use Rattle.dotenvy_checker.specs.Checks.{names_in, ReadsEntries}
 use Rattle.dotenvy_checker.specs.inside.Reports.{Adds}
 

@@ -1,5 +1,5 @@
 -- What the code finds in one word.
-use Rattle.std.specs.Prelude.{ℕ, ◌≡◌, true, false, not, List, Result, Ok, Err, string_bytes}
+use Rattle.std.specs.Prelude.{ℕ, ◌≡◌, true, false, List, Result, Ok, Err, string_bytes}
 use Rattle.dotenvy_checker.specs.declared.words.Word.{Word}
 use Rattle.dotenvy_checker.specs.declared.words.Word.TheVariants.{Next, Strict, Unknown, File}
 use Rattle.dotenvy_checker.specs.declared.words.Words.{Words}

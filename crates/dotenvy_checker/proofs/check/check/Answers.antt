@@ -1,4 +1,4 @@
-use Rattle.std.proofs.Common.{◌∙◌, ap, subst, sym, Err, Ok, Some, None}
+use Rattle.std.proofs.Common.{◌∙◌, ap, subst, Err, Ok}
 use Rattle.std.specs.Str.{chars}
 use Rattle.dotenvy_base.specs.Environment.{Env}
 use Rattle.dotenvy_base.specs.Output.{Sends, most_writes}

@@ -18,5 +18,5 @@ returns-clause-checks g c = λ look_up rest pieces is.
     c.contains-is_declared.ensures in
     after_ok c.declare.result (λ declared. checks_declared c.args.line (chars c.args.key.now) pieces twice first
     (c.in_ok-check_assigned.ensures.finds look_up rest pieces
-        (assigned_still look_up rest pieces c.args.value first is)) declared.0 declared.1)
+    (assigned_still look_up rest pieces c.args.value first is)) declared.0 declared.1)
     (both_ok _ _ c.declare.result c.declare.ensures.declared c.declare.ensures.same)

@@ -1,4 +1,4 @@
-use Rattle.std.proofs.Common.{subst, refl, Ok, Some}
+use Rattle.std.proofs.Common.{subst, refl, Ok}
 use Rattle.std.specs.Str.{chars}
 use Rattle.dotenvy_format.specs.Outcome.{Pair, Fault}
 use Rattle.dotenvy_items.specs.Meaning.{names_of}

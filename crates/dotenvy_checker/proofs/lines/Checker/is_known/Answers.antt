@@ -1,4 +1,4 @@
-use Rattle.std.proofs.Common.{◌≡◌, ◌||◌, ◌∙◌, sym, ap}
+use Rattle.std.proofs.Common.{◌||◌, ◌∙◌, sym, ap}
 use Rattle.std.specs.Str.{chars}
 use Rattle.dotenvy_checker.specs.inside.CheckedLines.{declared_of}
 use Rattle.dotenvy_checker.proofs.KnownNames.{names_in-contains}
