@@ -67,7 +67,7 @@ error_says (LineParse line place) told said_memory tells says = absurd says
 error_says (Io fault) told (said_line text index) tells says = absurd says
 error_says (Io fault) told (said_io kind) tells says =
     subst (λ o. SaysTold o (Err (said_io kind))) (ap (λ o. unwrap_or o told) tells)
-        (ap kind_status says, refl, refl, refl)
+    (ap kind_status says, refl, refl, refl)
 error_says (Io fault) told (said_nul key) tells says = absurd says
 error_says (Io fault) told said_memory tells says = absurd says
 error_says (EnvVar e) told said tells says = absurd (none-some told tells)

@@ -68,7 +68,7 @@ loads_all_entries options file block names entries told few has load =
     record { few = few; not_interrupted = λ e. none-some Interrupted e } in
     let rule : Rule = rule_of options in
     let leaves : Leaves (rule (values_of (block_names block)) (recalled_of fin.empty) (entries ++ [])) names
-        load.outcome =
+    load.outcome =
     takes_all (has_option options 1) (fresh_file file (dialect_of options)) a (block_names block) names load.outcome
     entries (can_read_fresh (dialect_of options) (file_told file) a refl readable) has load.loads
     (outcome_not_refused load.outcome told load.tells) in
