@@ -24,7 +24,7 @@
  *                                            (const uint8_t *)block, sizeof block, 0, out, sizeof out);
  *     if (!a.fits) {
  *         // a.status is DOTENVY_NO_MEMORY or DOTENVY_BAD_OPTION,
- *         // or call again with a.block_len + a.text_len bytes of room
+ *         // or call again with a.block_len + a.text_len bytes for `out`
  *         return 1;
  *     }
  *     for (size_t at = 0; at < a.block_len; at += strlen((char *)out + at) + 1)
@@ -95,8 +95,8 @@ bool dotenvy_is_key(const uint8_t *text, size_t text_len);
 /* Loads a file over the environment of a block: a name that is there keeps its value, unless DOTENVY_OVERRIDE is set.
  *
  * It stops at the first error; what is before it counts. The new block is written to the start of `out`, in byte order
- * of the names, and the text of the error right after it. Where `out` has no room for both nothing is written, `fits`
- * is false, and block_len + text_len is the room that the same call needs.
+ * of the names, and the text of the error right after it. Where `out` is too short for both nothing is written, `fits`
+ * is false, and block_len + text_len is the length of `out` that the same call needs.
  *
  * docs/GRAMMAR.md, "Faults and their places", says which text a wrong line has, and what its index counts. */
 struct dotenvy_answer dotenvy_load(const uint8_t *file, size_t file_len, const uint8_t *block, size_t block_len,
@@ -105,8 +105,8 @@ struct dotenvy_answer dotenvy_load(const uint8_t *file, size_t file_len, const u
 /* Writes the items of a file to `items`, and their keys and texts one after the other to `out`: all pairs and all
  * errors, in order. A name in a value means its value in the block, else the last one declared before it in the file.
  *
- * Where there is no room for all items, or for all texts, nothing is written, `fits` is false, and `items` and
- * `text_len` are the room that the same call needs. */
+ * Where `items` is too short for all items, or `out` for all texts, nothing is written, `fits` is false, and `items`
+ * and `text_len` are the lengths that the same call needs. */
 struct dotenvy_counts dotenvy_items(const uint8_t *file, size_t file_len, const uint8_t *block, size_t block_len,
                                     uint32_t options, struct dotenvy_item *items, size_t items_len, uint8_t *out,
                                     size_t out_len);

@@ -1,4 +1,4 @@
-/* Tests of the library for C: every call, every status, room that is exact or one byte short, empty inputs, the layout
+/* Tests of the library for C: every call, every status, buffers exact or one byte short, empty inputs, the layout
  * of the structs, and each request for memory refused in turn. It has an allocator of its own, and needs nothing but
  * dotenvy.h and a C library. With the argument `layout` it prints the layout of the structs instead. The last line is
  * `N passed, M failed`. */
@@ -57,8 +57,8 @@ static void check(bool holds, const char *what, int line) {
 }
 #define CHECK(condition) check((condition), #condition, __LINE__)
 
-enum { ROOM = 4096, ITEMS = 64, UNWRITTEN = 0xA5 };
-static uint8_t out[ROOM];
+enum { BUFFER = 4096, ITEMS = 64, UNWRITTEN = 0xA5 };
+static uint8_t out[BUFFER];
 static struct dotenvy_item items[ITEMS];
 
 static void clear(void) {
@@ -68,7 +68,7 @@ static void clear(void) {
 
 /* Whether nothing was written from this byte of `out` on. */
 static bool untouched_from(size_t at) {
-    for (; at < ROOM; at++)
+    for (; at < BUFFER; at++)
         if (out[at] != UNWRITTEN) return false;
     return true;
 }
@@ -90,25 +90,27 @@ struct bytes {
 };
 #define BYTES(literal) ((struct bytes){literal, sizeof(literal) - 1})
 
-static struct dotenvy_answer load(struct bytes file, struct bytes block, uint32_t options, size_t room) {
+static struct dotenvy_answer load(struct bytes file, struct bytes block, uint32_t options, size_t out_len) {
     clear();
-    return dotenvy_load((const uint8_t *)file.at, file.length, (const uint8_t *)block.at, block.length, options, out, room);
+    return dotenvy_load((const uint8_t *)file.at, file.length, (const uint8_t *)block.at, block.length, options, out,
+                        out_len);
 }
 
-static struct dotenvy_counts list(struct bytes file, struct bytes block, uint32_t options, size_t room_items, size_t room) {
+static struct dotenvy_counts list(struct bytes file, struct bytes block, uint32_t options, size_t items_len,
+                                  size_t out_len) {
     clear();
     return dotenvy_items((const uint8_t *)file.at, file.length, (const uint8_t *)block.at, block.length, options, items,
-                         room_items, out, room);
+                         items_len, out, out_len);
 }
 
-/* A load that answers this, leaves this block, and tells this text; with ample room, with exact room, and with one
- * byte less. */
+/* A load that answers this, leaves this block, and tells this text; with an ample buffer, with an exact one, and with
+ * one a byte too short. */
 static void loads(struct bytes file, struct bytes block, uint32_t options, uint32_t status, struct bytes left,
                   struct bytes text, size_t index, int line) {
     size_t need = left.length + text.length;
-    struct dotenvy_answer a = load(file, block, options, ROOM);
+    struct dotenvy_answer a = load(file, block, options, BUFFER);
     check(a.status == status, "the status", line);
-    check(a.fits, "it fits ample room", line);
+    check(a.fits, "it fits an ample buffer", line);
     check(a.index == index, "the index", line);
     check(a.block_len == left.length, "the length of the block", line);
     check(a.text_len == text.length, "the length of the text", line);
@@ -118,7 +120,7 @@ static void loads(struct bytes file, struct bytes block, uint32_t options, uint3
 
     a = load(file, block, options, need);
     check(a.fits && a.status == status && is_at(0, left.at, left.length) && is_at(left.length, text.at, text.length)
-              && untouched_from(need), "exact room serves", line);
+              && untouched_from(need), "an exact buffer serves", line);
 
     if (need > 0) {
         a = load(file, block, options, need - 1);
@@ -185,13 +187,13 @@ static void test_loads(void) {
 static void test_refused_options(void) {
     static const uint32_t bad[] = {4, 8, 5, 0x80000000u, 0xFFFFFFFFu};
     for (size_t i = 0; i < sizeof bad / sizeof bad[0]; i++) {
-        struct dotenvy_answer a = load(BYTES("A=1\n"), BYTES(""), bad[i], ROOM);
+        struct dotenvy_answer a = load(BYTES("A=1\n"), BYTES(""), bad[i], BUFFER);
         CHECK(a.status == DOTENVY_BAD_OPTION && !a.fits && a.index == 0 && a.block_len == 0 && a.text_len == 0);
         CHECK(untouched_from(0));
     }
     static const uint32_t bad_of_items[] = {1, 8, 3, 0x80000000u, 0xFFFFFFFFu};
     for (size_t i = 0; i < sizeof bad_of_items / sizeof bad_of_items[0]; i++) {
-        struct dotenvy_counts c = list(BYTES("A=1\n"), BYTES(""), bad_of_items[i], ITEMS, ROOM);
+        struct dotenvy_counts c = list(BYTES("A=1\n"), BYTES(""), bad_of_items[i], ITEMS, BUFFER);
         CHECK(c.status == DOTENVY_BAD_OPTION && !c.fits && c.items == 0 && c.text_len == 0);
         CHECK(untouched_from(0) && no_items_from(0));
     }
@@ -201,7 +203,7 @@ static void test_items(void) {
     static const char file[] = "# a comment\nA=1\nB=\"2\n${A}\"\nC=x y\nD=\xFF\nA=$HOME\nE=\"u\0v\"\nopen='\n";
     static const char block[] = "HOME=/root";
     struct bytes given = BYTES(file), environment = BYTES(block);
-    struct dotenvy_counts c = list(given, environment, 0, ITEMS, ROOM);
+    struct dotenvy_counts c = list(given, environment, 0, ITEMS, BUFFER);
     size_t texts = 2 + 4 + 3 + 0 + 6 + 4 + 7; /* A1, B2.1, x y, nothing, A/root, Eu.v, open=' and its line feed */
     CHECK(c.status == DOTENVY_OK && c.fits && c.items == 7 && c.text_len == texts);
     CHECK(item_is(0, DOTENVY_OK, "A", "1", 0, 2, 2));
@@ -223,24 +225,24 @@ static void test_items(void) {
     c = list(given, environment, 0, 0, 0);
     CHECK(!c.fits && c.items == 7 && c.text_len == texts && untouched_from(0) && no_items_from(0));
 
-    /* Empty inputs need no room. */
+    /* Empty inputs need no buffer. */
     c = list(BYTES(""), BYTES(""), 0, 0, 0);
     CHECK(c.status == DOTENVY_OK && c.fits && c.items == 0 && c.text_len == 0 && untouched_from(0) && no_items_from(0));
     c = list(BYTES("A="), BYTES(""), 0, 1, 1);
     CHECK(c.fits && c.items == 1 && c.text_len == 1 && item_is(0, DOTENVY_OK, "A", "", 0, 1, 1));
 
     /* The dialects, and the mark. */
-    c = list(BYTES("C=$A_B\n"), BYTES("A=5\0A_B=7"), 0, ITEMS, ROOM);
+    c = list(BYTES("C=$A_B\n"), BYTES("A=5\0A_B=7"), 0, ITEMS, BUFFER);
     CHECK(c.items == 1 && item_is(0, DOTENVY_OK, "C", "5_B", 0, 1, 1));
-    c = list(BYTES("C=$A_B\n"), BYTES("A=5\0A_B=7"), DOTENVY_NEXT_DIALECT, ITEMS, ROOM);
+    c = list(BYTES("C=$A_B\n"), BYTES("A=5\0A_B=7"), DOTENVY_NEXT_DIALECT, ITEMS, BUFFER);
     CHECK(c.items == 1 && item_is(0, DOTENVY_OK, "C", "7", 0, 1, 1));
-    c = list(BYTES("\xEF\xBB\xBF" "A=1\n"), BYTES(""), 0, ITEMS, ROOM);
+    c = list(BYTES("\xEF\xBB\xBF" "A=1\n"), BYTES(""), 0, ITEMS, BUFFER);
     CHECK(c.items == 1 && item_is(0, DOTENVY_LINE_PARSE, "", "\xEF\xBB\xBF" "A=1", 0, 1, 1));
-    c = list(BYTES("\xEF\xBB\xBF" "A=1\n"), BYTES(""), DOTENVY_DROP_MARK, ITEMS, ROOM);
+    c = list(BYTES("\xEF\xBB\xBF" "A=1\n"), BYTES(""), DOTENVY_DROP_MARK, ITEMS, BUFFER);
     CHECK(c.items == 1 && item_is(0, DOTENVY_OK, "A", "1", 0, 1, 1));
-    c = list(BYTES("\xEF\xBB\xBF\xEF\xBB\xBF" "A=1\n"), BYTES(""), DOTENVY_DROP_MARK, ITEMS, ROOM);
+    c = list(BYTES("\xEF\xBB\xBF\xEF\xBB\xBF" "A=1\n"), BYTES(""), DOTENVY_DROP_MARK, ITEMS, BUFFER);
     CHECK(c.items == 1 && item_is(0, DOTENVY_LINE_PARSE, "", "\xEF\xBB\xBF" "A=1", 0, 1, 1));
-    c = list(BYTES("A=1\n"), BYTES(""), DOTENVY_DROP_MARK | DOTENVY_NEXT_DIALECT, ITEMS, ROOM);
+    c = list(BYTES("A=1\n"), BYTES(""), DOTENVY_DROP_MARK | DOTENVY_NEXT_DIALECT, ITEMS, BUFFER);
     CHECK(c.items == 1 && item_is(0, DOTENVY_OK, "A", "1", 0, 1, 1));
 }
 
@@ -252,7 +254,7 @@ static void test_refused_memory(void) {
     size_t first_of_load = 0, first_of_items = 0;
     for (refuse_at = 1;; refuse_at++) {
         requests = 0;
-        struct dotenvy_answer a = load(BYTES(file), BYTES(block), 0, ROOM);
+        struct dotenvy_answer a = load(BYTES(file), BYTES(block), 0, BUFFER);
         CHECK(blocks == 0);
         if (requests < refuse_at) {
             CHECK(a.fits && a.status == DOTENVY_LINE_PARSE);
@@ -264,7 +266,7 @@ static void test_refused_memory(void) {
     }
     for (refuse_at = 1;; refuse_at++) {
         requests = 0;
-        struct dotenvy_counts c = list(BYTES(file), BYTES(block), 0, ITEMS, ROOM);
+        struct dotenvy_counts c = list(BYTES(file), BYTES(block), 0, ITEMS, BUFFER);
         CHECK(blocks == 0);
         if (requests < refuse_at) {
             CHECK(c.fits && c.status == DOTENVY_OK && c.items == 4);
@@ -287,10 +289,10 @@ static uint64_t number_at(const void *from, size_t at, size_t size) {
 
 /* The bytes that the archive writes, read at the offsets of bindings/layout.txt and not by the header's structs. */
 static void test_layout_of_archive(void) {
-    struct dotenvy_answer a = load(BYTES("B=$A\nC=x y\n"), BYTES("A=9"), 0, ROOM);
+    struct dotenvy_answer a = load(BYTES("B=$A\nC=x y\n"), BYTES("A=9"), 0, BUFFER);
     CHECK(sizeof a == 32 && number_at(&a, 0, 4) == 1 && number_at(&a, 4, 1) == 1 && number_at(&a, 8, 8) == 2);
     CHECK(number_at(&a, 16, 8) == 8 && number_at(&a, 24, 8) == 3);
-    struct dotenvy_counts c = list(BYTES("\nAB=cde\nC=x y\n\n"), BYTES(""), 0, ITEMS, ROOM);
+    struct dotenvy_counts c = list(BYTES("\nAB=cde\nC=x y\n\n"), BYTES(""), 0, ITEMS, BUFFER);
     CHECK(sizeof c == 24 && number_at(&c, 0, 4) == 0 && number_at(&c, 4, 1) == 1 && number_at(&c, 8, 8) == 2);
     CHECK(number_at(&c, 16, 8) == 8);
     const uint8_t *second = (const uint8_t *)items + 56;

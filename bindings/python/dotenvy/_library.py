@@ -55,16 +55,16 @@ def _open() -> ctypes.CDLL:
         raise ImportError(f"{path} is missing: bindings/build.sh builds it")
     library = ctypes.CDLL(str(path))
     bytes_in = [ctypes.c_char_p, ctypes.c_size_t]
-    room = [ctypes.c_char_p, ctypes.c_size_t]
+    buffer = [ctypes.c_char_p, ctypes.c_size_t]
     library.dotenvy_is_key.restype = ctypes.c_bool
     library.dotenvy_is_key.argtypes = bytes_in
     library.dotenvy_version.restype = ctypes.c_uint32
     library.dotenvy_version.argtypes = []
     library.dotenvy_load.restype = Answer
-    library.dotenvy_load.argtypes = [*bytes_in, *bytes_in, ctypes.c_uint32, *room]
+    library.dotenvy_load.argtypes = [*bytes_in, *bytes_in, ctypes.c_uint32, *buffer]
     library.dotenvy_items.restype = Counts
     library.dotenvy_items.argtypes = [
-        *bytes_in, *bytes_in, ctypes.c_uint32, ctypes.POINTER(Item), ctypes.c_size_t, *room
+        *bytes_in, *bytes_in, ctypes.c_uint32, ctypes.POINTER(Item), ctypes.c_size_t, *buffer
     ]
     return library
 
@@ -128,14 +128,14 @@ def version() -> int:
 
 def load(file: bytes, block: bytes, options: int = 0) -> Loaded:
     """Loads a file over the environment of a block."""
-    room = 2 * (len(file) + len(block)) + 64
+    size = 2 * (len(file) + len(block)) + 64
     while True:
-        out = ctypes.create_string_buffer(room)
-        answer = _library.dotenvy_load(file, len(file), block, len(block), options, out, room)
+        out = ctypes.create_string_buffer(size)
+        answer = _library.dotenvy_load(file, len(file), block, len(block), options, out, size)
         _refuse(answer.status)
         if answer.fits:
             break
-        room = answer.block_len + answer.text_len
+        size = answer.block_len + answer.text_len
     written = ctypes.string_at(out, answer.block_len + answer.text_len)
     left = pairs_of(written[: answer.block_len])
     return Loaded(answer.status, left, written[answer.block_len :], answer.index)
@@ -143,16 +143,16 @@ def load(file: bytes, block: bytes, options: int = 0) -> Loaded:
 
 def items(file: bytes, block: bytes, options: int = 0) -> list[Record]:
     """The items of a file under the environment of a block."""
-    count, room = file.count(b"\n") + 1, 2 * len(file) + 64
+    count, size = file.count(b"\n") + 1, 2 * len(file) + 64
     while True:
-        found, out = (Item * count)(), ctypes.create_string_buffer(room)
+        found, out = (Item * count)(), ctypes.create_string_buffer(size)
         counts = _library.dotenvy_items(
-            file, len(file), block, len(block), options, found, count, out, room
+            file, len(file), block, len(block), options, found, count, out, size
         )
         _refuse(counts.status)
         if counts.fits:
             break
-        count, room = counts.items, counts.text_len
+        count, size = counts.items, counts.text_len
     written = ctypes.string_at(out, counts.text_len)
     fields = _ITEM.iter_unpack(ctypes.string_at(found, counts.items * _ITEM.size))
     return [

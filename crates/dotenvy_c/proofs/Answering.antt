@@ -12,7 +12,7 @@ use Rattle.dotenvy_c.specs.Options.{dialect_of, rule_of}
 use Rattle.dotenvy_c.specs.Told.{Told, outcome_told}
 use Rattle.dotenvy_c.specs.declared.load.Loaded.{Loaded}
 use Rattle.dotenvy_c.specs.Load.{AnswersLoad, IsLoaded, LoadsFile}
-use Rattle.dotenvy_c.specs.Room.{written_if}
+use Rattle.dotenvy_c.specs.Buffer.{written_if}
 
 -- what is to be written of a load, written where it fits, answers the load
 pub answered : {options : ℕ} {file block : List ℕ} {loaded : Loaded} →
@@ -27,7 +27,7 @@ pub answered : {options : ℕ} {file block : List ℕ} {loaded : Loaded} →
       text_len = loaded.text_len;
     })
     old new
-answered is fits bytes old new same room written = record {
+answered is fits bytes old new same wide written = record {
   names = is.names;
   told = is.told;
   loads = is.loads;
@@ -35,7 +35,7 @@ answered is fits bytes old new same room written = record {
   index = is.index;
   block_len = is.block_len;
   text_len = is.text_len;
-  fits = subst (λ b. IsTrue fits ↔ (length b ≤ length old)) (same ∙ is.bytes) room;
+  fits = subst (λ b. IsTrue fits ↔ (length b ≤ length old)) (same ∙ is.bytes) wide;
   written = written ∙ ap (λ b. written_if fits b old) (same ∙ is.bytes);
 }
 

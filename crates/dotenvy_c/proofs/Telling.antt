@@ -11,7 +11,7 @@ use Rattle.dotenvy_c.specs.declared.items.Records.{Records}
 use Rattle.dotenvy_c.specs.Block.{block_names}
 use Rattle.dotenvy_c.specs.File.{fresh_file}
 use Rattle.dotenvy_c.specs.Options.{bytes_of, dialect_of}
-use Rattle.dotenvy_c.specs.Room.{written_if}
+use Rattle.dotenvy_c.specs.Buffer.{written_if}
 use Rattle.dotenvy_c.specs.Items.{AddsItem, AnswersItems, HasRecords, TellsItem, TellsItems, ToldItem}
 use Rattle.dotenvy_c.specs.Items.{record_at, records_from, text_of, texts_of}
 
@@ -111,7 +111,7 @@ pub answered_items : {options : ℕ} {file block : List ℕ} {records : Records}
     new_items ≡ written_if fits records.items.items old_items → new ≡ written_if fits records.text.items old →
     AnswersItems options file block
     (record { status = 0; fits = fits; items = count; text_len = text_len }) old_items new_items old new
-answered_items {records = records} has fits count text_len old_items new_items old new counted measured room items
+answered_items {records = records} has fits count text_len old_items new_items old new counted measured wide items
     texts =
     let size = ap length has.items ∙ length-records_from 0 has.told in record {
       told = has.told;
@@ -122,7 +122,7 @@ answered_items {records = records} has fits count text_len old_items new_items o
       fits =
           subst (λ n. IsTrue fits ↔ ((n ≤ length old_items) × (length (texts_of has.told) ≤ length old))) size
           (subst (λ t. IsTrue fits
-          ↔ ((length records.items.items ≤ length old_items) × (length t ≤ length old))) has.text room);
+          ↔ ((length records.items.items ≤ length old_items) × (length t ≤ length old))) has.text wide);
       records = items ∙ ap (λ rs. written_if fits rs old_items) has.items;
       texts = texts ∙ ap (λ t. written_if fits t old) has.text;
     }

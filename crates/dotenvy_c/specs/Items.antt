@@ -12,7 +12,7 @@ use Rattle.dotenvy_c.specs.declared.items.Records.{Records}
 use Rattle.dotenvy_c.specs.Block.{block_names}
 use Rattle.dotenvy_c.specs.File.{fresh_file}
 use Rattle.dotenvy_c.specs.Options.{bytes_of, dialect_of}
-use Rattle.dotenvy_c.specs.Room.{written_if}
+use Rattle.dotenvy_c.specs.Buffer.{written_if}
 use Rattle.dotenvy_c.specs.Told.{Told, item_told}
 
 -- what C is told of an item, and the first and the last physical line that it is on
@@ -81,7 +81,7 @@ pub record AddsItem (item : Item Global) (lines : ℕ × ℕ) (old new : Records
   pub adds : AddsTold (told, lines) old new
 
 -- the answer to a call for the items of a file under the environment of a block: their records and
--- their texts stand in the rooms where both fit, and their numbers are told
+-- their texts stand in the buffers where both fit, and their numbers are told
 pub record AnswersItems (options : ℕ) (file block : List ℕ) (counts : Counts)
     (old_items new_items : List rust.Item) (old new : List ℕ) : Type 0 where
   pub told : List ToldItem

@@ -1,9 +1,9 @@
 pub mod Block
+pub mod Buffer
 pub mod File
 pub mod Items
 pub mod Laws
 pub mod Load
 pub mod Options
-pub mod Room
 pub mod Said
 pub mod Told

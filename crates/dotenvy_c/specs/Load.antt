@@ -9,7 +9,7 @@ use Rattle.dotenvy_c.specs.declared.load.Loaded.{Loaded}
 use Rattle.dotenvy_c.specs.Block.{FitsBlock, block_names, block_of}
 use Rattle.dotenvy_c.specs.File.{fresh_file}
 use Rattle.dotenvy_c.specs.Options.{dialect_of, rule_of}
-use Rattle.dotenvy_c.specs.Room.{written_if}
+use Rattle.dotenvy_c.specs.Buffer.{written_if}
 use Rattle.dotenvy_c.specs.Told.{Told, outcome_told}
 
 -- nothing was written, for the reason that this status names
@@ -40,7 +40,7 @@ pub record IsLoaded (options : ℕ) (file block : List ℕ) (loaded : Loaded) : 
   pub index : loaded.index ≡ told.index
 
 -- the answer to a load: the block of the names that it leaves, and the text of its error, stand in
--- the room where they fit, and their lengths are told
+-- the buffer where they fit, and their lengths are told
 pub record AnswersLoad (options : ℕ) (file block : List ℕ) (answer : Answer) (old new : List ℕ)
     : Type 0 where
   pub names : Texts

@@ -6,26 +6,26 @@ ghost use Rattle.dotenvy_c.specs.Block.{block_names};
 ghost use Rattle.dotenvy_c.specs.File.{fresh_file};
 ghost use Rattle.dotenvy_c.specs.Items.{AddsItem, AddsTold, AnswersItems, HasRecords, refused_items};
 ghost use Rattle.dotenvy_c.specs.Options.{are_among, bytes_of, dialect_of};
-ghost use Rattle.dotenvy_c.specs.Room.{written_if};
+ghost use Rattle.dotenvy_c.specs.Buffer.{written_if};
 ghost use Rattle.dotenvy_c.specs.Told.{told_of};
 
 use crate::block::environment_of;
 use crate::options::{DROP_MARK, NEXT_DIALECT, are_among, dialect_of, has_option};
-use crate::room::write_front;
+use crate::buffer::write_front;
 use crate::status::{BAD_OPTION, DONE, NO_MEMORY, Told, item_told};
 use dotenvy::{Bytes, Environment, Error, Iter, Result};
 use std::alloc::{AllocError, Global};
 
 const BYTE_ORDER_MARK: [u8; 3] = [0xef, 0xbb, 0xbf];
 
-/// An item of a file: a pair, or an error in its place. Its key and its text are in the room for texts, one after the
-/// other.
+/// An item of a file: a pair, or an error in its place. Its key and its text are in the buffer for texts, one after
+/// the other.
 #[repr(C)]
 #[derive(Clone, Copy, Drop)]
 pub struct Item {
     /// 0 for a pair, or which error.
     pub status: u32,
-    /// Where the key begins in the room for texts; the text begins after it.
+    /// Where the key begins in the buffer for texts; the text begins after it.
     pub key_at: usize,
     /// How many bytes the key takes: none for an error.
     pub key_len: usize,
@@ -39,7 +39,7 @@ pub struct Item {
     pub last_line: u64,
 }
 
-/// How many items a file has, and how much room they take.
+/// How many items a file has, and how many bytes their keys and texts take.
 #[repr(C)]
 #[derive(Drop)]
 pub struct Counts {
@@ -144,7 +144,7 @@ fn records_over(alloc: Global, file: &[u8], block: &[u8], options: u32) -> Resul
     records_of(alloc, file, &environment)
 }
 
-// Writes records and texts to the fronts of their rooms, where both have place for them, and tells whether they have.
+// Writes records and texts to the fronts of their buffers, where both fit, and tells whether they do.
 fn write_if_both_fit(records: &Records, items: &mut [Item], out: &mut [u8]) -> bool
     ensures fits { IsTrue result ↔ ((length records.now.items.items ≤ length items.old)
         × (length records.now.text.items ≤ length out.old)) }
@@ -162,8 +162,8 @@ fn write_if_both_fit(records: &Records, items: &mut [Item], out: &mut [u8]) -> b
 /// Writes the items of a file under the environment of a block: its pairs and its errors, in order. A name that a value
 /// mentions means its value in the block, else the last one declared before it (docs/GRAMMAR.md, "What a name means").
 ///
-/// Where `items` has no room for all of them, or `out` none for their keys and texts, nothing is written, and the
-/// counts tell how much room they take.
+/// Where `items` is too short for all of them, or `out` for their keys and texts, nothing is written, and the counts
+/// tell how long both have to be.
 #[unsafe(no_mangle)]
 pub extern "C" fn dotenvy_items(
     alloc: Global,

@@ -4,10 +4,10 @@
 #![tactic(auto)]
 
 pub mod block;
+pub mod buffer;
 pub mod calls;
 pub mod items;
 pub mod laws;
 pub mod load;
 pub mod options;
-pub mod room;
 pub mod status;

@@ -6,11 +6,11 @@ ghost use Rattle.dotenvy.specs.Iter.{IsOpen};
 ghost use Rattle.dotenvy.specs.LoadsRest.{ChangesKeys, LoadsRest};
 ghost use Rattle.dotenvy_c.specs.Options.{are_among, dialect_of, rule_of};
 ghost use Rattle.dotenvy_c.specs.Load.{AnswersLoad, IsLoaded, refusal};
-ghost use Rattle.dotenvy_c.specs.Room.{written_if};
+ghost use Rattle.dotenvy_c.specs.Buffer.{written_if};
 
 use crate::block::{block_of, environment_of};
 use crate::options::{NEXT_DIALECT, OVERRIDE, are_among, dialect_of, has_option};
-use crate::room::write_front;
+use crate::buffer::write_front;
 use crate::status::{BAD_OPTION, NO_MEMORY, outcome_told};
 use dotenvy::{Bytes, Environment, Error, Iter, Result};
 use std::alloc::{AllocError, Global};
@@ -54,7 +54,7 @@ fn refusal(status: u32) -> Answer
     }
 }
 
-// Writes bytes to the front of the room, where it has place for them, and tells whether it has.
+// Writes bytes to the front of the buffer, where they fit, and tells whether they do.
 fn write_if_fits(out: &mut [u8], bytes: &[u8]) -> bool
     ensures fits { IsTrue result ↔ (length bytes.now ≤ length out.old) }
     ensures written { out.new ≡ written_if result bytes.now out.old }
@@ -105,7 +105,7 @@ fn load_over(alloc: Global, file: &[u8], block: &[u8], options: u32) -> Result<L
 /// Loads a file over the environment of a block, and writes the new block, and after it the text of the error, to
 /// `out`. docs/GRAMMAR.md, "Loading", says what a load does; it stops at the first error, and what is before it counts.
 ///
-/// Where `out` has no room for both, nothing is written, and the answer tells how long both are.
+/// Where `out` is too short for both, nothing is written, and the answer tells how long both are.
 #[unsafe(no_mangle)]
 pub extern "C" fn dotenvy_load(
     alloc: Global,
