@@ -1,18 +1,8 @@
 -- Facts on tests, options and lists that many proofs use.
 use Rattle.std.proofs.Common.{◌≡◌, ◌≢◌, ℕ, ◌<◌, List, [], ◌∷◌, ◌++◌, length, ap, sym, ◌∙◌, Bool}
-use Rattle.std.proofs.Common.{true, false, cond, ◌&&◌, not, Option, Some, T, refl, arith}
+use Rattle.std.proofs.Common.{true, false, ◌&&◌, T, refl, arith}
 use Rattle.std.specs.Prelude.{◌==◌, IfOk, Result, Ok, Err}
 use Rattle.std.proofs.lemmas.Bool.Decides.{nat_tests}
-
--- where two tests both hold, the first holds
-pub and_left : (a b : Bool) → (a && b) ≡ true → a ≡ true
-and_left true b h = refl
-and_left false b h = cc
-
--- where two tests both hold, the second holds
-pub and_right : (a b : Bool) → (a && b) ≡ true → b ≡ true
-and_right true b h = h
-and_right false b h = cc
 
 -- of two things that hold together, the first holds
 pub left_holds : (a b : Bool) → T (a && b) → T a
@@ -28,20 +18,6 @@ right_holds false b h = absurd h
 pub both_hold : (a b : Bool) → T a → T b → T (a && b)
 both_hold true b p q = q
 both_hold false b p q = p
-
--- options that are equal and hold something hold the same
-pub some_same : {A : Type 0} (x y : A) → ◌≡◌ {A = Option A} (Some x) (Some y) → x ≡ y
-some_same x y h = cc
-
--- a test whose negation is false holds
-pub not_false : (b : Bool) → not b ≡ false → b ≡ true
-not_false true h = refl
-not_false false h = cc
-
--- a choice whose test holds is its first answer
-pub if_true : {A : Type 0} (x y : A) (b : Bool) → b ≡ true → cond b x y ≡ x
-if_true x y true h = refl
-if_true x y false h = cc
 
 -- a list without length has nothing
 pub nil_of : (xs : List ℕ) → length xs ≡ 0 → xs ≡ []

@@ -1,17 +1,17 @@
 -- The pairs of an environment are good ones, each by itself.
-use Rattle.std.proofs.Common.{◌≡◌, ℕ, cond, List, [], ◌∷◌, T, refl, sym, ◌∙◌, ap}
+use Rattle.std.proofs.Common.{◌≡◌, ℕ, cond, List, [], ◌∷◌, T, refl, ◌∙◌}
 use Rattle.std.proofs.lemmas.Option.{none-some}
 use Rattle.std.proofs.lemmas.Cmp.{nat_list_cmp_total}
-use Rattle.std.specs.Prelude.{Some, None, ◌&&◌, IsTrue}
-use Rattle.std.specs.List.{list_all}
+use Rattle.std.specs.Prelude.{Some, None, IsTrue}
 use Rattle.std.specs.Ordering.{is_eq, is_lt, nat_cmp, ordering_reverse}
 use Rattle.std.specs.Cmp.Lexicographic.{slice_cmp}
 use Rattle.std.specs.FinMap.{find, entries, is_sorted, entries_sorted, get-entries}
-use Rattle.std.specs.FinMap.{nat_cmp-IsAntisymmetric, slice_cmp-IsAntisymmetric}
 use Rattle.std.specs.FinMap.Entries.{below_all}
 use Rattle.std.specs.declared.cmp.Ordering.TheVariants.{Less, Equal, Greater}
-use Rattle.dotenvy_base.specs.Environment.{Env, IsEnvironment, AreGood, name_ok, value_ok, pair_ok}
-use Rattle.dotenvy_base.proofs.Basics.{and_left, and_right, left_holds, right_holds}
+use Rattle.dotenvy_base.specs.Environment.{Env, IsEnvironment, AreGood, name_ok, value_ok}
+use Rattle.dotenvy_base.proofs.Basics.{left_holds, right_holds}
+use Rattle.dotenvy_base.proofs.TextMaps.{by_name}
+use Rattle.std.proofs.lemmas.Bool.{and_parts, and_from}
 
 -- a name ties with itself
 ties_itself : (name : List ℕ) → slice_cmp nat_cmp name name ≡ Equal
@@ -35,15 +35,8 @@ found_later : (first : List ℕ × List ℕ) (pairs : List (List ℕ × List ℕ
     T (below_all (slice_cmp nat_cmp) first.0 pairs) → find (slice_cmp nat_cmp) name pairs ≡ Some value →
     find (slice_cmp nat_cmp) name (first ∷ pairs) ≡ Some value
 found_later first pairs name value below found =
-    elim (slice_cmp nat_cmp name first.0) as (λ r. slice_cmp nat_cmp name first.0 ≡ r →
-    cond (is_eq r) (Some first.1) (find (slice_cmp nat_cmp) name pairs) ≡ Some value) [
-      | Less ↦ λ e. found
-      | Equal ↦ λ e.
-          let same = slice_cmp-IsAntisymmetric nat_cmp-IsAntisymmetric name first.0 e in
-          let none = ap (λ n. find (slice_cmp nat_cmp) n pairs) same ∙ below_none first.0 pairs below in
-          absurd (none-some value (sym none ∙ found))
-      | Greater ↦ λ e. found
-    ] refl
+    by_name (λ b. cond b (Some first.1) (find (slice_cmp nat_cmp) name pairs) ≡ Some value) name first.0
+    (λ same. absurd (none-some value (rw (same, below_none first.0 pairs below) at found))) found
 
 -- where each look-up gives a good pair, each pair is good
 all_good : (pairs : List (List ℕ × List ℕ)) → T (is_sorted (slice_cmp nat_cmp) pairs) →
@@ -52,14 +45,10 @@ all_good : (pairs : List (List ℕ × List ℕ)) → T (is_sorted (slice_cmp nat
     AreGood pairs
 all_good [] sorted good = refl
 all_good (pair ∷ pairs) sorted good =
-    let below = left_holds _ _ sorted in
-    let found = ap (λ r. cond (is_eq r) (Some pair.1) (find (slice_cmp nat_cmp) pair.0 pairs)) (ties_itself pair.0) in
-    let own = good pair.0 pair.1 found in
-    let later =
-    all_good pairs (right_holds _ _ sorted) (λ name value is. good name value
-    (found_later pair pairs name value below is)) in
-    ap (λ b. (b && value_ok pair.1) && list_all pair_ok pairs) own.0
-    ∙ ap (λ b. b && list_all pair_ok pairs) own.1 ∙ later
+    let own = good pair.0 pair.1 (rw (ties_itself pair.0) refl) in
+    let later = all_good pairs (right_holds _ _ sorted)
+    (λ name value is. good name value (found_later pair pairs name value (left_holds _ _ sorted) is)) in
+    and_from _ _ (and_from _ _ own.0 own.1) later
 
 -- the pairs of an environment are good
 pub good_entries : (env : Env) → IsEnvironment env → AreGood (entries env.names)
@@ -70,12 +59,9 @@ good_entries env good =
 -- the first of good pairs has a good name
 pub first_is_good : (name value : List ℕ) (pairs : List (List ℕ × List ℕ)) → AreGood ((name, value) ∷ pairs) →
     IsTrue (name_ok name)
-first_is_good name value pairs good = and_left (name_ok name) (value_ok value) (and_left (pair_ok (
-  name,
-  value,
-)) (list_all pair_ok pairs) good)
+first_is_good name value pairs good = (and_parts _ _ (and_parts _ _ good).0).0
 
 -- where pairs are good, so are those after the first
 pub others_are_good : (name value : List ℕ) (pairs : List (List ℕ × List ℕ)) → AreGood ((name, value) ∷ pairs) →
     AreGood pairs
-others_are_good name value pairs good = and_right (pair_ok (name, value)) (list_all pair_ok pairs) good
+others_are_good name value pairs good = (and_parts _ _ good).1

@@ -2,7 +2,7 @@
 use denote.Enum.Bare.{sameb}
 use Rattle.std.specs.contracts.io.ErrorKind.{the_type}
 use Rattle.std.proofs.Common.{◌≡◌, ℕ, suc, ◌<◌, Bool, true, false, not, cond, List, [], ◌∷◌, ◌++◌}
-use Rattle.std.proofs.Common.{map, Option, Some, None, Result, Ok, Err, refl, sym, ◌∙◌, ap, subst}
+use Rattle.std.proofs.Common.{map, Option, Some, None, Result, Ok, Err, refl, sym, ◌∙◌, ap}
 use Rattle.std.proofs.Common.{inl, inr, arith, length}
 use Rattle.std.specs.Prelude.{◌⊎◌, IsTrue}
 use Rattle.std.specs.Option.{option_map}
@@ -22,7 +22,7 @@ use Rattle.dotenvy_base.specs.Search.{path_in, parent_of, Ascends, is_not_found,
 use Rattle.dotenvy_base.specs.Search.{AreAsked, Answer, FoundAt, FoundNowhere, EndedBy}
 use Rattle.dotenvy_base.specs.Search.{search_answer, Searches}
 use Rattle.dotenvy_base.specs.Find.{LookStep, AsksInTurn, AnswersSearch, Finds, IsPathOf}
-use Rattle.dotenvy_base.proofs.Basics.{if_true, not_false}
+use Rattle.std.proofs.lemmas.Bool.{cond-true, not-false, not-true}
 use Rattle.dotenvy_base.proofs.SearchOnce.{ascent_exists, search_exists, parent_shorter}
 
 -- the code's test of a kind
@@ -33,16 +33,12 @@ same_kind _ = refl
 -- the code's test whether a fault ends the search
 pub ends_by_test : (fault : IoError) (kind : ErrorKind) (test : Bool) → kind ≡ error_kind fault →
     test ≡ not (sameb the_type kind NotFound) → ends_search (Fault fault) ≡ test
-ends_by_test fault kind test k t = ap (λ x. not (is_not_found x)) (sym k) ∙ sym (t ∙ ap not (same_kind kind))
+ends_by_test fault kind test k t = rw (← k, t, same_kind kind) refl
 
 -- a fault that ends the search is its answer
 pub answers_fault : (A : Type 0) (fault : IoError) → ends_search (Fault fault) ≡ true →
     AnswersSearch {A = A} (cond (is_not_found (error_kind fault)) FoundNowhere (EndedBy fault)) (Err (Io fault))
-answers_fault A fault h = at (is_not_found (error_kind fault)) h
-  where
-    at : (b : Bool) → not b ≡ true → AnswersSearch {A = A} (cond b FoundNowhere (EndedBy fault)) (Err (Io fault))
-    at true e = absurd (let f : false ≡ true = e in cc)
-    at false e = refl
+answers_fault A fault h = rw (not-true _ h) refl
 
 -- the directories begin with the first
 ascends_first : (directory first : List ℕ) (others : List (List ℕ)) →
@@ -55,14 +51,14 @@ ascends_more : (directory parent : List ℕ) (above : List (List ℕ)) → paren
     Ascends parent above → Ascends directory (directory ∷ above)
 ascends_more directory parent [] e h = absurd h
 ascends_more directory parent (first ∷ others) e h = let f = ascends_first parent first others h in
-    (refl, e ∙ ap Some (sym f), subst (λ d. Ascends d (first ∷ others)) (sym f) h)
+    (refl, rw f e, rw f h)
 
 -- what doesn't end a search doesn't answer it
 answer_past : (path : List ℕ) (look : Look) (asked : List (List ℕ × Look)) → ends_search look ≡ false →
     search_answer ((path, look) ∷ asked) ≡ search_answer asked
 answer_past path File asked h = cc
 answer_past path Other asked h = refl
-answer_past path (Fault fault) asked h = if_true _ _ (is_not_found (error_kind fault)) (not_false _ h)
+answer_past path (Fault fault) asked h = cond-true _ _ _ (not-false _ h)
 
 -- what is still to be asked, from a directory on or from none
 abbrev pub SearchesOn : Option (List ℕ) → List ℕ → List (List ℕ × Look) → Answer → Type 0
@@ -100,82 +96,72 @@ no_calls step look = record { calls = []; are_asked = refl; steps = refl }
 one_call : {F : Type 0} (step : LookStep F) (before after : F) (path : Path) (look : Look) (asked : List ℕ) →
     step before path look after → path_bytes path ≡ asked → AsksInTurn step before ((asked, look) ∷ []) after
 one_call step before after path look asked call p =
-    record { calls = (path, look) ∷ []; are_asked = ap (λ q. (q, look) ∷ []) (sym p); steps = (after, call, refl) }
+    record { calls = (path, look) ∷ []; are_asked = rw p refl; steps = (after, call, refl) }
 
-module _ {F : Type 0} (step : LookStep F) (start : F) (directory name : List ℕ) where
-  -- so far the search was asked: what is asked from here on completes it
-  pub record Asking (above : Option (List ℕ)) (look : F) : Type 0 where
-    pub completes : (asked later : List (List ℕ × Look)) (answer : Answer) (end : F) →
-        SearchesOn above name (asked ++ later) answer → AsksInTurn step look asked end →
-        (front : List (List ℕ × Look)) ×
-        Searches directory name (front ++ later) answer × AsksInTurn step start front end
+-- so far the search was asked: what is asked from here on completes it
+pub record Asking {F : Type 0} (step : LookStep F) (start : F) (directory name : List ℕ) (above : Option (List ℕ))
+    (look : F) : Type 0 where
+  pub completes : (asked later : List (List ℕ × Look)) (answer : Answer) (end : F) →
+      SearchesOn above name (asked ++ later) answer → AsksInTurn step look asked end →
+      (front : List (List ℕ × Look)) ×
+      Searches directory name (front ++ later) answer × AsksInTurn step start front end
 
+module _ {F : Type 0} {step : LookStep F} {start : F} {directory name : List ℕ} where
   -- at a directory the candidate was asked for and the search goes on
-  pub asking_on : (place : List ℕ) (above : Option (List ℕ)) (before after : F) (path : Path) (look : Look) →
-      Asking (Some place) before → path_bytes path ≡ path_in place name → step before path look after →
-      parent_of place ≡ above → ends_search look ≡ false → Asking above after
-  asking_on place above before after path look asking p call e h = record {
+  pub asking_on : {place : List ℕ} {above : Option (List ℕ)} {before after : F} {path : Path} {look : Look} →
+      Asking step start directory name (Some place) before → path_bytes path ≡ path_in place name →
+      step before path look after → parent_of place ≡ above → ends_search look ≡ false →
+      Asking step start directory name above after
+  asking_on {place} {above} {path = path} {look} asking p call e h = record {
     completes = λ asked later answer end s a.
         asking.completes ((path_in place name, look) ∷ asked) later answer end
-        (searches_past place name above look (asked ++ later) answer e h s)
-        (one_more asked end a);
+        (searches_past place name above look (asked ++ later) answer e h s) (record {
+          calls = (path, look) ∷ a.calls;
+          are_asked = rw (p, a.are_asked) refl;
+          steps = (_, call, a.steps);
+        });
   }
-    where
-      one_more : (asked : List (List ℕ × Look)) (end : F) → AsksInTurn step after asked end →
-          AsksInTurn step before ((path_in place name, look) ∷ asked) end
-      one_more asked end a = record {
-        calls = (path, look) ∷ a.calls;
-        are_asked = ap (λ q. (q, look) ∷ asked) (sym p) ∙ ap (λ cs. (path_bytes path, look) ∷ cs) a.are_asked;
-        steps = (after, call, a.steps);
+
+  -- what was asked so far, and what was asked last, is what the search asks
+  finds : {A : Type 0} {above : Option (List ℕ)} {look end : F} {result : Result (PathBuf A) (Error A)}
+      (asked later : List (List ℕ × Look)) (answer : Answer) → Asking step start directory name above look →
+      SearchesOn above name (asked ++ later) answer → AsksInTurn step look asked end →
+      IsMemoryErr result ⊎ ((later ≡ []) × AnswersSearch answer result) → Finds step start end directory name result
+  finds asked later answer asking s a outcome =
+      let whole = asking.completes asked later answer _ s a in record {
+        asked = whole.0;
+        later = later;
+        answer = answer;
+        searches = whole.1;
+        asks = whole.2;
+        outcome = outcome;
       }
 
   -- a failed allocation cuts the search short
-  pub finds_cut : {A : Type 0} (look : F) (place : List ℕ) (result : Result (PathBuf A) (Error A)) →
-      Asking (Some place) look → IsMemoryErr result → Finds step start look directory name result
-  finds_cut look place result asking memory =
+  pub finds_cut : {A : Type 0} {look : F} {place : List ℕ} {result : Result (PathBuf A) (Error A)} →
+      Asking step start directory name (Some place) look → IsMemoryErr result →
+      Finds step start look directory name result
+  finds_cut {look = look} {place} asking memory =
       let rest = search_exists place name (λ _. Other) in
-      let whole = asking.completes [] rest.0 (search_answer rest.0) look rest.1 (no_calls step look) in
-      record {
-        asked = whole.0;
-        later = rest.0;
-        answer = search_answer rest.0;
-        searches = whole.1;
-        asks = whole.2;
-        outcome = inl memory;
-      }
+      finds [] rest.0 (search_answer rest.0) asking rest.1 (no_calls step look) (inl memory)
 
   -- what is at a candidate ends the search
-  pub finds_ended : {A : Type 0} (before after : F) (place : List ℕ) (path : Path) (look : Look)
-      (result : Result (PathBuf A) (Error A)) →
-      Asking (Some place) before → path_bytes path ≡ path_in place name → step before path look after →
-      ends_search look ≡ true → AnswersSearch (search_answer ((path_in place name, look) ∷ [])) result →
+  pub finds_ended : {A : Type 0} {before after : F} {place : List ℕ} {path : Path} {look : Look}
+      {result : Result (PathBuf A) (Error A)} → Asking step start directory name (Some place) before →
+      path_bytes path ≡ path_in place name → step before path look after → ends_search look ≡ true →
+      AnswersSearch (search_answer ((path_in place name, look) ∷ [])) result →
       Finds step start after directory name result
-  finds_ended before after place path look result asking p call h answers =
+  finds_ended {before = before} {after} {place} {path} {look} asking p call h answers =
       let last = (path_in place name, look) ∷ [] in
-      let asked = one_call step before after path look (path_in place name) call p in
-      let whole = asking.completes last [] (search_answer last) after (searches_ended place name look h) asked in
-      record {
-        asked = whole.0;
-        later = [];
-        answer = search_answer last;
-        searches = whole.1;
-        asks = whole.2;
-        outcome = inr (refl, answers);
-      }
+      finds last [] (search_answer last) asking (searches_ended place name look h)
+      (one_call step before after path look (path_in place name) call p) (inr (refl, answers))
 
   -- no directory is left
-  pub finds_none : {A : Type 0} (look : F) (result : Result (PathBuf A) (Error A)) →
-      Asking None look → AnswersSearch FoundNowhere result → Finds step start look directory name result
-  finds_none look result asking answers =
-      let whole = asking.completes [] [] FoundNowhere look (refl, refl) (no_calls step look) in
-      record {
-        asked = whole.0;
-        later = [];
-        answer = FoundNowhere;
-        searches = whole.1;
-        asks = whole.2;
-        outcome = inr (refl, answers);
-      }
+  pub finds_none : {A : Type 0} {look : F} {result : Result (PathBuf A) (Error A)} →
+      Asking step start directory name None look → AnswersSearch FoundNowhere result →
+      Finds step start look directory name result
+  finds_none {look = look} asking answers =
+      finds [] [] FoundNowhere asking (refl, refl) (no_calls step look) (inr (refl, answers))
 
 -- how much is left of the directories: more than of those above
 abbrev pub size_of : Option Path → ℕ
@@ -205,16 +191,10 @@ found_among name (d ∷ directories) ((first, File) ∷ asked) path a h =
 found_among name (d ∷ directories) ((first, Other) ∷ asked) path a h =
     found_among name directories asked path (went_on false _ _ a.1 refl) h
 found_among name (d ∷ directories) ((first, Fault fault) ∷ asked) path a h =
-    at (is_not_found (error_kind fault)) a.1 h (λ x e. found_among name directories asked path x e)
-  where
-    Others : Type 0
-    Others = AreAsked (map (λ d. path_in d name) directories) asked
-
-    at : (b : Bool) → (IsTrue (not b) × (asked ≡ [])) ⊎ (IsTrue (not (not b)) × Others) →
-        cond b (search_answer asked) (EndedBy fault) ≡ FoundAt path →
-        (Others → search_answer asked ≡ FoundAt path → IsPathOf name path) → IsPathOf name path
-    at true x e later = later (went_on false _ _ x refl) e
-    at false x e later = cc
+    elim (is_not_found (error_kind fault)) as (λ b. (IsTrue (not b) × (asked ≡ []))
+    ⊎ (IsTrue (not (not b)) × AreAsked (map (λ d. path_in d name) directories) asked) →
+    cond b (search_answer asked) (EndedBy fault) ≡ FoundAt path → IsPathOf name path)
+    [ true ↦ λ x e. found_among name directories asked path (went_on false _ _ x refl) e | false ↦ λ x e. cc ] a.1 h
 
 -- where the answer is no error, no allocation failed
 not_cut : {A Later : Type 0} (path : PathBuf A) (answer : Answer) →

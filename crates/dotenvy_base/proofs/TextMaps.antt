@@ -4,8 +4,9 @@ use Rattle.std.proofs.Common.{sym, ◌∙◌, ap, subst}
 use Rattle.std.proofs.lemmas.List.{map-append, append-nil}
 use Rattle.std.proofs.lemmas.List.Elements.{filter-append}
 use Rattle.std.specs.Option.{option_or}
-use Rattle.std.proofs.lemmas.Option.{none-some}
-use Rattle.std.specs.Prelude.{unwrap_or, string_bytes, Option, Some, None, option_map, IsTrue}
+use Rattle.std.proofs.lemmas.Option.{none-some, same_Some}
+use Rattle.std.proofs.lemmas.Bool.{and_parts}
+use Rattle.std.specs.Prelude.{string_bytes, Option, Some, None, option_map, IsTrue}
 use Rattle.std.specs.Prelude.{is_some, Result, Ok, Err, IfOk}
 use Rattle.std.specs.List.{AllByRecursion, AllZip}
 use Rattle.std.specs.List.Sorted.{IsStrictlySortedBy}
@@ -23,7 +24,7 @@ use Rattle.std.specs.FinMap.Entries.{by_order, below_all, find-put}
 use Rattle.std.specs.declared.string.String.{String}
 use Rattle.std.specs.declared.cmp.Ordering.{Ordering}
 use Rattle.std.specs.declared.cmp.Ordering.TheVariants.{Less, Equal, Greater}
-use Rattle.dotenvy_base.proofs.Basics.{and_left, and_right, both_hold}
+use Rattle.dotenvy_base.proofs.Basics.{both_hold}
 use Rattle.dotenvy_base.specs.Environment.{text_entries, Texts, Env, IsEnvironment, KeepsNames}
 use Rattle.dotenvy_base.specs.Environment.{name_ok, value_ok, pair_ok}
 
@@ -38,6 +39,14 @@ of_strings es = from_entries (text_entries es)
 -- maps that have the same for each name are the same
 same_texts : (m n : Texts) → ((q : List ℕ) → get m q ≡ get n q) → m ≡ n
 same_texts = same_map nat_list_cmp_total (slice_cmp-IsAntisymmetric nat_cmp-IsAntisymmetric)
+
+-- what holds of the test of two names where they are the same, and where they are not, holds of it
+pub by_name : (P : Bool → Type 0) (q k : List ℕ) → (q ≡ k → P true) → P false → P (is_eq (bytes_cmp q k))
+by_name P q k same other = elim (bytes_cmp q k) as (λ r. bytes_cmp q k ≡ r → P (is_eq r)) [
+  | Less ↦ λ e. other
+  | Equal ↦ λ e. same (slice_cmp-IsAntisymmetric nat_cmp-IsAntisymmetric q k e)
+  | Greater ↦ λ e. other
+] refl
 
 -- finding a name among the bytes of pairs gives the bytes of the first value whose name has these bytes
 find-texts : {A : Type 0} (q : List ℕ) (es : List (String A × String A)) →
@@ -55,36 +64,30 @@ find-texts q (e ∷ es) =
 -- what a look-up by the bytes q answers
 pub get-strings : {A : Type 0} (q : List ℕ) (es : List (String A × String A)) →
     get (of_strings es) q ≡ option_map string_bytes (lookup (is_at (λ k. bytes_cmp q (string_bytes k))) es)
-get-strings q es = get-from_entries nat_list_cmp_total (text_entries es) q ∙ find-texts q es
+get-strings q es = rw (get-from_entries nat_list_cmp_total) (find-texts q es)
 
 -- putting a pair in its place among strings, by their bytes, is putting its bytes in place among theirs
 put-texts : {A : Type 0} (k v : String A) (es : List (String A × String A)) →
     text_entries (insert_entry string_cmp es k v)
     ≡ put bytes_cmp (string_bytes k) (string_bytes v) (text_entries es)
 put-texts k v [] = refl
-put-texts k v (e ∷ es) =
-    elim (bytes_cmp (string_bytes k) (string_bytes e.0)) as
-    (λ r.
+put-texts k v (e ∷ es) = elim (bytes_cmp (string_bytes k) (string_bytes e.0)) as (λ r.
     text_entries (match_ordering r ((k, v) ∷ e ∷ es) ((e.0, v) ∷ es) (e ∷ insert_entry string_cmp es k v))
     ≡ by_order r ((string_bytes k, string_bytes v) ∷ text_entries (e ∷ es))
-    ((string_bytes e.0, string_bytes v) ∷ text_entries es) ((
-      string_bytes e.0,
-      string_bytes e.1,
-    ) ∷ put bytes_cmp (string_bytes k) (string_bytes v) (text_entries es))) [
-      | Less ↦ refl
-      | Equal ↦ refl
-      | Greater ↦ ap (λ xs. (string_bytes e.0, string_bytes e.1) ∷ xs) (put-texts k v es)
-    ]
+    ((string_bytes e.0, string_bytes v) ∷ text_entries es)
+    ((string_bytes e.0, string_bytes e.1) ∷ put bytes_cmp (string_bytes k) (string_bytes v) (text_entries es)))
+    [ Less ↦ refl | Equal ↦ refl | Greater ↦ rw (put-texts k v es) ]
 
 -- an insertion among the strings
 pub insert-strings : {A : Type 0} (k v : String A) (es : List (String A × String A)) →
     of_strings (insert_entry string_cmp es k v) ≡ insert (of_strings es) (string_bytes k) (string_bytes v)
 insert-strings k v es = same_texts _ _ (λ q.
-    get-from_entries nat_list_cmp_total _ q ∙ ap (find bytes_cmp q) (put-texts k v es)
-    ∙ find-put bytes_cmp nat_list_cmp_total q (string_bytes k) (string_bytes v) (text_entries es)
-    ∙ ap (λ o. cond (is_eq (bytes_cmp q (string_bytes k))) (Some (string_bytes v)) o)
-    (sym (get-from_entries nat_list_cmp_total (text_entries es) q))
-    ∙ sym (get-insert nat_list_cmp_total (of_strings es) (string_bytes k) (string_bytes v) q))
+    simp (
+      get-insert {X = List ℕ} nat_list_cmp_total,
+      get-from_entries {X = List ℕ} nat_list_cmp_total,
+      put-texts k v es,
+    )
+    (find-put bytes_cmp nat_list_cmp_total q (string_bytes k) (string_bytes v) (text_entries es)))
 
 -- a name that comes before those of all the pairs does so by its bytes
 below-texts : {A : Type 0} (k : String A) (es : List (String A × String A)) →
@@ -105,8 +108,8 @@ pub entries-strings : {A : Type 0} (es : List (String A × String A)) → IsStri
     entries (of_strings es) ≡ text_entries es
 entries-strings es h =
     let s = sorted-texts es h in
-    ap entries (same_texts (of_strings es) (from_sorted (text_entries es)) (λ q.
-    get-from_entries nat_list_cmp_total (text_entries es) q
+    ap entries (same_texts (of_strings es) (from_sorted (text_entries es))
+    (λ q. get-from_entries nat_list_cmp_total (text_entries es) q
     ∙ sym (get-from_sorted bytes_cmp (text_entries es) q s)))
     ∙ entries-from_sorted bytes_cmp (text_entries es) s
 
@@ -124,9 +127,7 @@ pub entries-clones : {A : Type 0} (es fs : List (String A × String A)) →
     IsStrictlySortedBy string_cmp (keys_of fs) →
     AllZip (λ p q. (string_bytes q.0 ≡ string_bytes p.0) × (string_bytes q.1 ≡ string_bytes p.1)) es fs →
     text_entries fs ≡ entries (of_strings es)
-entries-clones es fs sorted clones =
-    sym (entries-strings fs sorted)
-    ∙ ap (λ t. entries (from_entries {R = bytes_cmp} t)) (text_entries-clones es fs clones)
+entries-clones es fs sorted clones = rw (← text_entries-clones es fs clones) (sym (entries-strings fs sorted))
 
 -- no name at all is good
 pub good-empty : (loaded : Bool) → IsEnvironment (record { names = from_entries []; loaded = loaded })
@@ -137,32 +138,16 @@ pub good-insert : (m : Texts) (loaded : Bool) (k v : List ℕ) →
     IsEnvironment (record { names = m; loaded = loaded }) → IsTrue (name_ok k) → IsTrue (value_ok v) →
     IsEnvironment (record { names = insert m k v; loaded = loaded })
 good-insert m loaded k v good name value q w found =
-    elim (bytes_cmp q k) as
-    (λ r.
-    bytes_cmp q k ≡ r → cond (is_eq r) (Some v) (get m q) ≡ Some w → IsTrue (name_ok q) × IsTrue (value_ok w)) [
-      | Less ↦ λ p e. good q w e
-      | Equal ↦
-          λ p e. (
-            subst (λ x. IsTrue (name_ok x)) (sym (slice_cmp-IsAntisymmetric nat_cmp-IsAntisymmetric q k p)) name,
-            subst (λ x. IsTrue (value_ok x)) (ap (λ o. unwrap_or o v) e) value,
-          )
-      | Greater ↦ λ p e. good q w e
-    ] refl (sym (get-insert nat_list_cmp_total m k v q) ∙ found)
+    by_name (λ b. cond b (Some v) (get m q) ≡ Some w → IsTrue (name_ok q) × IsTrue (value_ok w)) q k
+    (λ same e. (rw same name, rw (same_Some v w e) at value)) (good q w)
+    (rw (get-insert nat_list_cmp_total m k v q) at found)
 
 -- a new name leaves the others
 pub keeps_insert : (m n : Texts) (k v : List ℕ) → KeepsNames m n → is_some (get n k) ≡ false →
     KeepsNames m (insert n k v)
 keeps_insert m n k v keeps absent q there =
-    get-insert nat_list_cmp_total n k v q
-    ∙ elim (bytes_cmp q k) as (λ r. bytes_cmp q k ≡ r → cond (is_eq r) (Some v) (get n q) ≡ get m q) [
-      | Less ↦ λ p. keeps q there
-      | Equal ↦ λ p.
-          let same : q ≡ k = slice_cmp-IsAntisymmetric nat_cmp-IsAntisymmetric q k p in
-          let was : is_some (get n k) ≡ true =
-          ap (λ x. is_some (get n x)) (sym same) ∙ ap is_some (keeps q there) ∙ there in
-          absurd (subst T (sym was ∙ absent) tt)
-      | Greater ↦ λ p. keeps q there
-    ] refl
+    rw (get-insert nat_list_cmp_total n k v q) (by_name (λ b. cond b (Some v) (get n q) ≡ get m q) q k
+    (λ same. let f : is_some (get m q) ≡ false = rw (← keeps q there, same) absent in cc) (keeps q there))
 
 -- among pairs and more pairs a name has what it has among the first, else what it has among the second
 find-append_all : (q : List ℕ) (es fs : List (List ℕ × List ℕ)) →
@@ -189,32 +174,16 @@ option_or-none (Some x) = refl
 -- a name that is there already adds nothing at the end
 find_again : (es : List (List ℕ × List ℕ)) (k v q : List ℕ) → is_some (find bytes_cmp k es) ≡ true →
     find bytes_cmp q (es ++ (k, v) ∷ []) ≡ find bytes_cmp q es
-find_again es k v q there =
-    find-append_all q es ((k, v) ∷ [])
-    ∙ elim (bytes_cmp q k) as
-    (λ r.
-    bytes_cmp q k ≡ r → option_or (find bytes_cmp q es) (cond (is_eq r) (Some v) None) ≡ find bytes_cmp q es) [
-      | Less ↦ λ p. option_or-none (find bytes_cmp q es)
-      | Equal ↦
-          λ p.
-          option_or-some (find bytes_cmp q es) (Some v) (ap (λ x. is_some (find bytes_cmp x es))
-          (slice_cmp-IsAntisymmetric nat_cmp-IsAntisymmetric q k p) ∙ there)
-      | Greater ↦ λ p. option_or-none (find bytes_cmp q es)
-    ] refl
+find_again es k v q there = rw (find-append_all q es ((k, v) ∷ []))
+    (by_name (λ b. option_or (find bytes_cmp q es) (cond b (Some v) None) ≡ find bytes_cmp q es) q k
+    (λ same. option_or-some _ _ (rw same there)) (option_or-none _))
 
 -- the map of pairs keeps the first value of a name
 pub from_entries_again : (es : List (List ℕ × List ℕ)) (k v : List ℕ) →
     is_some (get (from_entries {R = bytes_cmp} es) k) ≡ true →
     from_entries {R = bytes_cmp} (es ++ (k, v) ∷ []) ≡ from_entries es
-from_entries_again es k v there = same_texts _ _ (λ q.
-    get-from_entries nat_list_cmp_total _ q
-    ∙ find_again es k v q (ap is_some (sym (get-from_entries nat_list_cmp_total es k)) ∙ there)
-    ∙ sym (get-from_entries nat_list_cmp_total es q))
-
--- a value that is not there is absent
-none-from_is_some : {X : Type 0} (o : Option X) → is_some o ≡ false → o ≡ None
-none-from_is_some None h = refl
-none-from_is_some (Some x) h = cc
+from_entries_again es k v there = same_texts _ _ (λ q. simp (get-from_entries {X = List ℕ} nat_list_cmp_total)
+    (find_again es k v q (rw (get-from_entries nat_list_cmp_total) at there)))
 
 -- a new name at the end is inserted
 pub from_entries_new : (es : List (List ℕ × List ℕ)) (k v : List ℕ) →
@@ -222,7 +191,11 @@ pub from_entries_new : (es : List (List ℕ × List ℕ)) (k v : List ℕ) →
     from_entries {R = bytes_cmp} (es ++ (k, v) ∷ []) ≡ insert (from_entries es) k v
 from_entries_new es k v absent =
     from_entries_push nat_list_cmp_total (slice_cmp-IsAntisymmetric nat_cmp-IsAntisymmetric) es k v
-    (none-from_is_some _ (ap is_some (sym (get-from_entries nat_list_cmp_total es k)) ∙ absent))
+    (none_of _ (rw (get-from_entries nat_list_cmp_total) at absent))
+  where
+    none_of : (o : Option (List ℕ)) → is_some o ≡ false → o ≡ None
+    none_of None h = refl
+    none_of (Some x) h = cc
 
 -- the good pairs, by their bytes
 abbrev pub good_pairs : {A : Type 0} → List (String A × String A) → List (List ℕ × List ℕ)
@@ -232,85 +205,44 @@ good_pairs pairs = filter pair_ok (text_entries pairs)
 abbrev pub of_pairs : {A : Type 0} → List (String A × String A) → Texts
 of_pairs pairs = from_entries (good_pairs pairs)
 
--- with one pair more at the end, the good pairs are those before, and that one where it is good
-good_pairs-more : {A : Type 0} (pairs : List (String A × String A)) (k v : String A) →
-    good_pairs (pairs ++ (k, v) ∷ [])
-    ≡ good_pairs pairs
-    ++ cond (pair_ok (string_bytes k, string_bytes v)) ((string_bytes k, string_bytes v) ∷ []) []
-good_pairs-more pairs k v =
-    ap (filter pair_ok) (map-append _ pairs ((k, v) ∷ []))
-    ∙ filter-append pair_ok (text_entries pairs) ((string_bytes k, string_bytes v) ∷ [])
-
 -- a pair that is not good is skipped
 pub pairs-passed_by : {A : Type 0} (names : Texts) (pairs : List (String A × String A)) (k v : String A) →
     names ≡ of_pairs pairs → pair_ok (string_bytes k, string_bytes v) ≡ false →
     names ≡ of_pairs (pairs ++ (k, v) ∷ [])
-pairs-passed_by names pairs k v is bad =
-    is
-    ∙ ap from_entries (sym (good_pairs-more pairs k v
-    ∙ ap (λ b. good_pairs pairs ++ cond b ((string_bytes k, string_bytes v) ∷ []) []) bad
-    ∙ append-nil (good_pairs pairs)))
-
--- with one good pair more at the end, the good pairs are those before, and that one
-good_pairs-good : {A : Type 0} (pairs : List (String A × String A)) (k v : String A) →
-    pair_ok (string_bytes k, string_bytes v) ≡ true →
-    good_pairs (pairs ++ (k, v) ∷ []) ≡ good_pairs pairs ++ (string_bytes k, string_bytes v) ∷ []
-good_pairs-good pairs k v good =
-    good_pairs-more pairs k v ∙ ap (λ b. good_pairs pairs ++ cond b ((string_bytes k, string_bytes v) ∷ []) []) good
+pairs-passed_by names pairs k v is bad = rw is (simp (map-append, filter-append, bad, append-nil))
 
 -- a good pair of a name that is there is skipped
 pub pairs-again : {A : Type 0} (names : Texts) (pairs : List (String A × String A)) (k v : String A) →
     names ≡ of_pairs pairs → pair_ok (string_bytes k, string_bytes v) ≡ true →
     contains_key names (string_bytes k) ≡ true → names ≡ of_pairs (pairs ++ (k, v) ∷ [])
-pairs-again names pairs k v is good there =
-    is
-    ∙ sym (ap from_entries (good_pairs-good pairs k v good)
-    ∙ from_entries_again (good_pairs pairs) (string_bytes k) (string_bytes v)
-    (ap (λ m. contains_key m (string_bytes k)) (sym is) ∙ there))
+pairs-again names pairs k v is good there = rw is (simp (map-append, filter-append, good)
+    (sym (from_entries_again (good_pairs pairs) (string_bytes k) (string_bytes v) (rw is at there))))
 
 -- a good pair of a new name is inserted
 pub pairs-new : {A : Type 0} (names : Texts) (pairs : List (String A × String A)) (k v : String A) →
     names ≡ of_pairs pairs → pair_ok (string_bytes k, string_bytes v) ≡ true →
     contains_key names (string_bytes k) ≡ false →
     insert names (string_bytes k) (string_bytes v) ≡ of_pairs (pairs ++ (k, v) ∷ [])
-pairs-new names pairs k v is good absent =
-    ap (λ m. insert m (string_bytes k) (string_bytes v)) is
-    ∙ sym (ap from_entries (good_pairs-good pairs k v good)
-    ∙ from_entries_new (good_pairs pairs) (string_bytes k) (string_bytes v)
-    (ap (λ m. contains_key m (string_bytes k)) (sym is) ∙ absent))
+pairs-new names pairs k v is good absent = rw is (simp (map-append, filter-append, good)
+    (sym (from_entries_new (good_pairs pairs) (string_bytes k) (string_bytes v) (rw is at absent))))
 
 -- a found pair of the good ones is good
 good_found : (pairs : List (List ℕ × List ℕ)) (k v : List ℕ) → find bytes_cmp k (filter pair_ok pairs) ≡ Some v →
     IsTrue (name_ok k) × IsTrue (value_ok v)
 good_found [] k v h = absurd (none-some v h)
-good_found (p ∷ pairs) k v h = at (pair_ok p) refl h (λ e. good_found pairs k v e)
-  where
-    at : (b : Bool) → pair_ok p ≡ b →
-        find bytes_cmp k (cond b (p ∷ filter pair_ok pairs) (filter pair_ok pairs)) ≡ Some v →
-        (find bytes_cmp k (filter pair_ok pairs) ≡ Some v → IsTrue (name_ok k) × IsTrue (value_ok v)) →
-        IsTrue (name_ok k) × IsTrue (value_ok v)
-    at false good e later = later e
-    at true good e later =
-        elim (bytes_cmp k p.0) as
-        (λ r.
-        bytes_cmp k p.0 ≡ r → cond (is_eq r) (Some p.1) (find bytes_cmp k (filter pair_ok pairs)) ≡ Some v →
-        IsTrue (name_ok k) × IsTrue (value_ok v)) [
-          | Less ↦ λ q f. later f
-          | Equal ↦
-              λ q f. (
-                subst (λ x. IsTrue (name_ok x)) (sym (slice_cmp-IsAntisymmetric nat_cmp-IsAntisymmetric k p.0 q))
-                    (and_left (name_ok p.0) (value_ok p.1) good),
-                subst (λ x. IsTrue (value_ok x)) (ap (λ o. unwrap_or o v) f)
-                    (and_right (name_ok p.0) (value_ok p.1) good),
-              )
-          | Greater ↦ λ q f. later f
-        ] refl e
+good_found (p ∷ pairs) k v h = elim (pair_ok p) as (λ b. pair_ok p ≡ b →
+    find bytes_cmp k (cond b (p ∷ filter pair_ok pairs) (filter pair_ok pairs)) ≡ Some v →
+    IsTrue (name_ok k) × IsTrue (value_ok v)) [
+      | false ↦ λ bad. good_found pairs k v
+      | true ↦ λ good. by_name (λ b. cond b (Some p.1) (find bytes_cmp k (filter pair_ok pairs)) ≡ Some v →
+          IsTrue (name_ok k) × IsTrue (value_ok v)) k p.0
+          (λ same e. let both = and_parts _ _ good in (rw same both.0, rw (same_Some p.1 v e) at both.1))
+          (good_found pairs k v)
+    ] refl h
 
 -- an environment of the good pairs is a good one
 pub good-pairs : {A E : Type 0} (pairs : List (String A × String A)) (made : Result Env E) →
     IfOk made (λ e. e.names ≡ of_pairs pairs) → IfOk made IsEnvironment
-good-pairs pairs (Ok e) h =
-    λ k v found.
-    good_found (text_entries pairs) k v
-    (sym (get-from_entries nat_list_cmp_total (good_pairs pairs) k) ∙ ap (λ m. get m k) (sym h) ∙ found)
+good-pairs pairs (Ok e) h = λ k v found.
+    good_found (text_entries pairs) k v (rw (h, get-from_entries nat_list_cmp_total) at found)
 good-pairs pairs (Err e) h = tt
