@@ -8,6 +8,7 @@ pub use Rattle.dotenvy_format.specs.PhysicalLines
 pub use Rattle.dotenvy_format.specs.Tokens
 pub use Rattle.dotenvy_format.specs.LogicalLine
 pub use Rattle.dotenvy_format.specs.Statement
+pub use Rattle.dotenvy_format.specs.declared.text.Quoting
 pub use Rattle.dotenvy_format.specs.Value
 pub use Rattle.dotenvy_format.specs.Places
 pub use Rattle.dotenvy_format.specs.Outcome

@@ -1,201 +1,183 @@
 -- The lines that a checker reads, one after another, and how its reading ends.
-use Rattle.std.proofs.Common.{◌≡◌, ◌≢◌, ℕ, ◌+◌, ◌⊎◌, inl, inr, List, [], ◌∷◌, ◌++◌, Option, Some, None, Result, Ok, Err}
-use Rattle.std.proofs.Common.{refl, sym, ◌∙◌, ap, subst, string_bytes}
+use Rattle.std.proofs.Common.{◌≡◌, ◌≢◌, ℕ, ◌⊎◌, inl, inr, List, [], ◌++◌, Option, Some, None, Result, Ok, Err}
+use Rattle.std.proofs.Common.{refl, sym, ◌∙◌, ap, string_bytes, true, arith}
 use Rattle.std.specs.Str.{chars}
-use Rattle.std.specs.declared.io.ErrorKind.TheVariants.{InvalidData}
 use Rattle.std.proofs.lemmas.Option.{none-some}
 use Rattle.std.proofs.lemmas.Str.{chars-nil}
 use Rattle.dotenvy_base.specs.declared.errors.Error.{Error}
 use Rattle.dotenvy_base.specs.declared.errors.Error.TheVariants as error
-use Rattle.dotenvy_base.specs.Errors.{IsMemory, IsIoOf}
+use Rattle.dotenvy_base.specs.Errors.{IsMemory}
+use Rattle.dotenvy_base.specs.Environment.{Env}
 use Rattle.dotenvy_base.specs.Source.{Ahead}
 use Rattle.dotenvy_format.specs.declared.dialect.Dialect.{Dialect}
-use Rattle.dotenvy_format.specs.LogicalLine.{Logical, Skip, Text, Open as OpenEnd, Broken}
-use Rattle.dotenvy_format.specs.Outcome.{Nothing, Says}
-use Rattle.dotenvy_format.specs.Entries.{Entry, Fails, LineParse, Io, Gives, outcome_entries}
+use Rattle.dotenvy_format.specs.Marks.{without_mark}
+use Rattle.dotenvy_format.specs.LogicalLine.{Logical}
+use Rattle.dotenvy_format.specs.Outcome.{Nothing}
+use Rattle.dotenvy_format.specs.Entries.{Entry, outcome_entries}
 use Rattle.dotenvy_format.proofs.statements.Outcomes.{one_outcome}
-use Rattle.dotenvy_lines.specs.declared.lines.Stage.TheVariants.{Open, Ended, Failed}
-use Rattle.dotenvy_lines.specs.Input.{IsTold, DropsMark, IsReadFault}
-use Rattle.dotenvy_lines.specs.Lines.{LinesState, GoesOn}
-use Rattle.dotenvy_lines.specs.inside.NextLine.{TakesNext, CountsLine, AdvanceIs}
+use Rattle.dotenvy_lines.specs.declared.lines.Stage.TheVariants.{Open, Failed}
+use Rattle.dotenvy_lines.specs.Input.{InputState, IsTold, IsFinal, DropsMark, begins_mark}
+use Rattle.dotenvy_lines.specs.Lines.{LinesState}
+use Rattle.dotenvy_lines.specs.inside.NextLine.{AdvanceIs}
 use Rattle.dotenvy_lines.specs.inside.Splitter.{SplitterState, last_lines}
-use Rattle.dotenvy_lines.proofs.Inputs.{ahead_of, the_bytes, the_fault}
+use Rattle.dotenvy_lines.proofs.Inputs.{ahead_of, final_before, the_bytes, the_fault}
+use Rattle.dotenvy_lines.proofs.DroppedMarks.{marked, mark_decides}
 use Rattle.dotenvy_checker.specs.declared.lines.Checker.{Checker}
 use Rattle.dotenvy_checker.specs.Numbered.{at_line}
 use Rattle.dotenvy_checker.specs.declared.report.Report.{Report}
-use Rattle.dotenvy_checker.specs.Checks.{found_in, FewLines, ReadsEntries}
-use Rattle.dotenvy_checker.specs.Findings.{Names, no_names, findings, findings_from}
+use Rattle.dotenvy_checker.specs.Checks.{names_in, found_in, FewLines, ReadsEntries}
+use Rattle.dotenvy_checker.specs.Findings.{Names, no_names, findings}
 use Rattle.dotenvy_checker.specs.Report.{report}
-use Rattle.dotenvy_checker.specs.inside.Reports.{found_more, nothing_found, Adds}
-use Rattle.dotenvy_checker.specs.inside.CheckedLines.{env_of, declared_of, ChecksEntries, ChecksOutcome}
+use Rattle.dotenvy_checker.specs.inside.Reports.{nothing_found}
+use Rattle.dotenvy_checker.specs.inside.CheckedLines.{declared_of, ChecksEntries, ChecksOutcome}
 use Rattle.dotenvy_checker.specs.inside.CheckedLines.{ChecksRead, ChecksUpTo}
 use Rattle.dotenvy_checker.proofs.Found.{checks_none, checks_more}
-use Rattle.dotenvy_checker.proofs.ReadLines.{Reading, reading_none, reading_more, number_of, reads_all, reads_before}
-use Rattle.dotenvy_checker.proofs.ReadLines.{mark_before, DecidedBefore}
+use Rattle.dotenvy_checker.proofs.ReadLines.{Reading, Takes, DecidedBefore, reading_more, reads_all, reads_before}
 
 -- of what is told at s some entries were read up to t, and checked
-pub record CheckedTo {A : Type 0} (dialect : Dialect) (a : Ahead) (s t : LinesState)
-    (old new : Checker A) : Type 0 where
+pub record CheckedTo {A : Type 0} (a : Ahead) (s t : LinesState) (old new : Checker A) : Type 0 where
   pub numbered : List (ℕ × Entry)
-  pub reading : Reading dialect a s t numbered
+  pub reading : Reading old.dialect a s t numbered
   pub checks : ChecksEntries numbered old new
 
 -- the same, whatever is told
-abbrev pub CheckedSoFar : {A : Type 0} → Dialect → LinesState → LinesState → Checker A → Checker A → Type 0
-CheckedSoFar dialect s t old new =
-    s.stage ≡ Open → (a : Ahead) → IsTold s.input.left a → FewLines s a → CheckedTo dialect a s t old new
+pub record CheckedSoFar {A : Type 0} (s t : LinesState) (old new : Checker A) : Type 0 where
+  pub told : s.stage ≡ Open → (a : Ahead) → IsTold s.input.left a → FewLines s a → CheckedTo a s t old new
 
--- one more line is read and checked
-line_checked : {A : Type 0} {these : ℕ} (dialect : Dialect) (a : Ahead) (s t u : LinesState) (old now new : Checker A)
-    (next : Logical) (front : List Entry) → FewLines s a → (k : CheckedTo dialect a s t old now) →
-    TakesNext (ahead_of k.reading.left a.fault) t.input next these u.input → CountsLine t these u → GoesOn u →
-    Gives dialect next front → ChecksEntries (at_line (last_lines u).0 front) now new → CheckedTo dialect a s u old new
-line_checked dialect a s t u old now new next front few k takes counts goes_on gives checks =
-    let number = number_of dialect a s t u k.numbered few k.reading takes counts goes_on in record {
-      numbered = k.numbered ++ at_line (s.lines_taken + 1 + k.reading.count) front;
-      reading = reading_more dialect a s t u k.numbered next front k.reading takes counts goes_on gives;
-      checks = checks_more k.checks (subst (λ n. ChecksEntries (at_line n front) now new) number checks);
-    }
+-- the splitter at t answers so, and leaves this text and u
+pub record Answers {A : Type 0} (t : LinesState) (answer : Option (Result (Unit {0}) (Error A))) (text : List ℕ)
+    (u : LinesState) : Type 0 where
+  pub shut : t.stage ≢ Open → answer ≡ None
+  pub told : (a : Ahead) → t.stage ≡ Open → IsTold t.input.left a → AdvanceIs a t answer text u
 
--- a checker that has come to t is given a line only where t is open
-still_open : {A : Type 0} (t : LinesState) (outcome : Result (Unit {0}) (Error A)) → GoesOn t →
-    (t.stage ≢ Open → ◌≡◌ {A = Option (Result (Unit {0}) (Error A))} (Some outcome) None) → t.stage ≡ Open
-still_open t outcome goes_on shut = elim goes_on [
-  | inl opened ↦ opened
-  | inr ended ↦ absurd (none-some outcome (sym (shut (λ opened. (let h : Ended ≡ Open = sym ended.0 ∙ opened in cc)))))
+-- where some lines were checked, a line that is given is the next of those that are left
+next_line : {A : Type 0} {a : Ahead} {s t u : LinesState} {old now : Checker A} {outcome : Result (Unit {0}) (Error A)}
+    {text : List ℕ} (k : CheckedTo a s t old now) → Answers t (Some outcome) text u →
+    AdvanceIs (ahead_of k.reading.left a.fault) t (Some outcome) text u
+next_line {a = a} {outcome = outcome} k answers = elim k.reading.goes_on [
+  | inl is_open ↦ answers.told (ahead_of k.reading.left a.fault) is_open (k.reading.moves.is_left, k.reading.told)
+  | inr (ended, nothing) ↦ absurd (none-some outcome (sym (answers.shut (λ h. cc))))
 ]
 
--- a line's outcome, where it is no final fault, is read and checked
-pub outcome_checked : {A : Type 0} (dialect : Dialect) (a : Ahead) (s t : LinesState) (u : SplitterState)
-    (old now new : Checker A) (outcome : Result (Unit {0}) (Error A)) → now.dialect ≡ dialect → FewLines s a →
-    (k : CheckedTo dialect a s t old now) →
-    AdvanceIs (ahead_of k.reading.left a.fault) t (Some outcome) u.line u.lines → ChecksOutcome u outcome now new →
-    CheckedTo dialect a s u.lines old new
-outcome_checked dialect a s t u old now new (Ok done) same few k (inl (count, inl (empty, takes), counts, goes_on))
-    (outcome, says, checks) =
-    let nothing : outcome ≡ Nothing =
-    one_outcome now.dialect [] outcome Nothing
-    (subst (λ cs. Says now.dialect cs outcome) (ap chars empty ∙ chars-nil) says) refl in
-    line_checked dialect a s t u.lines old now new Skip [] few k takes counts goes_on refl
-    (subst (λ es. ChecksEntries (at_line (last_lines u.lines).0 es) now new) (ap outcome_entries nothing) checks)
-outcome_checked dialect a s t u old now new (Ok done) same few k (inl (count, inr takes, counts, goes_on))
-    (outcome, says, checks) =
-    line_checked dialect a s t u.lines old now new (Text (chars u.line)) (outcome_entries outcome) few k takes counts
-    goes_on (outcome, subst (λ d. Says d (chars u.line) outcome) same says, refl) checks
-outcome_checked dialect a s t u old now new (Ok done) same few k (inr fails) checks = absurd fails
-outcome_checked dialect a s t u old now new (Err e) same few k (inr (failed, final)) (not_failed, checks) =
-    absurd (not_failed failed)
-outcome_checked dialect a s t u old now new (Err (error.LineParse text index)) same few k
-    (inl (count, takes, counts, goes_on)) (not_failed, checks) =
-    line_checked dialect a s t u.lines old now new (OpenEnd (chars (string_bytes text)) index)
-    (Fails (LineParse (chars (string_bytes text)) index) ∷ []) few k takes counts goes_on refl checks
-outcome_checked dialect a s t u old now new (Err (error.Io x)) same few k (inl (count, takes, counts, goes_on))
-    (not_failed, checks) =
-    line_checked dialect a s t u.lines old now new Broken
-    (Fails (Io InvalidData) ∷ []) few k takes.1 counts goes_on refl
-    checks
-outcome_checked dialect a s t u old now new (Err (error.EnvVar x)) same few k (inl (count, takes, counts, goes_on))
-    checks = absurd takes
-outcome_checked dialect a s t u old now new (Err (error.Nul x)) same few k (inl (count, takes, counts, goes_on))
-    checks = absurd takes
-outcome_checked dialect a s t u old now new (Err (error.Memory x)) same few k (inl (count, takes, counts, goes_on))
-    checks = absurd takes
-
--- one more line leads a checker on, whatever is told
-pub checked_more : {A : Type 0} (dialect : Dialect) (s t : LinesState) (u : SplitterState) (old now new : Checker A)
-    (outcome : Result (Unit {0}) (Error A)) → old.dialect ≡ dialect → CheckedSoFar dialect s t old now →
-    (t.stage ≢ Open → ◌≡◌ {A = Option (Result (Unit {0}) (Error A))} (Some outcome) None) →
-    ((a : Ahead) → t.stage ≡ Open → IsTold t.input.left a → AdvanceIs a t (Some outcome) u.line u.lines) →
-    ChecksOutcome u outcome now new → CheckedSoFar dialect s u.lines old new
-checked_more dialect s t u old now new outcome same came shut next checks opened a told few =
-    let k = came opened a told few in
-    outcome_checked dialect a s t u old now new outcome (k.checks.dialect ∙ same) few k
-    (next (ahead_of k.reading.left a.fault) (still_open t outcome k.reading.goes_on shut)
-    (k.reading.moves.is_left, k.reading.told)) checks
-
--- where no line is left, all entries were checked
-pub checked_all : {A : Type 0} (dialect : Dialect) (s t u : LinesState) (text : List ℕ) (old new : Checker A) →
-    CheckedSoFar dialect s t old new →
-    ((a : Ahead) → t.stage ≡ Open → IsTold t.input.left a → AdvanceIs {A = A} a t None text u) → s.stage ≡ Open →
-    (a : Ahead) → IsTold s.input.left a → FewLines s a → ChecksRead {A = A} dialect s a (Ok tt) old new
-checked_all {A = A} dialect s t u text old new came next opened a told few =
-    let k = came opened a told few in
-    let rest = at k k.reading.goes_on in
-    (k.numbered, (rest.1, reads_all dialect a s t k.numbered k.reading rest.0 rest.1), k.checks)
-  where
-    at : (k : CheckedTo dialect a s t old new) → GoesOn t → (k.reading.left ≡ []) × (a.fault ≡ None)
-    at k (inl is_open) =
-        let e = next (ahead_of k.reading.left a.fault) is_open (k.reading.moves.is_left, k.reading.told) in (e.0, e.1)
-    at k (inr (ended, nothing)) =
-        let same : Some (ahead_of k.reading.left a.fault) ≡ Some (ahead_of [] None) =
-        sym k.reading.moves.is_left ∙ nothing in (
-          the_bytes (ahead_of k.reading.left a.fault) (ahead_of [] None) same,
-          the_fault (ahead_of k.reading.left a.fault) (ahead_of [] None) same,
-        )
-
--- a failure ends the check of what was decided before it
-before_failure : {A : Type 0} (dialect : Dialect) (a : Ahead) (s t u : LinesState) (text : List ℕ) (old now : Checker A)
-    (e : Error A) (k : CheckedTo dialect a s t old now) → u.stage ≡ Failed →
-    AdvanceIs {A = A} (ahead_of k.reading.left a.fault) t (Some (Err e)) text u → ChecksRead dialect s a (Err e) old now
-before_failure dialect a s t u text old now e k failed (inl (count, takes, counts, goes_on)) = absurd
-    (not_going goes_on)
-  where
-    not_going : GoesOn u → ⊥
-    not_going (inl is_open) = let h : Failed ≡ Open = sym failed ∙ is_open in cc
-    not_going (inr ended) = let h : Failed ≡ Ended = sym failed ∙ ended.0 in cc
-before_failure dialect a s t u text old now e k failed (inr (stage, final)) =
-    at (reads_before dialect a s t u.input k.numbered e k.reading final)
-  where
-    at : IsMemory e ⊎ IsIoOf (IsReadFault a s.input (DecidedBefore dialect s k.numbered) u.input) e →
-        ChecksRead dialect s a (Err e) old now
-    at (inl memory) = inl memory
-    at (inr io) = inr (k.numbered, (u.input, io), k.checks)
-
--- a final fault that is given back ends the check, unless memory was refused
-pub checked_before : {A : Type 0} (dialect : Dialect) (s t u : LinesState) (text : List ℕ) (old now new : Checker A)
-    (outcome : Result (Unit {0}) (Error A)) (e : Error A) → CheckedSoFar dialect s t old now →
-    (t.stage ≢ Open → ◌≡◌ {A = Option (Result (Unit {0}) (Error A))} (Some outcome) None) →
-    ((a : Ahead) → t.stage ≡ Open → IsTold t.input.left a → AdvanceIs a t (Some outcome) text u) →
-    IsMemory e ⊎ ((outcome ≡ Err e) × (u.stage ≡ Failed) × (new ≡ now)) → s.stage ≡ Open →
-    (a : Ahead) → IsTold s.input.left a → FewLines s a → ChecksRead dialect s a (Err e) old new
-checked_before dialect s t u text old now new outcome e came shut next (inl refused) opened a told few = inl refused
-checked_before {A = A} dialect s t u text old now new outcome e came shut next (inr (is, failed, same)) opened a told
-    few =
-    let k = came opened a told few in
-    subst (ChecksRead dialect s a (Err e) old) (sym same) (before_failure dialect a s t u text old now e k failed
-    (subst (λ r. AdvanceIs {A = A} (ahead_of k.reading.left a.fault) t (Some r) text u) is
-    (next (ahead_of k.reading.left a.fault) (still_open t outcome k.reading.goes_on shut)
-    (k.reading.moves.is_left, k.reading.told))))
-
--- a fault before a byte order mark is decided ends a check of nothing
-pub checked_mark : {A : Type 0} (dialect : Dialect) (a : Ahead) (s : LinesState) (m : LinesState) (old : Checker A)
-    (e : Error A) → DropsMark a s.input (Err e) m.input → ChecksRead dialect s a (Err e) old old
-checked_mark dialect a s m old e drops = at (mark_before dialect a s m.input e drops)
-  where
-    at : IsMemory e ⊎ IsIoOf (IsReadFault a s.input (DecidedBefore dialect s []) m.input) e →
-        ChecksRead dialect s a (Err e) old old
-    at (inl memory) = inl memory
-    at (inr io) = inr ([], (m.input, io), checks_none old)
-
--- a checker that read no line yet has come to where the mark is dropped
-pub checked_none : (A : Type 0) (dialect : Dialect) (s t : LinesState) (old : Checker A) →
-    (s.stage ≡ Open → t.stage ≡ s.stage) → t.lines_taken ≡ s.lines_taken →
-    ((a : Ahead) → s.stage ≡ Open → IsTold s.input.left a → DropsMark {A = A} a s.input (Ok tt) t.input) →
-    CheckedSoFar dialect s t old old
-checked_none A dialect s t old stage taken drops opened a told few = record {
-  numbered = [];
-  reading = reading_none A dialect a s t opened told (stage opened) taken (drops a opened told);
-  checks = checks_none old;
+-- one more line is read and checked
+line_checked : {A : Type 0} {a : Ahead} {s t u : LinesState} {old now new : Checker A} {these : ℕ} {next : Logical}
+    {front : List Entry} → FewLines s a → (k : CheckedTo a s t old now) →
+    Takes old.dialect (ahead_of k.reading.left a.fault) t u these next front →
+    ChecksEntries (at_line (last_lines u).0 front) now new → CheckedTo a s u old new
+line_checked {u = u} {front = front} few k m checks = record {
+  numbered = k.numbered ++ at_line (last_lines u).0 front;
+  reading = reading_more few k.reading m;
+  checks = checks_more k.checks checks;
 }
 
--- a checker before its first line: the names that have a value, the file's name, the dialect, and nothing found
-pub record IsFresh {A : Type 0} (names : Names) (called : List ℕ) (reads : Dialect) (checker : Checker A) : Type 0 where
-  pub env : env_of checker ≡ names
-  pub declared : declared_of checker ≡ no_names
-  pub dialect : checker.dialect ≡ reads
-  pub text : string_bytes checker.report.text ≡ []
-  pub file : chars checker.report.file.now ≡ called
-  pub found : checker.report.found ≡ nothing_found
+-- a line's outcome, where it is no final fault, is read and checked
+outcome_checked : {A : Type 0} {a : Ahead} {s t : LinesState} {old now new : Checker A} (u : SplitterState)
+    (outcome : Result (Unit {0}) (Error A)) → FewLines s a → (k : CheckedTo a s t old now) →
+    AdvanceIs (ahead_of k.reading.left a.fault) t (Some outcome) u.line u.lines → ChecksOutcome u outcome now new →
+    CheckedTo a s u.lines old new
+outcome_checked {now = now} u (Ok done) few k (inl (count, inl (empty, takes), counts, goes_on))
+    (outcome, says, checks) =
+    let none = one_outcome now.dialect [] outcome Nothing (rw (empty, chars-nil) at says) refl in
+    line_checked few k
+    (record { takes = takes; counts = counts; goes_on = goes_on; gives = ap outcome_entries none }) checks
+outcome_checked u (Ok done) few k (inl (count, inr takes, counts, goes_on)) (outcome, says, checks) =
+    line_checked few k (record {
+      takes = takes;
+      counts = counts;
+      goes_on = goes_on;
+      gives = (outcome, rw k.checks.dialect at says, refl);
+    }) checks
+outcome_checked u (Ok done) few k (inr fails) checks = absurd fails
+outcome_checked u (Err e) few k (inr (failed, final)) (not_failed, checks) = absurd (not_failed failed)
+outcome_checked u (Err (error.LineParse text index)) few k (inl (count, takes, counts, goes_on)) (not_failed, checks) =
+    line_checked few k (record { takes = takes; counts = counts; goes_on = goes_on; gives = refl }) checks
+outcome_checked u (Err (error.Io x)) few k (inl (count, takes, counts, goes_on)) (not_failed, checks) =
+    line_checked few k (record { takes = takes.1; counts = counts; goes_on = goes_on; gives = refl }) checks
+outcome_checked u (Err e) few k (inl (count, takes, counts, goes_on)) checks = absurd takes
+
+-- one more line leads a checker on
+pub checked_more : {A : Type 0} {s t : LinesState} {old now new : Checker A} (u : SplitterState)
+    (outcome : Result (Unit {0}) (Error A)) → CheckedSoFar s t old now → Answers t (Some outcome) u.line u.lines →
+    ChecksOutcome u outcome now new → CheckedSoFar s u.lines old new
+checked_more u outcome came answers checks = record {
+  told = λ opened a told few.
+      let k = came.told opened a told few in outcome_checked u outcome few k (next_line k answers) checks;
+}
+
+-- where no line is left, all entries were checked
+pub checked_all : {A : Type 0} {s t : LinesState} {old new : Checker A} (u : LinesState) (text : List ℕ) →
+    CheckedSoFar s t old new → Answers {A = A} t None text u → s.stage ≡ Open → (a : Ahead) → IsTold s.input.left a →
+    FewLines s a → ChecksRead {A = A} old.dialect s a (Ok tt) old new
+checked_all u text came answers opened a told few =
+    let k = came.told opened a told few in
+    let left = ahead_of k.reading.left a.fault in
+    let rest : (k.reading.left ≡ []) × (a.fault ≡ None) = elim k.reading.goes_on [
+      | inl is_open ↦
+          let e = answers.told left is_open (k.reading.moves.is_left, k.reading.told) in (e.0, e.1)
+      | inr (ended, nothing) ↦
+          let same = sym k.reading.moves.is_left ∙ nothing in
+          (the_bytes left (ahead_of [] None) same, the_fault left (ahead_of [] None) same)
+    ] in
+    (k.numbered, (rest.1, reads_all k.reading rest.0 rest.1), k.checks)
+
+-- a final fault, before which the entries that were checked are decided, ends a check
+check_ends : {A : Type 0} {numbered : List (ℕ × Entry)} {old new : Checker A} (a : Ahead) (s : LinesState)
+    (m : InputState) (e : Error A) → IsFinal a s.input (DecidedBefore old.dialect s numbered) e m →
+    ChecksEntries numbered old new → ChecksRead old.dialect s a (Err e) old new
+check_ends {numbered = numbered} a s m e (inl memory) checks = inl memory
+check_ends {numbered = numbered} a s m e (inr io) checks = inr (numbered, (m, io), checks)
+
+-- a final fault that is given back ends the check, unless memory was refused
+pub checked_before : {A : Type 0} {s t u : LinesState} {text : List ℕ} {old now new : Checker A}
+    {outcome : Result (Unit {0}) (Error A)} (e : Error A) → CheckedSoFar s t old now →
+    Answers t (Some outcome) text u → IsMemory e ⊎ ((outcome ≡ Err e) × (u.stage ≡ Failed) × (new ≡ now)) →
+    s.stage ≡ Open → (a : Ahead) → IsTold s.input.left a → FewLines s a → ChecksRead old.dialect s a (Err e) old new
+checked_before e came answers (inl refused) opened a told few = inl refused
+checked_before {s = s} {u = u} e came answers (inr (is, failed, same)) opened a told few =
+    let k = came.told opened a told few in
+    rw same (elim (rw is at (next_line k answers)) [
+      | inl (count, takes, counts, inl is_open) ↦ cc
+      | inl (count, takes, counts, inr (ended, nothing)) ↦ cc
+      | inr (stage, final) ↦ check_ends a s u.input e (reads_before u.input e k.reading final) k.checks
+    ])
+
+-- a fault before a byte order mark is decided ends a check of nothing
+pub checked_mark : {A : Type 0} (a : Ahead) (s m : LinesState) (old : Checker A) (e : Error A) →
+    DropsMark a s.input (Err e) m.input → ChecksRead old.dialect s a (Err e) old old
+checked_mark a s m old e drops =
+    check_ends a s m.input e (final_before a s.input s.input m.input (λ bytes. begins_mark bytes ≡ true)
+    (DecidedBefore old.dialect s []) [] a.bytes e refl (omega arith)
+    (λ kind front later cut why begins.
+    record { lines = []; count = 0; are = (refl, refl); decided = mark_decides old.dialect front begins }) drops)
+    (checks_none old)
+
+-- a checker that read no line yet has come to where the mark is dropped
+pub checked_none : {A : Type 0} (s t : LinesState) (old : Checker A) → (s.stage ≡ Open → t.stage ≡ s.stage) →
+    t.lines_taken ≡ s.lines_taken →
+    ((a : Ahead) → s.stage ≡ Open → IsTold s.input.left a → DropsMark {A = A} a s.input (Ok tt) t.input) →
+    CheckedSoFar s t old old
+checked_none s t old stage taken drops = record {
+  told = λ opened a told few.
+      let m = marked a.bytes in
+      let dropped = drops a opened told in record {
+        numbered = [];
+        reading = record {
+          used = m.used;
+          left = without_mark a.bytes;
+          moves = record { joins = m.joins; is_left = dropped.0; reads = dropped.1 };
+          told = told.1;
+          lines = [];
+          count = 0;
+          are = (refl, refl);
+          later = refl;
+          stays = inr (λ more rest cut. rw (m.stays more rest cut)
+              (record { are = (refl, refl); rest = refl; decide = λ decided has. has }));
+          goes_on = inl (stage opened ∙ opened);
+          counts = λ fits. omega (arith, taken);
+        };
+        checks = checks_none old;
+      };
+}
 
 -- what was read of a is reported, and what is found is told
 pub record IsReported {A : Type 0} (env : Names) (file : List ℕ) (dialect : Dialect) (s : LinesState) (a : Ahead)
@@ -205,29 +187,19 @@ pub record IsReported {A : Type 0} (env : Names) (file : List ℕ) (dialect : Di
   pub text : string_bytes report_of.text ≡ report file (findings env numbered)
   pub found : report_of.found ≡ found_in (findings env numbered)
 
--- a checker that was fresh reports what it has read
-reported : {A : Type 0} (env : Names) (file : List ℕ) (dialect : Dialect) (s : LinesState) (a : Ahead)
-    (fault : Option (Error A)) (old new : Checker A) → IsFresh env file dialect old →
-    ChecksUpTo old.dialect s a fault old new → IsReported env file dialect s a fault new.report
-reported {A = A} env file dialect s a fault old new fresh (numbered, reads, checks) =
-    let adds : Adds (findings env numbered) old.report new.report =
-    subst (λ e. Adds (findings_from e no_names numbered) old.report new.report) fresh.env
-    (subst (λ d. Adds (findings_from (env_of old) d numbered) old.report new.report) fresh.declared checks.report) in
-    record {
-      numbered = numbered;
-      reads = subst (λ d. ReadsEntries {A = A} d s a fault numbered) fresh.dialect reads;
-      text =
-          adds.text ∙ ap (λ t. t ++ report (chars old.report.file.now) (findings env numbered)) fresh.text
-          ∙ ap (λ f. report f (findings env numbered)) fresh.file;
-      found = adds.found ∙ ap (λ f. found_more f (findings env numbered)) fresh.found;
-    }
-
--- the same of the lines that were handed over
-pub is_reported : {A : Type 0} (env : Names) (file : List ℕ) (dialect : Dialect) (s t : LinesState) (a : Ahead)
-    (fault : Option (Error A)) (old new : Checker A) → IsFresh env file dialect old → t ≡ s →
+-- a checker of which nothing was read reports what it then reads of the lines that were handed over
+pub is_reported : {A : Type 0} {env : Env} {file : List ℕ} {dialect : Dialect} {s t : LinesState} {a : Ahead}
+    {fault is : Option (Error A)} (old new : Checker A) → fault ≡ is → old.env.now ≡ env → declared_of old ≡ no_names →
+    old.dialect ≡ dialect →
+    (string_bytes old.report.text ≡ []) × (old.report.file.now ≡ file) × (old.report.found ≡ nothing_found) → t ≡ s →
     (t.stage ≡ Open → (b : Ahead) → IsTold t.input.left b → FewLines t b → ChecksUpTo old.dialect t b fault old new) →
-    s.stage ≡ Open → IsTold s.input.left a → FewLines s a → IsReported env file dialect s a fault new.report
-is_reported env file dialect s t a fault old new fresh same told opened is_told few =
-    reported env file dialect s a fault old new fresh
-    (subst (λ (l : LinesState). l.stage ≡ Open → (b : Ahead) → IsTold l.input.left b → FewLines l b →
-    ChecksUpTo old.dialect l b fault old new) same told opened a is_told few)
+    s.stage ≡ Open → IsTold s.input.left a → FewLines s a →
+    IsReported (names_in env.names) (chars file) dialect s a is new.report
+is_reported {a = a} old new fault env declared dialect (text, file, found) same told opened is_told few =
+    let (numbered, reads, checks) = (rw same at told) opened a is_told few in
+    let adds = rw (env, declared) at checks.report in record {
+      numbered = numbered;
+      reads = rw (dialect, fault) at reads;
+      text = rw (adds.text, text, file);
+      found = rw (adds.found, found);
+    }

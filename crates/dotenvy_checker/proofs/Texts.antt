@@ -1,5 +1,5 @@
 -- What appending calls leave, where they return Ok.
-use Rattle.std.proofs.Common.{◌≡◌, ℕ, List, ◌++◌, ◌∙◌, ap, append_assoc, Result, Ok, Err, OnOk, is_ok}
+use Rattle.std.proofs.Common.{◌≡◌, ℕ, List, Result, Ok, Err, OnOk, is_ok}
 use Rattle.std.specs.Prelude.{if◌then◌else◌}
 
 -- what follows from a fact follows from it after Ok
@@ -13,14 +13,7 @@ pub ok_text : {T E : Type 0} (r : Result T E) (new first second : List ℕ) →
 ok_text (Ok x) new first second h = h
 ok_text (Err e) new first second h = tt
 
--- three texts that were appended, and then a fourth, are all appended in order
-pub four_texts : (old a b c d pushed new : List ℕ) → pushed ≡ old ++ (a ++ (b ++ c)) → new ≡ pushed ++ d →
-    new ≡ old ++ (a ++ (b ++ (c ++ d)))
-four_texts old a b c d pushed new h k =
-    k ∙ ap (λ t. t ++ d) h ∙ append_assoc old (a ++ (b ++ c)) d
-    ∙ ap (λ t. old ++ t) (append_assoc a (b ++ c) d ∙ ap (λ t. a ++ t) (append_assoc b c d))
-
--- two facts after Ok hold together
-pub both_ok : {T E : Type 0} (P Q : Type 0) (r : Result T E) → OnOk r P → OnOk r Q → OnOk r (P × Q)
-both_ok P Q (Ok x) h k = (h, k)
-both_ok P Q (Err e) h k = tt
+-- what follows from two facts follows from both after Ok
+pub after_both : {T E P Q R : Type 0} (r : Result T E) → (P → Q → R) → OnOk r P → OnOk r Q → OnOk r R
+after_both (Ok x) f h k = f h k
+after_both (Err e) f h k = tt

@@ -2,19 +2,16 @@
 use Rattle.std.proofs.Common.{◌≡◌, ℕ, true, List, [], ◌∷◌, refl}
 use Rattle.std.specs.Prelude.{IsTrue}
 use Rattle.std.specs.List.{list_all}
-use Rattle.std.proofs.lemmas.Bool.{and_from}
+use Rattle.std.proofs.lemmas.Bool.{and_parts}
 use Rattle.dotenvy_format.specs.Characters.{begins_key, continues_key}
 use Rattle.dotenvy_format.specs.Keys.{is_key}
-use Rattle.dotenvy_format.proofs.Basics.{and_left, and_right}
 
 -- a character that begins a key may also stand later in one
 pub key_begins_continues : (c : ℕ) → begins_key c ≡ true → continues_key c ≡ true
-key_begins_continues c h = rw h refl
+key_begins_continues c h = rw h
 
 -- each character of a key, the first one too, may stand later in a key
 pub key_continues : (key : List ℕ) → IsTrue (is_key key) → list_all continues_key key ≡ true
 key_continues [] h = refl
 key_continues (c ∷ key) h =
-    and_from (continues_key c) (list_all continues_key key)
-    (key_begins_continues c (and_left (begins_key c) (list_all continues_key key) h))
-    (and_right (begins_key c) (list_all continues_key key) h)
+    let p = and_parts (begins_key c) (list_all continues_key key) h in rw (p.0, p.1)

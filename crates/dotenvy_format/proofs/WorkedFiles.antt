@@ -1,29 +1,28 @@
 -- Worked files.
-use Rattle.std.proofs.Common.{◌≡◌, ℕ, List, refl, subst, arith, length}
+use Rattle.std.proofs.Common.{◌≡◌, ℕ, List, refl, arith, length}
 use Rattle.std.specs.List.{flat_map}
-use Rattle.std.specs.Prelude.{codes}
 use Rattle.std.specs.Str.{is_utf8, chars}
 use Rattle.unicode.proofs.DerivedComputing.{ucd_derived}
 use Rattle.unicode.proofs.CategoryComputing.{ucd_category}
 use Rattle.std.proofs.Math.Utf8.{encode}
 use Rattle.dotenvy_format.specs.declared.dialect.Dialect.{Dialect}
-use Rattle.dotenvy_format.specs.declared.dialect.Dialect.TheVariants.{V15, Next}
 use Rattle.dotenvy_format.specs.Characters.{is_name_character}
 use Rattle.dotenvy_format.specs.PhysicalLines.{line_texts}
-use Rattle.dotenvy_format.specs.Entries.{Entry, GiveAll, HasEntries}
+use Rattle.dotenvy_format.specs.Entries.{Entry, HasEntries}
 use Rattle.dotenvy_format.specs.WorkedFiles.{HaveLines, HaveStatements, HaveValues, HaveOpenQuotes}
 use Rattle.dotenvy_format.specs.WorkedFiles.{HaveDialects, HaveMarks, HaveWritten, HaveDecisions}
 use Rattle.dotenvy_format.specs.WorkedLoads.{HaveRepeats, HaveNuls}
 use Rattle.dotenvy_format.specs.Decided.{up_to_last_line_feed, without_open_end, HasDecided}
-use Rattle.dotenvy_format.proofs.statements.Outcomes.{outcome_of-is}
+use Rattle.dotenvy_format.proofs.statements.Outcomes.{outcome_of, outcome_of-is}
+use Rattle.dotenvy_format.specs.Outcome.{Outcome, Says}
 use Rattle.dotenvy_format.proofs.lines.EntriesOnce.{cut_line_texts}
-use Rattle.dotenvy_format.proofs.lines.NextEntries.{lines_of, logical_entries, all_give}
-use Rattle.dotenvy_format.proofs.lines.NextEntries.{are_lines_of, entries_of_lines, entries_of-are}
+use Rattle.dotenvy_format.proofs.lines.EntriesOnce.{lines_of, logical_entries, all_give}
+use Rattle.dotenvy_format.proofs.lines.EntriesOnce.{are_lines_of, entries_of_lines, entries_of-are}
 
 -- the bytes have the entries that are computed
 computed : (dialect : Dialect) (bytes : List ℕ) (entries : List Entry) →
     entries_of_lines dialect (line_texts bytes) ≡ entries → HasEntries dialect bytes entries
-computed dialect bytes entries e = subst (HasEntries dialect bytes) e (entries_of-are dialect bytes)
+computed dialect bytes entries e = rw e at (entries_of-are dialect bytes)
 
 -- the bytes decide the entries that are computed of their whole lines
 decided_computed : (dialect : Dialect) (bytes : List ℕ) (entries : List Entry) →
@@ -36,80 +35,43 @@ decided_computed dialect bytes entries e =
     record {
       lines = logical;
       are_lines = are_lines_of (length lines) lines (omega arith) (cut_line_texts (up_to_last_line_feed bytes));
-      give = subst (GiveAll dialect (without_open_end logical)) e (all_give dialect (without_open_end logical));
+      give = rw e at (all_give dialect (without_open_end logical));
     }
+
+-- the line says what is computed
+says_computed : (dialect : Dialect) (line : List ℕ) (outcome : Outcome) → outcome_of dialect line ≡ outcome →
+    Says dialect line outcome
+says_computed dialect line outcome e = rw e at (outcome_of-is dialect line)
 
 -- the worked files of lines: which physical lines make a logical line
 pub lines : HaveLines
 unfolding is_name_character ucd_derived ucd_category encode is_utf8 chars
-lines = (
-  computed V15 _ _ refl,
-  computed V15 _ _ refl,
-  computed V15 _ _ refl,
-  computed V15 _ _ refl,
-  computed V15 _ _ refl,
-  computed V15 _ _ refl,
-  computed V15 _ _ refl,
-  computed V15 _ _ refl,
-  computed V15 _ _ refl,
-  computed V15 _ _ refl,
-  computed V15 _ _ refl,
-  computed V15 _ _ refl,
-  computed V15 _ _ refl,
-  computed V15 _ _ refl,
-  computed V15 _ _ refl,
-  computed V15 _ _ refl,
-  computed V15 _ _ refl,
-)
+lines = search computed
 
 -- the worked files of statements: keys, `export`, and lines without a statement
 pub statements : HaveStatements
 unfolding is_name_character ucd_derived ucd_category encode is_utf8 chars
-statements = (computed V15 _ _ refl, computed V15 _ _ refl, computed V15 _ _ refl)
+statements = search computed
 
 -- the worked files of values: what they mean, and the places of faults in them
 pub values : HaveValues
 unfolding is_name_character ucd_derived ucd_category encode is_utf8 chars
-values = (
-  computed V15 _ _ refl,
-  computed V15 _ _ refl,
-  computed V15 _ _ refl,
-  computed V15 _ _ refl,
-  computed V15 _ _ refl,
-  computed V15 _ _ refl,
-  computed V15 _ _ refl,
-)
+values = search computed
 
 -- the worked lines with an open quote: faults of values that lack their end, and quotes after names
 pub open_quotes : HaveOpenQuotes
 unfolding is_name_character ucd_derived ucd_category encode is_utf8 chars
-open_quotes = (
-  outcome_of-is V15 (codes "KEY3='please stop''"),
-  outcome_of-is V15 (codes "KEY=é\"é"),
-  outcome_of-is V15 (codes "KEY=é'é"),
-  outcome_of-is V15 (codes "KEY=\"é\\"),
-  outcome_of-is Next (codes "F=$A\""),
-  outcome_of-is Next (codes "E=\"$\"x"),
-)
+open_quotes = search says_computed
 
 -- the worked files of dialects: what a file says in each of the two
 pub dialects : HaveDialects
 unfolding is_name_character ucd_derived ucd_category encode is_utf8 chars
-dialects = (
-  computed V15 _ _ refl,
-  computed Next _ _ refl,
-  computed V15 _ _ refl,
-  computed Next _ _ refl,
-  computed V15 _ _ refl,
-  computed Next _ _ refl,
-  computed V15 _ _ refl,
-  computed Next _ _ refl,
-)
+dialects = search computed
 
 -- the worked files of byte order marks: the loads drop one at the front, and iteration none
 pub marks : HaveMarks
 unfolding is_name_character ucd_derived ucd_category encode is_utf8 chars
-marks = (refl, computed V15 _ _ refl, refl, computed V15 _ _ refl, refl, refl, refl, computed V15 _ _ refl)
+marks = search computed
 
 -- the worked pairs: how an empty value is written, and one with a quote, a dollar and a backslash
 pub written : HaveWritten
@@ -118,19 +80,14 @@ written = (refl, refl)
 -- the worked files of repeats: which of two values of a name counts, in iteration and in both loads
 pub repeats : HaveRepeats
 unfolding is_name_character ucd_derived ucd_category encode is_utf8 chars
-repeats = (computed V15 _ _ refl, refl, refl, refl, refl, refl, refl, refl, refl, refl, refl, refl)
+repeats = search computed
 
 -- the worked files of NULs: where one stops a load, and what is set then
 pub nuls : HaveNuls
 unfolding is_name_character ucd_derived ucd_category encode is_utf8 chars
-nuls = (computed V15 _ _ refl, refl, refl, refl, refl, refl, refl, refl, refl, refl, refl)
+nuls = search computed
 
 -- the worked files of decisions: what is decided of bytes whose end was not reached
 pub decisions : HaveDecisions
 unfolding is_name_character ucd_derived ucd_category encode is_utf8 chars
-decisions = (
-  decided_computed V15 _ _ refl,
-  decided_computed V15 _ _ refl,
-  decided_computed V15 _ _ refl,
-  decided_computed V15 _ _ refl,
-)
+decisions = search decided_computed

@@ -3,5 +3,4 @@ pub mod NameCharacters
 pub mod Slices
 pub mod BytePlaces
 pub mod ByteRuns
-pub mod ByteTables
 pub mod ByteClasses

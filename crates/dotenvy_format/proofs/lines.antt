@@ -1,10 +1,8 @@
 pub mod Cuts
-pub mod Scans
 pub mod NextLine
 pub mod EntriesOnce
 pub mod DecidedFront
 pub mod Splitting
 pub mod SplitLines
-pub mod NextEntries
 pub mod LineTexts
 pub mod FirstLines

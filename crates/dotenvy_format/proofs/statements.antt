@@ -1,5 +1,4 @@
 pub mod Statements
 pub mod StatementPlaces
 pub mod Outcomes
-pub mod ParseLine
 pub mod StatementParts

@@ -1,3 +1,4 @@
+pub mod Readings
 pub mod Values
 pub mod ValuePlaces
 pub mod NextPiece

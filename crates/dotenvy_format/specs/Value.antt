@@ -4,6 +4,9 @@ use Rattle.std.specs.Prelude.{IsTrue, if◌then◌else◌}
 use Rattle.std.specs.List.{flat_map, list_all}
 use Rattle.dotenvy_format.specs.declared.dialect.Dialect.{Dialect}
 use Rattle.dotenvy_format.specs.declared.dialect.Dialect.TheVariants.{V15, Next}
+-- where a part is: outside quotes (Unquoted), or between double quotes (DoubleQuoted)
+use Rattle.dotenvy_format.specs.declared.text.Quoting.{Quoting}
+use Rattle.dotenvy_format.specs.declared.text.Quoting.TheVariants.{Unquoted, DoubleQuoted}
 use Rattle.dotenvy_format.specs.Characters.{is_space_or_tab, is_name_character, is_empty_or_comment}
 use Rattle.dotenvy_format.specs.Characters.{begins_passing, line_feed, letter_n, space}
 use Rattle.dotenvy_format.specs.Characters.{single_quote, double_quote, dollar, backslash}
@@ -22,11 +25,6 @@ pub data Part : Type 0 where
   braced : List ℕ → Part
   bare : List ℕ → ℕ → Part
   bare_before : List ℕ → Part
-
--- where a part is: outside quotes, or between double quotes
-pub data Quoting : Type 0 where
-  unquoted : Quoting
-  double_quoted : Quoting
 
 -- a segment of a value: a part outside quotes; a text in single quotes; or parts in double quotes
 pub data Segment : Type 0 where
@@ -114,14 +112,14 @@ is_escape c =
 
 -- a character that means itself, outside quotes or inside double quotes
 abbrev pub is_plain : Quoting → ℕ → Bool
-is_plain double_quoted c = is_plain_inside c
-is_plain unquoted c = is_plain_outside c
+is_plain DoubleQuoted c = is_plain_inside c
+is_plain Unquoted c = is_plain_outside c
 
 -- a bare name may be right before the closing double quote, in this dialect
 abbrev pub closes_after_name : Dialect → Quoting → Bool
 closes_after_name V15 quoting = false
-closes_after_name Next unquoted = false
-closes_after_name Next double_quoted = true
+closes_after_name Next Unquoted = false
+closes_after_name Next DoubleQuoted = true
 
 -- this character ends a bare name and is not its text: it begins another name, or closes the quotes
 abbrev pub is_left_by_name : Dialect → Quoting → ℕ → Bool
@@ -158,9 +156,9 @@ AreParts dialect quoting (p ∷ parts) after =
 
 -- this may be a segment before this text
 abbrev pub IsSegment : Dialect → Segment → List ℕ → Type 0
-IsSegment dialect (unquoted_part p) after = IsPart dialect unquoted p after
+IsSegment dialect (unquoted_part p) after = IsPart dialect Unquoted p after
 IsSegment dialect (single inner) after = IsTrue (list_all (λ c. not (c == single_quote)) inner)
-IsSegment dialect (double inner) after = AreParts dialect double_quoted inner (double_quote ∷ after)
+IsSegment dialect (double inner) after = AreParts dialect DoubleQuoted inner (double_quote ∷ after)
 
 -- these may be segments in a row, before this text
 abbrev pub AreSegments : Dialect → List Segment → List ℕ → Type 0

@@ -85,51 +85,61 @@ pub fn names_decide_items()
 {}
 
 /// Worked files: which physical lines make a logical line.
+#[tactic(auto, using(crate::proofs::WorkedFiles::lines))]
 pub fn worked_lines()
     ensures { HaveLines }
 {}
 
 /// Worked files: keys, `export`, and lines that are not a statement.
+#[tactic(auto, using(crate::proofs::WorkedFiles::statements))]
 pub fn worked_statements()
     ensures { HaveStatements }
 {}
 
 /// Worked files: values, and the places of faults in them.
+#[tactic(auto, using(crate::proofs::WorkedFiles::values))]
 pub fn worked_values()
     ensures { HaveValues }
 {}
 
 /// Worked lines: quotes that are open at the end of a line.
+#[tactic(auto, using(crate::proofs::WorkedFiles::open_quotes))]
 pub fn worked_open_quotes()
     ensures { HaveOpenQuotes }
 {}
 
 /// Worked files: one file under each dialect.
+#[tactic(auto, using(crate::proofs::WorkedFiles::dialects))]
 pub fn worked_dialects()
     ensures { HaveDialects }
 {}
 
 /// Worked files: byte order marks.
+#[tactic(auto, using(crate::proofs::WorkedFiles::marks))]
 pub fn worked_marks()
     ensures { HaveMarks }
 {}
 
 /// Worked pairs: their written form.
+#[tactic(auto, using(crate::proofs::WorkedFiles::written))]
 pub fn worked_pairs()
     ensures { HaveWritten }
 {}
 
 /// Worked files: what the first bytes of a file decide.
+#[tactic(auto, using(crate::proofs::WorkedFiles::decisions))]
 pub fn worked_decisions()
     ensures { HaveDecisions }
 {}
 
 /// Worked loads: which of two values of a name counts.
+#[tactic(auto, using(crate::proofs::WorkedFiles::repeats))]
 pub fn worked_repeats()
     ensures { HaveRepeats }
 {}
 
 /// Worked loads: where a NUL stops a load.
+#[tactic(auto, using(crate::proofs::WorkedFiles::nuls))]
 pub fn worked_nuls()
     ensures { HaveNuls }
 {}

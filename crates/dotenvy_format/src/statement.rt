@@ -1,9 +1,13 @@
 //! Reads a line up to what is assigned: an optional `export`, a key and `=` (docs/GRAMMAR.md, "Keys" and "`export`").
 
-ghost use Rattle.std.specs.Prelude.{◌≡◌};
+#![tactic(auto, using(crate::proofs::statements::StatementParts::slice_laws))]
+
+ghost use Rattle.std.specs.Prelude.{◌≡◌, option_map};
 ghost use Rattle.std.specs.Str.{chars};
 ghost use Rattle.dotenvy_format.specs.Characters.{begins_key, begins_passing};
-ghost use Rattle.dotenvy_format.specs.inside.ParseStatement.{key_then, skipping, equals_then, after_equals, after_plain_key, second_key, after_first_key, parse, Parsed, parsed_of, keyed_of, assigned_of};
+ghost use Rattle.dotenvy_format.specs.inside.ParseStatement.{split_key, assigned, after_key, after_prefix};
+ghost use Rattle.dotenvy_format.specs.inside.ParseStatement.{after_first_key, trimmed_statement, parse};
+ghost use Rattle.dotenvy_format.specs.inside.ParseStatement.{assignment_of, parsed_of, cut_of};
 
 use crate::classes::begins_key;
 use crate::text::{Class, split_first, split_while};
@@ -32,7 +36,7 @@ fn begins_with_key(text: &str) -> bool
 
 // The key that the text begins with, and what follows it, without white space at its start.
 fn split_key(text: &str) -> std::result::Result<(&str, &str), &str>
-    ensures { (next : _) → keyed_of result next ≡ key_then (chars text.now) (skipping next) }
+    ensures { cut_of result ≡ split_key (chars text.now) }
 {
     if begins_with_key(text) {
         let (key, after) = split_while(text, Class::Key);
@@ -44,9 +48,7 @@ fn split_key(text: &str) -> std::result::Result<(&str, &str), &str>
 
 // What is assigned to the key, if what is left begins with `=`.
 fn assigned<'a>(key: &'a str, left: &'a str) -> Option<Statement<'a>>
-    ensures { (other : Parsed) →
-        assigned_of result other
-        ≡ equals_then (chars left.now) (after_equals (chars key.now)) other }
+    ensures { option_map assignment_of result ≡ assigned (chars key.now) (chars left.now) }
 {
     let (first, rest) = split_first(left)?;
     if first != '=' {
@@ -60,14 +62,14 @@ fn assigned<'a>(key: &'a str, left: &'a str) -> Option<Statement<'a>>
 
 // A statement with this key, which is not a prefix.
 fn after_key<'a>(key: &'a str, left: &'a str) -> Parsed<'a>
-    ensures { parsed_of result ≡ after_plain_key (chars key.now) (chars left.now) }
+    ensures { parsed_of result ≡ after_key (chars key.now) (chars left.now) }
 {
     assigned(key, left).ok_or(left)
 }
 
 // A statement whose key comes after `export` and white space.
 fn after_prefix(left: &str) -> Parsed<'_>
-    ensures { parsed_of result ≡ second_key (chars left.now) }
+    ensures { parsed_of result ≡ after_prefix (chars left.now) }
 {
     let (key, after) = split_key(left)?;
     after_key(key, after)
@@ -91,7 +93,7 @@ fn after_first_key<'a>(key: &'a str, left: &'a str) -> Parsed<'a>
 
 // The statement of a text that has no white space at either end.
 fn trimmed_statement(text: &str) -> Parsed<'_>
-    ensures { parsed_of result ≡ key_then (chars text.now) (skipping after_first_key) }
+    ensures { parsed_of result ≡ trimmed_statement (chars text.now) }
 {
     let (key, after) = split_key(text)?;
     after_first_key(key, after)

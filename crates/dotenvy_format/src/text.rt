@@ -61,6 +61,7 @@ impl Class {
 }
 
 /// The first character of a text, and what follows it; `None` for the empty text.
+#[tactic(auto, using(crate::proofs::bytes::Slices::begins_with_first))]
 #[inline(always)]
 pub fn split_first(text: &str) -> Option<(char, &str)>
     ensures { MatchOption result (text.now ≡ []) (λ p. BeginsWith text.now p.0 p.1.now) }
@@ -71,6 +72,7 @@ pub fn split_first(text: &str) -> Option<(char, &str)>
 }
 
 /// The length of a text in characters. Places of faults in values count so.
+#[tactic(auto, using(std::proofs::lemmas::Str::chars_from_encodes))]
 pub fn char_count(text: &str) -> usize
     ensures { result ≡ length (chars text.now) }
 {
@@ -78,6 +80,7 @@ pub fn char_count(text: &str) -> usize
 }
 
 /// Whether the text is empty or begins with `#`.
+#[tactic(auto, using(crate::proofs::bytes::Slices::no_characters))]
 pub fn is_empty_or_comment(text: &str) -> bool
     ensures { result ≡ is_empty_or_comment (chars text.now) }
 {
@@ -181,6 +184,7 @@ fn row_end(bytes: &[u8], byte: u8) -> Option<usize>
 }
 
 /// How many bytes at the start of a text are this one, in a row.
+#[tactic(auto, using(crate::proofs::bytes::ByteRuns::run_to_position))]
 #[inline(always)]
 pub fn row_len(text: &str, byte: u8) -> usize
     ensures { result ≡ prefix_len (λ b. b == byte) text.now }
@@ -222,6 +226,7 @@ fn kind_run(bytes: &[u8], kind: ByteKind) -> usize
 }
 
 // Where the bytes end that may be skipped without decoding their characters.
+#[tactic(auto, using(crate::proofs::bytes::ByteRuns::run_ends))]
 #[inline(always)]
 fn run_end(bytes: &[u8], class: Class) -> Option<usize>
     ensures { unwrap_or result (length bytes.now) ≡ prefix_len (in_run class) bytes.now }

@@ -5,7 +5,6 @@ ghost use Rattle.std.specs.List.{prefix_len};
 ghost use Rattle.std.specs.Str.{chars};
 ghost use Rattle.dotenvy_format.specs.inside.ReadValue.{base, escaping, in_single, naming, bracing, in_tail};
 ghost use Rattle.dotenvy_format.specs.Characters.{backslash, left_brace, begins_with, is_name_character, begins_passing};
-ghost use Rattle.dotenvy_format.specs.inside.Slices.{quoting_of};
 ghost use Rattle.dotenvy_format.specs.Value.{is_left_by_name, is_plain};
 ghost use Rattle.dotenvy_format.specs.inside.NextPiece.{other_quoting, is_empty, kind_of, Escapes, NextPieceIs, IsShorter};
 
@@ -81,7 +80,7 @@ fn kind_of(quoting: Quoting, c: char) -> Kind
 
 // Whether this character, right after a bare name, is no text: it begins a substitution, or closes the quotes.
 fn is_left_by_name(dialect: Dialect, quoting: Quoting, c: char) -> bool
-    ensures { result ≡ is_left_by_name dialect (quoting_of quoting) c }
+    ensures { result ≡ is_left_by_name dialect quoting c }
 {
     match (dialect, quoting) {
         (Dialect::Next, Quoting::DoubleQuoted) => matches!(c, '$' | '"'),
@@ -110,7 +109,7 @@ fn escaped(c: char) -> Option<&'static str>
 fn at_end(text: &str, quoting: Quoting) -> NextPiece<'_>
     requires { text.now ≡ [] }
     ensures next { (dialect : _) →
-        NextPieceIs dialect (base (quoting_of quoting)) (chars text.now) result }
+        NextPieceIs dialect (base quoting) (chars text.now) result }
     ensures shorter { IsShorter (chars text.now) result }
 {
     match quoting {
@@ -123,7 +122,7 @@ fn at_end(text: &str, quoting: Quoting) -> NextPiece<'_>
 fn last_backslash(text: &str, quoting: Quoting) -> NextPiece<'_>
     requires { text.now ≡ [] }
     ensures { (dialect : _) →
-        NextPieceIs dialect (escaping (quoting_of quoting)) (chars text.now) result }
+        NextPieceIs dialect (escaping quoting) (chars text.now) result }
 {
     match quoting {
         Quoting::Unquoted => NextPiece::Piece(Given {
@@ -139,7 +138,7 @@ fn last_backslash(text: &str, quoting: Quoting) -> NextPiece<'_>
 #[inline(always)]
 fn escape_one(left: &str, quoting: Quoting) -> NextPiece<'_>
     ensures { (dialect : _) →
-        NextPieceIs dialect (escaping (quoting_of quoting)) (chars left.now) result }
+        NextPieceIs dialect (escaping quoting) (chars left.now) result }
 {
     match split_first(left) {
         None => last_backslash(left, quoting),
@@ -159,7 +158,7 @@ fn backslashes(left: &str, more: usize, quoting: Quoting) -> NextPiece<'_>
     requires some { 0 < more }
     requires row { more ≡ prefix_len (λ b. b == backslash) left.now }
     ensures { (dialect : _) →
-        NextPieceIs dialect (escaping (quoting_of quoting)) (chars left.now) result }
+        NextPieceIs dialect (escaping quoting) (chars left.now) result }
 {
     let pairs = more / 2 + more % 2;
     let (meant, _) = left.split_at(pairs);
@@ -175,7 +174,7 @@ fn backslashes(left: &str, more: usize, quoting: Quoting) -> NextPiece<'_>
 #[inline(always)]
 fn escape(left: &str, quoting: Quoting) -> NextPiece<'_>
     ensures { (dialect : _) →
-        NextPieceIs dialect (escaping (quoting_of quoting)) (chars left.now) result }
+        NextPieceIs dialect (escaping quoting) (chars left.now) result }
 {
     match row_len(left, b'\\') {
         0 => escape_one(left, quoting),
@@ -200,7 +199,7 @@ fn single_quoted(left: &str) -> NextPiece<'_>
 // What follows `${`.
 fn braced(left: &str, quoting: Quoting) -> NextPiece<'_>
     ensures { (dialect : _) →
-        NextPieceIs dialect (bracing (quoting_of quoting) []) (chars left.now) result }
+        NextPieceIs dialect (bracing quoting []) (chars left.now) result }
 {
     match left.split_once('}') {
         Some((name, rest)) => NextPiece::Piece(Given {
@@ -217,7 +216,7 @@ fn after_name<'a>(name: &'a str, left: &'a str, quoting: Quoting, dialect: Diale
     requires ended { IsTrue (not (begins_passing (is_name_character dialect) (chars left.now))) }
     requires no_brace { IsTrue
         (not (is_empty (chars name.now) && begins_with left_brace (chars left.now))) }
-    ensures { NextPieceIs dialect (naming (quoting_of quoting) (chars name.now)) (chars left.now)
+    ensures { NextPieceIs dialect (naming quoting (chars name.now)) (chars left.now)
         result }
 {
     match split_first(left) {
@@ -251,7 +250,7 @@ fn after_name<'a>(name: &'a str, left: &'a str, quoting: Quoting, dialect: Diale
 // What follows `$` without a brace.
 fn bare(left: &str, quoting: Quoting, dialect: Dialect) -> NextPiece<'_>
     requires { IsTrue (not (begins_with left_brace (chars left.now))) }
-    ensures { NextPieceIs dialect (naming (quoting_of quoting) []) (chars left.now) result }
+    ensures { NextPieceIs dialect (naming quoting []) (chars left.now) result }
 {
     let (name, rest) = split_while(left, Class::Name(dialect));
     after_name(name, rest, quoting, dialect)
@@ -259,7 +258,7 @@ fn bare(left: &str, quoting: Quoting, dialect: Dialect) -> NextPiece<'_>
 
 // What follows `$`.
 fn substitution(left: &str, quoting: Quoting, dialect: Dialect) -> NextPiece<'_>
-    ensures { NextPieceIs dialect (naming (quoting_of quoting) []) (chars left.now) result }
+    ensures { NextPieceIs dialect (naming quoting []) (chars left.now) result }
 {
     match left.strip_prefix('{') {
         Some(name) => braced(name, quoting),
@@ -281,9 +280,9 @@ fn tail(left: &str) -> NextPiece<'_>
 
 // The text up to the first character that does not mean itself.
 fn plain(text: &str, quoting: Quoting) -> NextPiece<'_>
-    requires { IsTrue (begins_passing (is_plain (quoting_of quoting)) (chars text.now)) }
+    requires { IsTrue (begins_passing (is_plain quoting) (chars text.now)) }
     ensures next { (dialect : _) →
-        NextPieceIs dialect (base (quoting_of quoting)) (chars text.now) result }
+        NextPieceIs dialect (base quoting) (chars text.now) result }
     ensures shorter { IsShorter (chars text.now) result }
 {
     let (plain, rest) = split_while(text, Class::Plain(quoting));
@@ -295,7 +294,7 @@ fn plain(text: &str, quoting: Quoting) -> NextPiece<'_>
 }
 
 fn other_quoting(quoting: Quoting) -> Quoting
-    ensures { quoting_of result ≡ other_quoting (quoting_of quoting) }
+    ensures { result ≡ other_quoting quoting }
 {
     match quoting {
         Quoting::Unquoted => Quoting::DoubleQuoted,
@@ -307,7 +306,7 @@ fn other_quoting(quoting: Quoting) -> Quoting
 #[inline(always)]
 fn double_quote(left: &str, quoting: Quoting) -> NextPiece<'_>
     ensures { (dialect : _) →
-        NextPieceIs dialect (base (other_quoting (quoting_of quoting))) (chars left.now) result }
+        NextPieceIs dialect (base (other_quoting quoting)) (chars left.now) result }
 {
     let (more, rest) = split_while(left, Class::DoubleQuote);
     let quoting = if more.len() % 2 == 0 {
@@ -327,7 +326,7 @@ fn double_quote(left: &str, quoting: Quoting) -> NextPiece<'_>
 /// Begin outside quotes with the whole value, and go on with the `rest` and `quoting` of each piece.
 #[inline(always)]
 pub fn next_piece(text: &str, quoting: Quoting, dialect: Dialect) -> NextPiece<'_>
-    ensures next { NextPieceIs dialect (base (quoting_of quoting)) (chars text.now) result }
+    ensures next { NextPieceIs dialect (base quoting) (chars text.now) result }
     ensures shorter { IsShorter (chars text.now) result }
 {
     match split_first(text) {

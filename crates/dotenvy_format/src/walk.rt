@@ -110,6 +110,7 @@ fn next_stands_for_itself(text: &str) -> bool
 
 // What is left of a text after characters at its start that leave the mode unchanged. Before a quote or a backslash, which
 // often comes right after another one, no run is searched for.
+#[tactic(auto, using(crate::proofs::lines::LineTexts::run_none))]
 #[inline(always)]
 fn pass_run(text: &str, mode: LineMode) -> &str
     ensures { PassesRun mode text.now result.now }

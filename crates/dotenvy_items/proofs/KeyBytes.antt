@@ -1,9 +1,9 @@
 -- Keys: their bytes are their characters, and each key is a name.
-use Rattle.std.proofs.Common.{◌≡◌, ◌<◌, ℕ, true, false, [], ◌∷◌, List, refl, sym, ap, ◌∙◌, arith}
-use Rattle.std.specs.Prelude.{◌++◌, ◌||◌, not, ◌==◌, encode_utf8_all}
+use Rattle.std.proofs.Common.{◌≡◌, ◌<◌, ℕ, true, false, [], ◌∷◌, List, refl, sym, ◌∙◌, arith}
+use Rattle.std.specs.Prelude.{◌==◌, encode_utf8_all}
 use Rattle.std.specs.List.{list_all, list_any}
 use Rattle.std.specs.Str.{chars, IsUtf8}
-use Rattle.std.proofs.lemmas.Bool.{and_parts, and_from}
+use Rattle.std.proofs.lemmas.Bool.{and_parts}
 use Rattle.std.proofs.lemmas.Bool.Decides.{nat_tests}
 use Rattle.std.proofs.lemmas.Str.{encodes-chars, encode_ascii}
 use Rattle.dotenvy_format.specs.Characters.{continues_key, equals_sign}
@@ -15,29 +15,24 @@ use Rattle.dotenvy_format.proofs.KeyCharacters.{key_continues}
 continues-ascii : (c : ℕ) → continues_key c ≡ true → c < 128
 continues-ascii c h = grind (arith, nat_tests, h)
 
--- a character of a key is no `=`
-continues-no_equals : (c : ℕ) → continues_key c ≡ true → (c == equals_sign) ≡ false
-continues-no_equals c h = grind (arith, nat_tests, h)
-
--- a character of a key is no NUL
-continues-no_nul : (c : ℕ) → continues_key c ≡ true → (c == 0) ≡ false
-continues-no_nul c h = grind (arith, nat_tests, h)
+-- a character of a key is not one that continues no key
+continues-other : (b c : ℕ) → continues_key b ≡ false → continues_key c ≡ true → (c == b) ≡ false
+continues-other b c other h = grind (arith, nat_tests, other, h)
 
 -- characters of keys are their own bytes
 encodes-continuing : (cs : List ℕ) → list_all continues_key cs ≡ true → encode_utf8_all cs ≡ cs
 encodes-continuing [] h = refl
 encodes-continuing (c ∷ cs) h =
     let parts = and_parts (continues_key c) (list_all continues_key cs) h in
-    ap (λ bs. bs ++ encode_utf8_all cs) (encode_ascii c (continues-ascii c parts.0))
-    ∙ ap (λ bs. c ∷ bs) (encodes-continuing cs parts.1)
+    rw (encode_ascii c (continues-ascii c parts.0), encodes-continuing cs parts.1)
 
 -- what continues no key stands in none
-none-continuing : (b : ℕ) → ((c : ℕ) → continues_key c ≡ true → (c == b) ≡ false) → (cs : List ℕ) →
-    list_all continues_key cs ≡ true → list_any (λ c. c == b) cs ≡ false
+none-continuing : (b : ℕ) → continues_key b ≡ false → (cs : List ℕ) → list_all continues_key cs ≡ true →
+    list_any (λ c. c == b) cs ≡ false
 none-continuing b other [] h = refl
 none-continuing b other (c ∷ cs) h =
     let parts = and_parts (continues_key c) (list_all continues_key cs) h in
-    ap (λ t. t || list_any (λ c. c == b) cs) (other c parts.0) ∙ none-continuing b other cs parts.1
+    rw (continues-other b c other parts.0) (none-continuing b other cs parts.1)
 
 -- a key is its own bytes
 pub encodes-key : (cs : List ℕ) → is_key cs ≡ true → encode_utf8_all cs ≡ cs
@@ -52,10 +47,8 @@ name_from_key : (cs : List ℕ) → is_key cs ≡ true → name_ok cs ≡ true
 name_from_key [] h = h
 name_from_key (c ∷ cs) h =
     let continues = key_continues (c ∷ cs) h in
-    and_from (not (list_any (λ b. b == equals_sign) (c ∷ cs))) (not (list_any (λ b. b == 0) (c ∷ cs)))
-    (ap not (none-continuing equals_sign continues-no_equals (c ∷ cs) continues))
-    (ap not (none-continuing 0 continues-no_nul (c ∷ cs) continues))
+    rw (none-continuing equals_sign refl (c ∷ cs) continues, none-continuing 0 refl (c ∷ cs) continues)
 
 -- a key is a name
 pub name_ok-key : (bs : List ℕ) → IsUtf8 bs → is_key (chars bs) ≡ true → name_ok bs ≡ true
-name_ok-key bs utf8 h = name_from_key bs (sym (ap is_key (chars-key bs utf8 h)) ∙ h)
+name_ok-key bs utf8 h = name_from_key bs (rw (chars-key bs utf8 h) at h)

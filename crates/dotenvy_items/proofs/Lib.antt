@@ -9,8 +9,8 @@ pub mod WholeLoads
 pub mod ItemSteps
 pub mod NextItems
 pub mod KeyLookUps
-pub mod EnvChanges
 pub mod LineLoads
+pub mod UsedLines
 pub mod LoadSteps
 pub mod StoppedLoads
 pub mod Nuls

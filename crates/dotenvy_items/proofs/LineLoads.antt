@@ -1,9 +1,9 @@
 -- What a load leaves of one line, at each way out.
-use Rattle.std.proofs.Common.{◌≡◌, ℕ, Bool, true, false, List, [], ◌∷◌, Result, Ok, Err, ◌⊎◌, inl}
-use Rattle.std.proofs.Common.{inr, refl, sym, ◌∙◌, ap, subst, string_bytes}
-use Rattle.std.specs.Prelude.{not, IsTrue, IfErr, MatchResult, OnOk, OnErr, if◌then◌else◌}
+use Rattle.std.proofs.Common.{rules, ◌&&◌, ◌≡◌, ◌∙◌, ℕ, Bool, true, false, List, Result, Ok, Err, ◌⊎◌, inl, inr, refl}
+use Rattle.std.proofs.Common.{string_bytes, sym}
+use Rattle.std.specs.Prelude.{not, if◌then◌else◌, IsTrue, IfErr, MatchResult, OnOk, OnErr}
 use Rattle.std.specs.Str.{chars}
-use Rattle.std.specs.FinMap.{insert, get, contains_key}
+use Rattle.std.specs.FinMap.{insert}
 use Rattle.std.specs.declared.string.String.{String}
 use Rattle.std.proofs.lemmas.Str.{IsUtf8-string_bytes}
 use Rattle.dotenvy_format.specs.declared.dialect.Dialect.{Dialect}
@@ -12,17 +12,16 @@ use Rattle.dotenvy_items.specs.declared.parse.Declaration.{Declaration}
 use Rattle.dotenvy_base.specs.Errors.{IsMemory, IsNulOf, IsLineParseOf}
 use Rattle.dotenvy_format.specs.Keys.{is_key}
 use Rattle.dotenvy_format.specs.Outcome.{Pair, Fault as SaysFault, Says}
-use Rattle.dotenvy_format.specs.Entries.{Declares, Nul}
-use Rattle.dotenvy_format.specs.Items.{meaning, with_value}
-use Rattle.dotenvy_format.specs.Run.{Mode, Keep, Loaded, sets, run, has_nul}
+use Rattle.dotenvy_format.specs.Entries.{Nul}
+use Rattle.dotenvy_format.specs.Items.{LookUp, meaning, with_value}
+use Rattle.dotenvy_format.specs.Run.{Mode, Keep, Loaded, sets, has_nul}
 use Rattle.dotenvy_base.specs.Environment.{Texts, Env, value_ok, KeepsNames}
 use Rattle.dotenvy_items.specs.Remembered.{Remembered}
 use Rattle.dotenvy_items.specs.Meaning.{values_of, recalled_of, names_of}
 use Rattle.dotenvy_items.specs.LoadsRest.{Leaves, ChangesOnlyKeys}
-use Rattle.dotenvy_items.proofs.EnvChanges.{changes_none}
 use Rattle.dotenvy_items.specs.inside.LoadStep.{LoadsLine}
 use Rattle.dotenvy_items.specs.inside.FirstPass.{IsDeclared, IsPairOf}
-use Rattle.dotenvy_format.proofs.Basics.{not_is, not_false}
+use Rattle.dotenvy_format.proofs.Basics.{not_is}
 use Rattle.dotenvy_items.proofs.Nuls.{value_ok-chars}
 use Rattle.dotenvy_items.proofs.KeyBytes.{chars-key}
 use Rattle.dotenvy_items.proofs.KeyLookUps.{values_of-insert, is_none-contains, changes_keys-insert}
@@ -31,132 +30,97 @@ use Rattle.dotenvy_format.proofs.loads.LoadRuns.{run-one}
 use Rattle.dotenvy_base.proofs.TextMaps.{keeps_insert}
 
 -- a line's fault is the answer
-pub fault_loaded : {A : Type 0} (mode : Mode) (dialect : Dialect) (remembered : Remembered) (line text : List ℕ)
-    (index : ℕ) (names : Texts) (e : Error A) →
-    Says dialect line (SaysFault text index) → IsMemory e ⊎ IsLineParseOf text index e →
-    LoadsLine mode dialect remembered line names (Err e) names
-fault_loaded mode dialect remembered line text index names e says (inl refused) = inl (refused, refl)
-fault_loaded mode dialect remembered line text index names e says (inr is) =
+pub fault_loaded : {A : Type 0} (mode : Mode) (remembered : Remembered) {dialect : Dialect} {line text : List ℕ}
+    {index : ℕ} {names : Texts} {e : Error A} → Says dialect line (SaysFault text index) →
+    IsMemory e ⊎ IsLineParseOf text index e → LoadsLine mode dialect remembered line names (Err e) names
+fault_loaded mode remembered says (inl refused) = inl (refused, refl)
+fault_loaded mode remembered {text = text} {index} says (inr is) =
     inr (SaysFault text index, says, record { values = λ n. refl; is_answer = is })
 
--- a declaration of a name that keeps its value is passed by, whatever its value
-pub passed_loaded : {A : Type 0} (mode : Mode) (dialect : Dialect) (remembered : Remembered) (line : List ℕ)
-    (names : Texts) (declaration : Declaration) →
-    IsDeclared dialect (names_of names remembered) line declaration →
-    sets mode (values_of names) (chars declaration.key.now) ≡ false →
-    LoadsLine {A = A} mode dialect remembered line names (Ok tt) names
-passed_loaded {A = A} mode dialect remembered line names declaration is passed =
+-- what a load of a declaration leaves, by whether its name is set and whether its value has a NUL
+abbrev pub left_by : LookUp → List ℕ → List ℕ → Bool → Bool → Loaded
+left_by env key value is_set has =
+    if is_set && has then record { env = env; answer = Err (Nul key) }
+    else record { env = if is_set then with_value env key value else env; answer = Ok tt }
+
+-- a load of a line leaves what one of its declaration does
+pub declared_loaded : {A : Type 0} (mode : Mode) (remembered : Remembered) {dialect : Dialect} {line : List ℕ}
+    {old new : Texts} {declaration : Declaration} {answer : Result (Unit {0}) (Error A)} {is_set has : Bool}
+    (is : IsDeclared dialect (names_of old remembered) line declaration) →
+    sets mode (values_of old) (chars declaration.key.now) ≡ is_set →
+    has_nul (meaning (names_of old remembered) is.pieces) ≡ has →
+    Leaves
+    (left_by (values_of old) (chars declaration.key.now) (meaning (names_of old remembered) is.pieces) is_set has) new
+    answer → LoadsLine mode dialect remembered line old answer new
+declared_loaded mode remembered {dialect} {line} {old} {declaration = declaration} {is_set = is_set} {has} is set nul
+    leaves =
     let key = chars declaration.key.now in
-    let value = meaning (names_of names remembered) is.pieces in
     inr (
       Pair key is.pieces,
-      says_declared dialect (names_of names remembered) line key declaration is refl,
-      subst (λ loaded. Leaves {A = A} loaded names (Ok tt))
-          (sym (run-one mode (values_of names) (recalled_of remembered) key value is.pieces false (has_nul value) refl
-          passed refl))
-          (record { values = λ n. refl; is_answer = tt }),
+      says_declared dialect (names_of old remembered) line key declaration is refl,
+      rw (run-one mode (values_of old) (recalled_of remembered) key _ is.pieces is_set has refl set nul) leaves,
     )
 
+-- what `set` answers to this pair and leaves
+pub record SetBy {A : Type 0} (old new : Env) (pair : String A × String A) (answer : Result (Unit {0}) (Error A))
+    : Type 0 where
+  pub ok : OnOk answer (new ≡ record old { names = insert old.names (string_bytes pair.0) (string_bytes pair.1) })
+  pub same : OnErr answer (new ≡ old)
+  pub good : IsTrue (value_ok (string_bytes pair.1)) → IfErr answer IsMemory
+  pub nul : value_ok (string_bytes pair.1) ≡ false → MatchResult answer (λ _. ⊥) (IsNulOf (string_bytes pair.0))
+
 -- the answer of `set` to the pair of a declaration is what a load of its line answers and leaves
-pub set_loaded : {A : Type 0} (mode : Mode) (dialect : Dialect) (remembered : Remembered) (line : List ℕ)
-    (old new : Env) (declaration : Declaration) (pair : String A × String A) (answer : Result (Unit {0}) (Error A)) →
+pub set_loaded : {A : Type 0} (mode : Mode) (remembered : Remembered) {dialect : Dialect} {line : List ℕ}
+    {old new : Env} {declaration : Declaration} {pair : String A × String A} {answer : Result (Unit {0}) (Error A)}
     (is : IsDeclared dialect (names_of old.names remembered) line declaration) →
     IsPairOf (names_of old.names remembered) declaration is.pieces pair →
-    sets mode (values_of old.names) (chars declaration.key.now) ≡ true →
-    OnOk answer (new ≡ record old { names = insert old.names (string_bytes pair.0) (string_bytes pair.1) }) →
-    OnErr answer (new ≡ old) →
-    (IsTrue (value_ok (string_bytes pair.1)) → IfErr answer IsMemory) →
-    (value_ok (string_bytes pair.1) ≡ false → MatchResult answer (λ _. ⊥) (IsNulOf (string_bytes pair.0))) →
+    sets mode (values_of old.names) (chars declaration.key.now) ≡ true → SetBy old new pair answer →
     LoadsLine mode dialect remembered line old.names answer new.names
-set_loaded {A = A} mode dialect remembered line old new declaration pair answer is are set ok same good nul =
-    at answer (value_ok (string_bytes pair.1)) refl ok same good nul
+set_loaded {A = A} mode remembered {dialect} {line} {old} {new} {pair = pair} {answer} is are set by =
+    at answer (has_nul value) refl by
   where
-    key : List ℕ
-    key = chars (string_bytes pair.0)
-
     value : List ℕ
-    value = chars (string_bytes pair.1)
+    value = meaning (names_of old.names remembered) is.pieces
 
-    says : Says dialect line (Pair key is.pieces)
-    says = says_declared dialect (names_of old.names remembered) line key declaration is (ap chars (sym are.key))
+    spelled : chars (string_bytes pair.1) ≡ value
+    spelled = chars-spelled (string_bytes pair.1) value (IsUtf8-string_bytes pair.1) are.value
 
-    is_its_key : is_key key ≡ true
-    is_its_key = subst (λ k. is_key (chars k) ≡ true) (sym are.key) is.statement.is_key
+    good : (has : Bool) → has_nul value ≡ has → value_ok (string_bytes pair.1) ≡ not has
+    good has h = rw (← h, ← spelled) (value_ok-chars (string_bytes pair.1) (IsUtf8-string_bytes pair.1))
 
-    -- what a load of it leaves, and its answer
-    left : (has : Bool) → Loaded
-    left has =
-        if has then record { env = values_of old.names; answer = Err (Nul key) }
-        else record { env = with_value (values_of old.names) key value; answer = Ok tt }
-
-    one : (has : Bool) → has_nul value ≡ has →
-        run mode (values_of old.names) (recalled_of remembered) (Declares key is.pieces ∷ []) ≡ left has
-    one has h =
-        run-one mode (values_of old.names) (recalled_of remembered) key value is.pieces true has
-        (chars-spelled (string_bytes pair.1) (meaning (names_of old.names remembered) is.pieces)
-        (IsUtf8-string_bytes pair.1) are.value)
-        (ap (λ k. sets mode (values_of old.names) (chars k)) are.key ∙ set) h
-
-    loads : (has : Bool) → has_nul value ≡ has → (answer : Result (Unit {0}) (Error A)) →
-        Leaves (left has) new.names answer → LoadsLine mode dialect remembered line old.names answer new.names
-    loads has h answer leaves =
-        inr (Pair key is.pieces, says, subst (λ loaded. Leaves loaded new.names answer) (sym (one has h)) leaves)
-
-    good_value : value_ok (string_bytes pair.1) ≡ not (has_nul value)
-    good_value = value_ok-chars (string_bytes pair.1) (IsUtf8-string_bytes pair.1)
-
-    at : (answer : Result (Unit {0}) (Error A)) (b : Bool) → value_ok (string_bytes pair.1) ≡ b →
-        OnOk answer (new ≡ record old { names = insert old.names (string_bytes pair.0) (string_bytes pair.1) }) →
-        OnErr answer (new ≡ old) →
-        (IsTrue (value_ok (string_bytes pair.1)) → IfErr answer IsMemory) →
-        (value_ok (string_bytes pair.1) ≡ false → MatchResult answer (λ _. ⊥) (IsNulOf (string_bytes pair.0))) →
+    at : (answer : Result (Unit {0}) (Error A)) (has : Bool) → has_nul value ≡ has → SetBy old new pair answer →
         LoadsLine mode dialect remembered line old.names answer new.names
-    at (Ok done) true h set same good nul =
-        loads false (not_is (has_nul value) (sym good_value ∙ h)) (Ok done)
-        (record {
-          values = λ n.
-              ap (λ (e : Env). values_of e.names n) set
-              ∙ values_of-insert old.names (string_bytes pair.0) (string_bytes pair.1) (IsUtf8-string_bytes pair.0) n;
-          is_answer = tt;
-        })
-    at (Ok done) false h set same good nul = absurd (nul h)
-    at (Err e) true h set same good nul = inl (good h, ap (λ (e : Env). e.names) same)
-    at (Err e) false h set same good nul =
-        loads true (not_false (has_nul value) (sym good_value ∙ h)) (Err e)
-        (record {
-          values = λ n. ap (λ (e : Env). values_of e.names n) same;
-          is_answer = subst (λ k. IsNulOf k e)
-              (sym (chars-key (string_bytes pair.0) (IsUtf8-string_bytes pair.0) is_its_key)) (nul h);
-        })
+    at (Ok done) true h by = absurd (by.nul (good true h))
+    at (Ok done) false h by = declared_loaded mode remembered is set h (record {
+      values = λ n. rw (by.ok, ← are.key, ← spelled) (values_of-insert old.names _ _ (IsUtf8-string_bytes pair.0) n);
+      is_answer = tt;
+    })
+    at (Err e) true h by = declared_loaded mode remembered is set h (record {
+      values = λ n. rw by.same;
+      is_answer =
+          let same = chars-key (string_bytes pair.0) (IsUtf8-string_bytes pair.0) (rw are.key is.statement.is_key) in
+          rw (← are.key, same) (by.nul (good true h));
+    })
+    at (Err e) false h by = inl (by.good (good false h), rw by.same)
 
 -- in a load that keeps values a name that is set was absent, so the others keep theirs
-pub set_keeps : {A : Type 0} (mode : Mode) (old new : Env) (key value : String A)
-    (answer : Result (Unit {0}) (Error A)) → sets mode (values_of old.names) (chars (string_bytes key)) ≡ true →
-    OnOk answer (new ≡ record old { names = insert old.names (string_bytes key) (string_bytes value) }) →
-    OnErr answer (new ≡ old) → mode ≡ Keep → KeepsNames old.names new.names
-set_keeps mode old new key value (Ok done) set ok same keep =
+pub set_keeps : {A : Type 0} {mode : Mode} {old new : Env} {pair : String A × String A}
+    (answer : Result (Unit {0}) (Error A)) → sets mode (values_of old.names) (chars (string_bytes pair.0)) ≡ true →
+    SetBy old new pair answer → mode ≡ Keep → KeepsNames old.names new.names
+set_keeps {old = old} {pair = pair} (Ok done) set by keep =
     let absent =
-    sym (is_none-contains old.names (string_bytes key) (contains_key old.names (string_bytes key))
-    (IsUtf8-string_bytes key) refl)
-    ∙ ap (λ m. sets m (values_of old.names) (chars (string_bytes key))) (sym keep)
-    ∙ set in
-    subst (λ (e : Env). KeepsNames old.names e.names) (sym ok)
-    (keeps_insert old.names old.names (string_bytes key) (string_bytes value) (λ k there. refl)
-    (not_is (contains_key old.names (string_bytes key)) absent))
-set_keeps mode old new key value (Err e) set ok same keep = λ k there. ap (λ (n : Env). get n.names k) same
+    sym (is_none-contains old.names (string_bytes pair.0) _ (IsUtf8-string_bytes pair.0) refl) ∙ rw keep at set in
+    rw by.ok (keeps_insert old.names old.names (string_bytes pair.0) (string_bytes pair.1) (λ k there. refl)
+    (not_is _ absent))
+set_keeps (Err e) set by keep = λ k there. rw by.same
 
 -- where the key of a line is set, only keys change
-pub set_changes : {A : Type 0} (old new : Env) (key value : String A) (answer : Result (Unit {0}) (Error A)) →
-    is_key (chars (string_bytes key)) ≡ true →
-    OnOk answer (new ≡ record old { names = insert old.names (string_bytes key) (string_bytes value) }) →
-    OnErr answer (new ≡ old) → ChangesOnlyKeys old new
-set_changes old new key value (Ok done) is ok same =
-    subst (λ (e : Env). ChangesOnlyKeys old e) (sym ok)
-    (record {
-      keys =
-          changes_keys-insert old.names old.names (string_bytes key) (string_bytes value) (λ n other. refl)
-          (IsUtf8-string_bytes key) is;
-      mark = refl;
-    })
-set_changes old new key value (Err e) is ok same =
-    subst (λ (e : Env). ChangesOnlyKeys old e) (sym same) (changes_none old)
+pub set_changes : {A : Type 0} {old new : Env} {pair : String A × String A} (answer : Result (Unit {0}) (Error A)) →
+    is_key (chars (string_bytes pair.0)) ≡ true → SetBy old new pair answer → ChangesOnlyKeys old new
+set_changes {old = old} {pair = pair} (Ok done) is by = rw by.ok (record {
+  keys =
+      changes_keys-insert old.names old.names (string_bytes pair.0) (string_bytes pair.1) (λ n other. refl)
+      (IsUtf8-string_bytes pair.0) is;
+  mark = refl;
+})
+set_changes {old = old} (Err e) is by = rw by.same (search rules)

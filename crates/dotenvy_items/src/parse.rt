@@ -69,6 +69,7 @@ fn front_len(text: &str, left: &str) -> usize
 }
 
 // The index of a fault in a value: in characters, but in bytes for a value that only lacks its end.
+#[tactic(auto, using(crate::proofs::LinePasses::fault_places))]
 fn fault_index(value: &str, left: &str) -> usize
     requires cut { (front : List ℕ) × (chars value.now ≡ front ++ chars left.now) }
     requires nonempty { 0 < length value.now }

@@ -11,6 +11,7 @@ use std::hash::{BuildHasherDefault, FoldHasher};
 pub type Remembered<A> = HashMap<String<A>, Option<String<A>>, BuildHasherDefault<FoldHasher>, A>;
 
 /// The remembered text of a name.
+#[tactic(auto, using(crate::proofs::RememberedMaps::remembered_maps))]
 pub(crate) fn recall<'a, A: Allocator>(remembered: &'a Remembered<A>, name: &str) -> Option<&'a str>
     ensures { option_copied result ≡ recalled (remembered_of remembered.now.entries) name.now }
 {
@@ -22,6 +23,7 @@ pub(crate) fn recall<'a, A: Allocator>(remembered: &'a Remembered<A>, name: &str
 }
 
 /// Remembers the value of a key in the place of an earlier one.
+#[tactic(auto, using(crate::proofs::RememberedMaps::remembered_maps))]
 pub(crate) fn remember<A: Allocator + Clone>(
     remembered: &mut Remembered<A>,
     key: String<A>,

@@ -49,6 +49,7 @@ fn written_len(key: &str, text: &str) -> usize
 }
 
 // Appends a character of a value, as it is written, to a text that has room for it.
+#[tactic(auto, using(crate::proofs::WrittenBytes::character_steps))]
 fn push_character<A: Allocator>(out: &mut String<A>, c: char)
     requires { string_len out.old + byte_len (written_character c) ≤ string_capacity out.old }
     ensures bytes { string_bytes out.new
@@ -62,6 +63,7 @@ fn push_character<A: Allocator>(out: &mut String<A>, c: char)
 }
 
 // Appends the written form of a pair to a text that has room for it.
+#[tactic(auto, using(crate::proofs::WrittenBytes::written_steps))]
 fn push_written<A: Allocator>(out: &mut String<A>, key: &str, text: &str)
     requires { string_len out.old + byte_len (written_text ((chars key.now, chars text.now) ∷ []))
         ≤ string_capacity out.old }

@@ -1,15 +1,12 @@
 -- How many physical lines were taken, as 64 bits count them.
-use Rattle.std.proofs.Common.{◌≡◌, ◌<◌, ◌+◌, ◌^◌, ◌-◌, ℕ, suc, arith}
+use Rattle.std.proofs.Common.{◌≡◌, ◌+◌, ◌^◌, ◌-◌, ℕ, suc, arith}
 use Rattle.std.specs.Prelude.{min}
 use Rattle.dotenvy_lines.specs.Lines.{Counts}
 
 -- one more line is counted, as long as 64 bits hold the number
 pub counts_one : (before count now after more : ℕ) → Counts before count now → after ≡ min (now + 1) (2 ^ 64 - 1) →
     more ≡ suc count → Counts before more after
-counts_one before count now after more counts e m fits =
-    let fewer : before + count < 2 ^ 64 = omega (arith, m, fits) in
-    let same = counts fewer in
-    omega (arith, same, e, m, fits)
+counts_one before count now after more counts e m fits = omega (arith, counts)
 
 -- no line is counted yet
 pub counts_none : (before : ℕ) → Counts before 0 before
@@ -19,8 +16,4 @@ counts_none before fits = omega arith
 pub counts_more : (before count now more after : ℕ) → Counts before count now → Counts now more after →
     Counts before (count + more) after
 counts_more before count now more after first second fits =
-    let fewer : before + count < 2 ^ 64 = omega (arith, fits) in
-    let same = first fewer in
-    let others : now + more < 2 ^ 64 = omega (arith, same, fits) in
-    let then = second others in
-    omega (arith, same, then)
+    omega (arith, first, second)

@@ -153,6 +153,7 @@ fn too_many_reads<A: Allocator>() -> Error<A>
     Error::Io(io::Error::other("too many reads"))
 }
 
+#[tactic(auto, using(crate::proofs::Inputs::found_place))]
 fn line_feed_place(bytes: &[u8]) -> Option<usize>
     ensures { result ≡ position (λ b. b == 10) bytes.now }
 {
@@ -160,6 +161,7 @@ fn line_feed_place(bytes: &[u8]) -> Option<usize>
 }
 
 // The length of the first line of the bytes, its LF included.
+#[tactic(auto, using(crate::proofs::Inputs::first_line))]
 fn whole_line_len(bytes: &[u8]) -> Option<usize>
     ensures { MatchOption result (no_line_feed bytes.now ≡ true)
         (λ n. (n ≤ length bytes.now) × (is_whole_line (take n bytes.now) ≡ true)) }

@@ -1,5 +1,5 @@
 -- The unread bytes of a buffer, as a part of all its bytes.
-use Rattle.std.proofs.Common.{◌≡◌, ℕ, ◌+◌, ◌-◌, ◌≤◌, List, ◌++◌, length, take, drop, length-drop, sym, ◌∙◌, ap, arith}
+use Rattle.std.proofs.Common.{◌≡◌, ℕ, ◌+◌, ◌-◌, ◌≤◌, List, ◌++◌, length, take, drop, length-drop, zero-add, arith}
 use Rattle.std.specs.List.{copy_within}
 use Rattle.std.proofs.Math.Seq.{take-append-add}
 use Rattle.std.proofs.lemmas.List.{drop-take, drop-drop, take-append-le, length-take-le}
@@ -10,30 +10,24 @@ use borrow.Rule.Slice.PartMut.{put_mid, post_of}
 pub unread-used : (bytes : List ℕ) (used filled n : ℕ) → used + n ≤ filled →
     take (filled - (used + n)) (drop (used + n) bytes) ≡ drop n (take (filled - used) (drop used bytes))
 unread-used bytes used filled n within =
-    ap (take (filled - (used + n))) (sym (drop-drop n used bytes))
-    ∙ sym (drop-take n (filled - (used + n)) (drop used bytes))
-    ∙ ap (λ k. drop n (take k (drop used bytes))) (omega (arith, within))
+    let e : filled - used ≡ n + (filled - (used + n)) = omega arith in rw (e, drop-take, drop-drop)
 
 -- as many bytes are unread as were filled and not used
 pub unread-len : (bytes : List ℕ) (used filled : ℕ) → used ≤ filled → filled ≤ length bytes →
     length (take (filled - used) (drop used bytes)) ≡ filled - used
 unread-len bytes used filled below within =
-    length-take-le (filled - used) (drop used bytes) (omega (arith, below, within, length-drop used bytes))
+    length-take-le (filled - used) (drop used bytes) (omega (arith, length-drop used bytes))
 
 -- the unread bytes stay the same where they are moved to the front
 pub unread-moved : (bytes : List ℕ) (used filled : ℕ) → used ≤ filled → filled ≤ length bytes →
     take (filled - used) (copy_within bytes used filled 0) ≡ take (filled - used) (drop used bytes)
 unread-moved bytes used filled below within =
-    ap (λ k. take k (copy_within bytes used filled 0)) (omega arith)
-    ∙ take-paste bytes 0 (drop used bytes) (filled - used) (omega arith)
-    (omega (arith, below, within, length-drop used bytes))
+    let within_drop = length-drop used bytes in
+    cc (zero-add (filled - used), take-paste bytes 0 (drop used bytes) (filled - used) (omega arith) (omega arith))
 
 -- with n bytes put after those that are filled, these and then the n are unread
 pub unread-more : (bytes given : List ℕ) (filled room n : ℕ) → filled ≤ length bytes → n ≤ length given →
     take (filled + n - 0) (put_mid filled room bytes given) ≡ take filled bytes ++ take n given
 unread-more bytes given filled room n within some =
-    let all = take filled bytes ++ (given ++ post_of filled room bytes) in
-    ap (λ k. take k all) (omega arith)
-    ∙ ap (λ k. take (k + n) all) (sym (length-take-le filled bytes within))
-    ∙ take-append-add (take filled bytes) (given ++ post_of filled room bytes) n
-    ∙ ap (λ l. take filled bytes ++ l) (take-append-le n given (post_of filled room bytes) some)
+    let e : filled + n - 0 ≡ length (take filled bytes) + n = omega (arith, length-take-le filled bytes within) in
+    rw (e, take-append-add (take filled bytes) (given ++ post_of filled room bytes) n, take-append-le)

@@ -1,57 +1,43 @@
--- Each list of physical lines has one next logical line.
-use Rattle.std.proofs.Common.{◌≡◌, ℕ, zero, suc, ◌≤◌, ◌<◌, Bool, true, false, ◌&&◌, not, cond, List}
-use Rattle.std.proofs.Common.{[], ◌∷◌, ◌++◌, Option, Some, None, refl, sym, ◌∙◌, ap, arith}
-use Rattle.std.proofs.Common.{append_assoc, subst, length, take, drop, inl, inr, ⊎_elim}
+-- A loop over physical lines tells the next logical line, and there is at most one.
+use Rattle.std.proofs.Common.{◌≡◌, ℕ, zero, suc, ◌≤◌, ◌<◌, Bool, true, false, ◌||◌, not, cond, List}
+use Rattle.std.proofs.Common.{[], ◌∷◌, ◌++◌, map, Option, Some, None, refl, sym, ◌∙◌, ap, arith}
+use Rattle.std.proofs.Common.{append_assoc, length, take, inl, inr, ⊎_elim}
 use Rattle.std.specs.Prelude.{◌==◌, ◌⊎◌, ◌≢◌}
-use Rattle.std.specs.List.{concat}
-use Rattle.std.proofs.lemmas.List.{append-nil, take-append-drop, length-take}
-use Rattle.std.proofs.lemmas.List.Folds.{concat-append}
-use Rattle.std.proofs.Math.Seq.{take-append_seam, take-length}
-use Rattle.std.proofs.lemmas.Bool.Decides.{nat_tests}
-use Rattle.std.proofs.lemmas.Bool.{cases_lt}
-use Rattle.std.specs.Str.{skip_leading_whitespace}
-use Rattle.dotenvy_format.specs.Characters.{begins_with, line_feed, backslash, hash, byte_len}
+use Rattle.std.specs.List.{flat_map, concat}
+use Rattle.std.proofs.lemmas.List.{append-nil, length-append, take_all}
+use Rattle.dotenvy_format.specs.Characters.{line_feed, hash, is_blank, is_quote, byte_len}
 use Rattle.dotenvy_format.specs.PhysicalLines.{physical_lines, onto_first, AreCut, is_whole_line, is_last_line}
-use Rattle.dotenvy_format.specs.Tokens.{tokens_text}
+use Rattle.dotenvy_format.specs.Tokens.{Token, plain, backslash_pair, quoted, blank_pair, blank}
+use Rattle.dotenvy_format.specs.Tokens.{quoted_text, token_text, tokens_text, stands_for_itself, IsToken, AreTokens}
 use Rattle.dotenvy_format.specs.LogicalLine.{Ending, line_end, escaped_line_end, comment, input_end}
-use Rattle.dotenvy_format.specs.LogicalLine.{ending_text, IsOneLine, IsEnding, kept_text}
-use Rattle.dotenvy_format.specs.LogicalLine.{with_text_before, joined_text, IsSkipped}
-use Rattle.dotenvy_format.specs.LogicalLine.{IsFirstBroken, Logical, Skip, Text, Open, Broken}
-use Rattle.dotenvy_format.specs.LogicalLine.{IsText, IsNext}
-use Rattle.dotenvy_format.proofs.Basics.{and_right}
-use Rattle.dotenvy_format.proofs.lines.Cuts.{concat-lines, lines-append}
-use Rattle.dotenvy_format.proofs.lines.Scans.{scan, outside, Scan, stops, open_end, first_line}
-use Rattle.dotenvy_format.proofs.lines.Scans.{after_line, IsClosed, scan-tokens, scan-reads, Reads}
-use Rattle.dotenvy_format.proofs.lines.Scans.{Read}
-
--- the texts before the first broken line
-abbrev pub texts_of : List (Option (List ℕ)) → List (List ℕ)
-texts_of [] = []
-texts_of (None ∷ lines) = []
-texts_of (Some text ∷ lines) = text ∷ texts_of lines
+use Rattle.dotenvy_format.specs.LogicalLine.{ending_text, IsOneLine, IsEnding, IsWhole}
+use Rattle.dotenvy_format.specs.LogicalLine.{with_text_before, joined_text, IsFirstBroken}
+use Rattle.dotenvy_format.specs.LogicalLine.{Logical, Skip, Text, Open, Broken, IsText, IsNext}
+use Rattle.dotenvy_format.specs.declared.walk.LineMode.{LineMode}
+use Rattle.dotenvy_format.specs.declared.walk.LineMode.TheVariants.{Outside}
+use Rattle.dotenvy_format.specs.inside.Walk.{going, ended, walk}
+use Rattle.dotenvy_format.proofs.Basics.{same_from}
+use Rattle.dotenvy_format.proofs.lines.Cuts.{after_first}
+use Rattle.dotenvy_format.proofs.lines.Splitting.{IsGoing, onward, walk-append, tokens_going, whole_walks}
+use Rattle.dotenvy_format.proofs.lines.Splitting.{outside_tokens, going_start, going_more}
+use Rattle.dotenvy_format.specs.declared.walk.LineMode.TheVariants.{Escaping, Inside, InsideEscaping, AfterBlank}
+use Rattle.dotenvy_format.specs.inside.Walk.{Walk}
+use Rattle.std.proofs.lemmas.List.{length-map}
 
 -- a text, by its characters
 abbrev pub Text' : Type 0
 Text' = List ℕ
 
+-- physical lines: the text of each, or none where it is broken
+abbrev pub Lines : Type 0
+Lines = List (Option Text')
+
 -- a line with its line feed is the first physical line, and what follows it is cut by itself
 pub whole_line : (t cs : Text') → is_whole_line t ≡ true → physical_lines (t ++ cs) ≡ t ∷ physical_lines cs
 whole_line [] cs h = cc
-whole_line (c ∷ []) cs h = one_char c cs (c == line_feed) refl h
-  where
-    one_char : (c : ℕ) (cs : Text') (b : Bool) → (c == line_feed) ≡ b → b ≡ true →
-        cond b ((c ∷ []) ∷ physical_lines cs) (onto_first c (physical_lines cs)) ≡ (c ∷ []) ∷ physical_lines cs
-    one_char c cs true e h = refl
-    one_char c cs false e h = cc
+whole_line (c ∷ []) cs h = rw h refl
 whole_line (c ∷ d ∷ t) cs h =
-    other (c == line_feed) (is_whole_line (d ∷ t)) h
-    (whole_line (d ∷ t) cs (and_right (not (c == line_feed)) (is_whole_line (d ∷ t)) h))
-  where
-    other : (b w : Bool) → (not b && w) ≡ true → physical_lines ((d ∷ t) ++ cs) ≡ (d ∷ t) ∷ physical_lines cs →
-        cond b ((c ∷ []) ∷ physical_lines ((d ∷ t) ++ cs)) (onto_first c (physical_lines ((d ∷ t) ++ cs)))
-        ≡ (c ∷ d ∷ t) ∷ physical_lines cs
-    other true w h e = cc
-    other false w h e = ap (onto_first c) e
+    let e = after_first c (is_whole_line (d ∷ t)) h in rw (e.0, whole_line (d ∷ t) cs e.1) refl
 
 -- a text that is one line, with its line feed or without, is one physical line
 pub last_line : (t : Text') → is_last_line t ≡ true → physical_lines t ≡ t ∷ []
@@ -61,57 +47,13 @@ last_line (c ∷ []) h =
       | true ↦ refl
       | false ↦ refl
     ]
-last_line (c ∷ d ∷ t) h =
-    other (c == line_feed) (is_last_line (d ∷ t)) h
-    (last_line (d ∷ t) (and_right (not (c == line_feed)) (is_last_line (d ∷ t)) h))
-  where
-    other : (b w : Bool) → (not b && w) ≡ true → physical_lines (d ∷ t) ≡ (d ∷ t) ∷ [] →
-        cond b ((c ∷ []) ∷ physical_lines (d ∷ t)) (onto_first c (physical_lines (d ∷ t))) ≡ (c ∷ d ∷ t) ∷ []
-    other true w h e = cc
-    other false w h e = ap (onto_first c) e
+last_line (c ∷ d ∷ t) h = let e = after_first c (is_last_line (d ∷ t)) h in rw (e.0, last_line (d ∷ t) e.1) refl
 
--- the texts before the first broken line, joined and cut again, are themselves
-lines_again : (lines : List (Option Text')) → AreCut lines → physical_lines (concat (texts_of lines)) ≡ texts_of lines
-lines_again [] cut = refl
-lines_again (None ∷ lines) cut = refl
-lines_again (Some t ∷ []) cut = ap physical_lines (append-nil t) ∙ last_line t cut
-lines_again (Some t ∷ None ∷ lines) cut = whole_line t [] cut.0
-lines_again (Some t ∷ Some u ∷ lines) cut =
-    whole_line t (concat (texts_of (Some u ∷ lines))) cut.0 ∙ ap (λ ls. t ∷ ls) (lines_again (Some u ∷ lines) cut.1)
-
--- where the first k lines join to a text, none of them is broken, and it is their texts joined
-pub joined_front : (k : ℕ) (lines : List (Option Text')) (text : Text') → k ≤ length lines →
-    joined_text (take k lines) ≡ Some text →
-    (k ≤ length (texts_of lines)) × (text ≡ concat (take k (texts_of lines)))
-joined_front zero lines text within h = (omega arith, let e : Some [] ≡ Some text = h in cc)
-joined_front (suc k) [] text within h = absurd (omega arith)
-joined_front (suc k) (None ∷ lines) text within h = cc
-joined_front (suc k) (Some t ∷ lines) text within h =
-    more (joined_text (take k lines)) refl h (λ u e. joined_front k lines u (omega (arith, within)) e)
-  where
-    more : (j : Option Text') → joined_text (take k lines) ≡ j → with_text_before t j ≡ Some text →
-        ((u : Text') → joined_text (take k lines) ≡ Some u → (k
-        ≤ length (texts_of lines)) × (u
-        ≡ concat (take k (texts_of lines)))) →
-        (suc k ≤ suc (length (texts_of lines))) × (text ≡ t ++ concat (take k (texts_of lines)))
-    more None e h later = cc
-    more (Some u) e h later =
-        let f = later u e in
-        (let w = f.0 in omega arith, let i : t ++ u ≡ text = cc in sym i ∙ ap (λ v. t ++ v) f.1)
-
--- the first k lines, where all stand before the first broken one, join to their texts joined
-front_joined : (k : ℕ) (lines : List (Option Text')) → k ≤ length (texts_of lines) →
-    joined_text (take k lines) ≡ Some (concat (take k (texts_of lines)))
-front_joined zero lines h = refl
-front_joined (suc k) [] h = absurd (omega arith)
-front_joined (suc k) (None ∷ lines) h = absurd (omega arith)
-front_joined (suc k) (Some t ∷ lines) h = ap (with_text_before t) (front_joined k lines (omega arith))
-
--- there are no more texts before the first broken line than lines
-texts_shorter : (lines : List (Option Text')) → length (texts_of lines) ≤ length lines
-texts_shorter [] = omega arith
-texts_shorter (None ∷ lines) = omega arith
-texts_shorter (Some t ∷ lines) = let h = texts_shorter lines in omega arith
+-- a line with its line feed is one line
+pub whole_last : (t : Text') → is_whole_line t ≡ true → is_last_line t ≡ true
+whole_last [] h = cc
+whole_last (c ∷ []) h = refl
+whole_last (c ∷ d ∷ t) h = let e = after_first c (is_whole_line (d ∷ t)) h in rw (e.0, whole_last (d ∷ t) e.1) refl
 
 -- the text ends with a line feed
 abbrev pub ends_line : Text' → Bool
@@ -125,447 +67,304 @@ ends_line-append [] c cs = refl
 ends_line-append (x ∷ []) c cs = refl
 ends_line-append (x ∷ y ∷ xs) c cs = ends_line-append (y ∷ xs) c cs
 
--- a text that ends with a line feed is what stands before that, and then it
-before_line : (cs : Text') → ends_line cs ≡ true → (xs : Text') × (cs ≡ xs ++ line_feed ∷ [])
-before_line [] h = cc
-before_line (c ∷ []) h = ([], ap (λ d. d ∷ []) (grind (arith, nat_tests, h)))
-before_line (c ∷ d ∷ cs) h = let r = before_line (d ∷ cs) h in (c ∷ r.0, ap (λ t. c ∷ t) r.1)
-
 -- a line with its line feed ends with a line feed
 pub whole_ends : (t : Text') → is_whole_line t ≡ true → ends_line t ≡ true
 whole_ends [] h = cc
 whole_ends (c ∷ []) h = h
-whole_ends (c ∷ d ∷ t) h = whole_ends (d ∷ t) (and_right (not (c == line_feed)) (is_whole_line (d ∷ t)) h)
+whole_ends (c ∷ d ∷ t) h = let e = after_first c (is_whole_line (d ∷ t)) h in whole_ends (d ∷ t) e.1
 
 -- any text and then one that ends with a line feed end with it
 pub ends_join : (s t : Text') → ends_line t ≡ true → ends_line (s ++ t) ≡ true
 ends_join s [] h = cc
 ends_join s (c ∷ t) h = ends_line-append s c t ∙ h
 
--- fewer lines than all end with a line feed
-pub fewer_end : (lines : List (Option Text')) (k : ℕ) → AreCut lines → suc k < length lines →
-    suc k ≤ length (texts_of lines) → ends_line (concat (take (suc k) (texts_of lines))) ≡ true
-fewer_end [] k cut h w = absurd (omega arith)
-fewer_end (None ∷ lines) k cut h w = absurd (omega arith)
-fewer_end (Some t ∷ []) k cut h w = absurd (omega arith)
-fewer_end (Some t ∷ next ∷ lines) zero cut h w = ap ends_line (append-nil t) ∙ whole_ends t cut.0
-fewer_end (Some t ∷ next ∷ lines) (suc k) cut h w =
-    ends_join t (concat (take (suc k) (texts_of (next ∷ lines))))
-    (fewer_end (next ∷ lines) k cut.1 (omega arith) (omega arith))
+-- a character is no line feed where it passes a test that this fails
+no_line_feed : (test : ℕ → Bool) (c : ℕ) → test c ≡ true → test line_feed ≡ false → (c == line_feed) ≡ false
+no_line_feed test c h k =
+    (elim (c == line_feed) as (λ b. (c == line_feed) ≡ b → b ≡ false) [
+      | true ↦ λ e. let f = same_from c line_feed e in cc
+      | false ↦ λ e. refl
+    ]) refl
 
--- what stands up to the first line feed ends with it, or nothing follows
-first_line_ends : (cs : Text') → (ends_line (first_line cs) ≡ true) ⊎ (after_line cs ≡ [])
-first_line_ends [] = inr refl
-first_line_ends (c ∷ cs) = at (c == line_feed) refl (first_line_ends cs)
+-- a token, where it may stand, does not end with a line feed
+token_ends : (t : Token) (after : Text') → IsToken t after → ends_line (token_text t) ≡ false
+token_ends (plain c) after is = no_line_feed (λ d. not (is_blank d || stands_for_itself d)) c is refl
+token_ends (backslash_pair c) after is = no_line_feed (λ d. not (d == line_feed)) c is refl
+token_ends (quoted q inner) after is =
+    ends_line-append (q ∷ flat_map quoted_text inner) q [] ∙ no_line_feed is_quote q is.0 refl
+token_ends (blank_pair b c) after is = no_line_feed (λ d. not (d == hash || stands_for_itself d)) c is.1 refl
+token_ends (blank b) after is = no_line_feed is_blank b is.0 refl
+
+-- a row of tokens, where they may stand, does not end with a line feed
+tokens_end : (ts : List Token) (after : Text') → AreTokens ts after → ends_line (tokens_text ts) ≡ false
+tokens_end [] after are = refl
+tokens_end (t ∷ ts) after are =
+    join (tokens_text ts) (token_ends t (tokens_text ts ++ after) are.0) (tokens_end ts after are.1)
   where
-    grows : (xs : Text') → ends_line xs ≡ true → ends_line (c ∷ xs) ≡ true
-    grows [] h = cc
-    grows (x ∷ xs) h = h
+    join : (ys : Text') → ends_line (token_text t) ≡ false → ends_line ys ≡ false →
+        ends_line (token_text t ++ ys) ≡ false
+    join [] h k = rw append-nil h
+    join (c ∷ ys) h k = ends_line-append (token_text t) c ys ∙ k
 
-    at : (b : Bool) → (c == line_feed) ≡ b → (ends_line (first_line cs) ≡ true) ⊎ (after_line cs ≡ []) →
-        (ends_line (cond b (c ∷ []) (c ∷ first_line cs)) ≡ true) ⊎ (cond b cs (after_line cs) ≡ [])
-    at true e h = inl e
-    at false e (inl h) = inl (grows (first_line cs) h)
-    at false e (inr h) = inr h
+-- a text that ends with a line feed, and in which no logical line ends, stands in quotes
+pub line_goes_on : (seen : Text') (m : LineMode) → IsGoing seen m → ends_line seen ≡ true → m ≢ Outside
+line_goes_on seen m g ends is =
+    let t = outside_tokens seen (rw is at g) in
+    let e : true ≡ false = sym ends ∙ ap ends_line t.2 ∙ tokens_end t.0 [] t.1 in cc
 
--- what stands up to the first line feed has no line feed but, at most, one at its end
-first_line_is_one : (cs : Text') → IsOneLine (first_line cs)
-first_line_is_one [] = tt
-first_line_is_one (c ∷ cs) = at (c == line_feed) refl (first_line_is_one cs)
-  where
-    grows : (xs : Text') → (c == line_feed) ≡ false → IsOneLine xs → IsOneLine (c ∷ xs)
-    grows [] e h = tt
-    grows (x ∷ xs) e h = (ap not e, h)
+-- an ending has no line feed but at its end
+ending_is_one : (ending : Ending) (last : Type 0) → IsEnding ending last → IsOneLine (ending_text ending)
+ending_is_one line_end last is = tt
+ending_is_one escaped_line_end last is = (refl, tt)
+ending_is_one (comment b []) last is = (rw (no_line_feed is_blank b is.0 refl) refl, tt)
+ending_is_one (comment b (w ∷ words)) last is = (rw (no_line_feed is_blank b is.0 refl) refl, (refl, is.1))
+ending_is_one input_end last is = tt
 
-    at : (b : Bool) → (c == line_feed) ≡ b → IsOneLine (first_line cs) → IsOneLine (cond b (c ∷ []) (c ∷ first_line cs))
-    at true e h = tt
-    at false e h = grows (first_line cs) e h
+-- nothing follows the line feed of a line
+nothing_more : (xs ys : Text') → IsOneLine (xs ++ ys) → ends_line xs ≡ true → ys ≡ []
+nothing_more [] ys is ends = cc
+nothing_more (x ∷ []) [] is ends = refl
+nothing_more (x ∷ []) (y ∷ ys) is ends = let e : false ≡ true = rw ends at is.0 in cc
+nothing_more (x ∷ z ∷ xs) ys is ends = nothing_more (z ∷ xs) ys is.1 ends
 
--- a comment with its line feed, or with nothing after it, is closed
-pub closed_words : (words rest : Text') → IsOneLine words → (ends_line words ≡ true) ⊎ (rest ≡ []) →
-    (first_line (words ++ rest) ≡ words) × (after_line (words ++ rest) ≡ rest)
-closed_words [] rest one (inl h) = cc
-closed_words [] rest one (inr h) = rw h (refl, refl)
-closed_words (c ∷ []) rest one ends = at (c == line_feed) refl ends
-  where
-    at : (b : Bool) → (c == line_feed) ≡ b → (ends_line (c ∷ []) ≡ true) ⊎ (rest ≡ []) →
-        (cond b (c ∷ []) (c ∷ first_line rest) ≡ c ∷ []) × (cond b rest (after_line rest) ≡ rest)
-    at true e h = (refl, refl)
-    at false e (inl h) = cc
-    at false e (inr h) = (ap (λ r. c ∷ first_line r) h, ap after_line h ∙ sym h)
-closed_words (c ∷ d ∷ words) rest one ends = at (c == line_feed) one.0 (closed_words (d ∷ words) rest one.1 ends)
-  where
-    at : (b : Bool) → not b ≡ true →
-        (first_line ((d ∷ words) ++ rest) ≡ d ∷ words) × (after_line ((d ∷ words) ++ rest) ≡ rest) →
-        (cond b (c ∷ []) (c ∷ first_line ((d ∷ words) ++ rest)) ≡ c ∷ d ∷ words)
-        × (cond b ((d ∷ words) ++ rest) (after_line ((d ∷ words) ++ rest)) ≡ rest)
-    at true e h = cc
-    at false e h = (ap (λ t. c ∷ t) h.0, h.1)
+-- of two ways to cut a text in two, one front begins with the other
+parts : (xs ys us vs : Text') → xs ++ ys ≡ us ++ vs →
+    ((zs : Text') × (xs ≡ us ++ zs)) ⊎ ((z : ℕ) × (zs : Text') × (us ≡ xs ++ z ∷ zs) × (ys ≡ (z ∷ zs) ++ vs))
+parts xs ys [] vs e = inl (xs, refl)
+parts [] ys (u ∷ us) vs e = inr (u, us, refl, e)
+parts (x ∷ xs) ys (u ∷ us) vs e =
+    ⊎_elim (λ p. inl (p.0, let h = p.1 in cc)) (λ p. inr (p.0, p.1, let h = p.2 in cc, p.3))
+    (parts xs ys us vs (let k : xs ++ ys ≡ us ++ vs = cc in k))
 
--- where a text that ends with a comment ends with a line feed, so do the comment's words
-words_end : (xs : Text') (b : ℕ) (words : Text') → ends_line (xs ++ b ∷ hash ∷ words) ≡ true → ends_line words ≡ true
-words_end xs b [] h = let e : false ≡ true = sym (ends_line-append xs b (hash ∷ [])) ∙ h in cc
-words_end xs b (w ∷ words) h = sym (ends_line-append xs b (hash ∷ w ∷ words)) ∙ h
+-- where a walk ends in a front that ends with a line feed, the logical line ends with the front
+no_more : (front more : Text') {kept k : Text'} {last : Type 0} → IsWhole (front ++ more) kept last →
+    walk Outside [] front ≡ ended k → ends_line front ≡ true → more ≡ []
+no_more front more {k = k} w e ends =
+    ⊎_elim
+    (λ p.
+    let g = tokens_going w.tokens (ending_text w.ending) w.are_tokens in
+    let f : walk Outside [] (front ++ p.0) ≡ ended k = walk-append Outside [] front p.0 ∙ rw e refl in cc)
+    (λ p.
+    nothing_more (p.0 ∷ p.1) more (rw p.3 at (ending_is_one w.ending _ w.is_ending))
+    (sym (ends_line-append (tokens_text w.tokens) p.0 p.1) ∙ rw p.2 at ends))
+    (parts (tokens_text w.tokens) (ending_text w.ending) front more (sym w.spelled))
 
--- an ending that may stand there is read as itself, where a line feed ends it or nothing follows
-closed_at : (xs : Text') (ending : Ending) (last : Type 0) (rest : Text') → IsEnding ending last →
-    (ends_line (xs ++ ending_text ending) ≡ true) ⊎ (rest ≡ []) → (last → rest ≡ []) → IsClosed ending rest
-closed_at xs line_end last rest is ends all = tt
-closed_at xs escaped_line_end last rest is ends all = tt
-closed_at xs (comment b words) last rest is (inl h) all =
-    let c = closed_words words rest is.1 (inl (words_end xs b words h)) in (is.0, c.0, c.1)
-closed_at xs (comment b words) last rest is (inr h) all =
-    let c = closed_words words rest is.1 (inr h) in (is.0, c.0, c.1)
-closed_at xs input_end last rest is ends all = all is
+-- physical lines as bytes are cut into them are so still without the first
+pub cut_rest : (l : Option Text') (lines : Lines) → AreCut (l ∷ lines) → AreCut lines
+cut_rest None lines cut = cut
+cut_rest (Some t) [] cut = tt
+cut_rest (Some t) (l ∷ lines) cut = cut.1
 
--- what is read of the texts, where the first k lines are a logical line
-pub record Found (lines : List (Option Text')) (k : ℕ) (kept : Text') : Type 0 where
-  pub front : Text'
-  pub ending : Ending
-  pub rest : Text'
-  pub read : scan (concat (texts_of lines)) outside ≡ stops front ending rest
-  pub kept_is : kept ≡ kept_text front ending
-  pub used : concat (take k (texts_of lines)) ≡ front ++ ending_text ending
-  pub short : k ≤ length (texts_of lines)
-  pub is_ending : IsEnding ending (k ≡ length lines)
-
--- where all lines are used, and none is broken, no text is left
-all_used : (lines : List (Option Text')) (k : ℕ) → k ≤ length (texts_of lines) → k ≡ length lines →
-    concat (drop k (texts_of lines)) ≡ []
-all_used [] zero h e = refl
-all_used [] (suc k) h e = absurd (omega arith)
-all_used (None ∷ lines) zero h e = absurd (omega arith)
-all_used (None ∷ lines) (suc k) h e = absurd (omega arith)
-all_used (Some t ∷ lines) zero h e = absurd (omega arith)
-all_used (Some t ∷ lines) (suc k) h e = all_used lines k (omega arith) (omega arith)
-
--- the first lines, one at least and none broken, end with a line feed, or no text follows them
-ends_or_all : (lines : List (Option Text')) (k : ℕ) → AreCut lines → 0 < k → k ≤ length (texts_of lines) →
-    (ends_line (concat (take k (texts_of lines))) ≡ true) ⊎ (concat (drop k (texts_of lines)) ≡ [])
-ends_or_all lines zero cut pos h = absurd (omega arith)
-ends_or_all lines (suc k) cut pos h =
-    ⊎_elim (λ below. inl (fewer_end lines k cut below h))
-    (λ above. inr (all_used lines (suc k) h (let w = texts_shorter lines in omega (arith, above, h))))
-    (cases_lt (suc k) (length lines))
-
--- lines that number 0 are none
-no_lines : (lines : List (Option Text')) → 0 ≡ length lines → lines ≡ []
-no_lines [] h = refl
-no_lines (l ∷ lines) h = absurd (omega arith)
-
--- a text and its ending without any character end with the input, so that no physical line follows
-not_nothing : (xs : Text') (ending : Ending) (last : Type 0) → [] ≡ xs ++ ending_text ending →
-    IsEnding ending last → last
-not_nothing [] line_end last h is = cc
-not_nothing [] escaped_line_end last h is = cc
-not_nothing [] (comment b words) last h is = cc
-not_nothing [] input_end last h is = is
-not_nothing (x ∷ xs) ending last h is = cc
-
--- where there are lines, a logical line takes one of them at least
-pub some_lines : (lines : List (Option Text')) (k : ℕ) (kept : Text') → lines ≢ [] → IsText lines k kept → 0 < k
-some_lines lines zero kept some is =
-    absurd (some (no_lines lines (not_nothing (tokens_text is.whole.tokens) is.whole.ending (0 ≡ length lines)
-    (sym (joined_front zero lines is.text is.within is.joins).1 ∙ is.whole.spelled) is.whole.is_ending)))
-some_lines lines (suc k) kept some is = omega arith
-
--- where the first lines are a logical line, reading the texts finds its front, ending and kept text
-pub found : (lines : List (Option Text')) (k : ℕ) (kept : Text') → lines ≢ [] → AreCut lines → IsText lines k kept →
-    Found lines k kept
-found lines k kept some cut is =
-    let w = is.whole in
-    let j = joined_front k lines is.text is.within is.joins in
-    let ts = texts_of lines in
-    let rest = concat (drop k ts) in
-    let used : concat (take k ts) ≡ tokens_text w.tokens ++ ending_text w.ending = sym j.1 ∙ w.spelled in
-    let all : concat ts ≡ tokens_text w.tokens ++ (ending_text w.ending ++ rest) =
-    ap concat (sym (take-append-drop k ts))
-    ∙ concat-append (take k ts) (drop k ts)
-    ∙ ap (λ t. t ++ rest) used
-    ∙ append_assoc (tokens_text w.tokens) (ending_text w.ending) rest in
-    record {
-      front = tokens_text w.tokens;
-      ending = w.ending;
-      rest = rest;
-      read =
-          ap (λ t. scan t outside) all
-          ∙ scan-tokens w.tokens w.ending rest w.are_tokens (closed_at (tokens_text w.tokens) w.ending
-          (k ≡ length lines) rest w.is_ending
-          (subst (λ t. (ends_line t ≡ true) ⊎ (rest ≡ [])) used
-          (ends_or_all lines k cut (some_lines lines k kept some is) j.0)) (all_used lines k j.0));
-      kept_is = w.cut;
-      used = used;
-      short = j.0;
-      is_ending = w.is_ending;
-    }
+-- physical lines as bytes are cut into them are so without those before them
+pub cut_after : (front lines : Lines) → AreCut (front ++ lines) → AreCut lines
+cut_after [] lines cut = cut
+cut_after (l ∷ front) lines cut = cut_after front lines (cut_rest l (front ++ lines) cut)
 
 -- where bytes are cut into lines, a first line that is a text isn't empty
-cut_some : (t : Text') (lines : List (Option Text')) → AreCut (Some t ∷ lines) → t ≢ []
+cut_some : (t : Text') (lines : Lines) → AreCut (Some t ∷ lines) → t ≢ []
 cut_some [] [] cut h = cc
 cut_some [] (l ∷ lines) cut h = let e : false ≡ true = cut.0 in cc
 cut_some (c ∷ t) lines cut h = cc
 
--- after a text, the lines that bytes were cut into are still such lines
-pub cut_later : (t : Text') (lines : List (Option Text')) → AreCut (Some t ∷ lines) → AreCut lines
-cut_later t [] cut = tt
-cut_later t (l ∷ lines) cut = cut.1
+-- A loop over physical lines as one function: how many lines the next logical line takes, and what it is.
+-- what the end of input makes of a text: a whole logical line where the mode is outside, else an open end
+abbrev pub at_input_end : LineMode → List ℕ → Logical
+at_input_end Outside seen = Text seen
+at_input_end _ seen = Open seen (byte_len seen)
 
--- a text that isn't empty, with more after it, isn't empty
-front_some : (t more : Text') → t ≢ [] → t ++ more ≢ []
-front_some [] more some h = some refl
-front_some (c ∷ t) more some h = cc
+-- the same logical line, with one physical line more
+abbrev pub one_more : ℕ × Logical → ℕ × Logical
+one_more (k, next) = (suc k, next)
 
--- what follows the same front in the same text is the same
-same_after : (t a b : Text') → t ++ a ≡ t ++ b → a ≡ b
-same_after [] a b h = h
-same_after (c ∷ t) a b h = same_after t a b (let e : t ++ a ≡ t ++ b = cc in e)
+-- the line ends in this physical line, or it goes on in those after it from the mode that was walked to
+abbrev pub after_walk : Walk → (LineMode → ℕ × Logical) → ℕ × Logical
+after_walk (going m) next = one_more (next m)
+after_walk (ended text) next = (1, Text text)
 
--- the same front of the texts is the same number of lines
-same_count : (lines : List (Option Text')) (j k : ℕ) → AreCut lines → j ≤ length (texts_of lines) →
-    k ≤ length (texts_of lines) → concat (take j (texts_of lines)) ≡ concat (take k (texts_of lines)) → j ≡ k
-same_count lines zero zero cut h i e = refl
-same_count [] (suc j) k cut h i e = absurd (omega arith)
-same_count [] zero (suc k) cut h i e = absurd (omega arith)
-same_count (None ∷ lines) (suc j) k cut h i e = absurd (omega arith)
-same_count (None ∷ lines) zero (suc k) cut h i e = absurd (omega arith)
-same_count (Some t ∷ lines) zero (suc k) cut h i e =
-    absurd (front_some t (concat (take k (texts_of lines))) (cut_some t lines cut) (sym e))
-same_count (Some t ∷ lines) (suc j) zero cut h i e =
-    absurd (front_some t (concat (take j (texts_of lines))) (cut_some t lines cut) e)
-same_count (Some t ∷ lines) (suc j) (suc k) cut h i e =
-    ap suc (same_count lines j k (cut_later t lines cut) (omega (arith, h)) (omega (arith, i))
-    (same_after t (concat (take j (texts_of lines))) (concat (take k (texts_of lines))) e))
+-- from this mode and after the text seen: how many lines more the logical line takes, and what it is
+abbrev pub next_from : LineMode → List ℕ → Lines → ℕ × Logical
+next_from m seen [] = (0, at_input_end m seen)
+next_from m seen (None ∷ lines) = (1, Broken)
+next_from m seen (Some text ∷ lines) = after_walk (walk m seen text) (λ n. next_from n (seen ++ text) lines)
 
--- readings that stop alike have the same front and the same ending
-pub stops_same : (f g : Text') (a b : Ending) (r s : Text') → stops f a r ≡ stops g b s → (f ≡ g) × (a ≡ b)
-stops_same f g a b r s h = (cc, cc)
+-- at the end of input a text is whole where the mode is outside, and else an open end
+pub mode_ends : (m : LineMode) (seen : Text') →
+    ((m ≡ Outside) × (at_input_end m seen ≡ Text seen))
+    ⊎ ((m ≢ Outside) × (at_input_end m seen ≡ Open seen (byte_len seen)))
+mode_ends Outside seen = inl (refl, refl)
+mode_ends Escaping seen = inr (λ e. cc, refl)
+mode_ends (Inside q) seen = inr (λ e. cc, refl)
+mode_ends (InsideEscaping q) seen = inr (λ e. cc, refl)
+mode_ends AfterBlank seen = inr (λ e. cc, refl)
 
--- where there are lines, one count of them at most is a logical line that is a text, with one kept text
-one_text : (lines : List (Option Text')) (j k : ℕ) (s t : Text') → lines ≢ [] → AreCut lines → IsText lines j s →
-    IsText lines k t → (j ≡ k) × (s ≡ t)
-one_text lines j k s t some cut a b =
-    let f = found lines j s some cut a in
-    let g = found lines k t some cut b in
-    let e = stops_same f.front g.front f.ending g.ending f.rest g.rest (sym f.read ∙ g.read) in
-    let kept : kept_text f.front f.ending ≡ kept_text g.front g.ending =
-    ap (λ x. kept_text x f.ending) e.0 ∙ ap (kept_text g.front) e.1 in
-    let text : f.front ++ ending_text f.ending ≡ g.front ++ ending_text g.ending =
-    ap (λ x. x ++ ending_text f.ending) e.0 ∙ ap (λ x. g.front ++ ending_text x) e.1 in
-    (same_count lines j k cut f.short g.short (f.used ∙ text ∙ sym g.used), f.kept_is ∙ kept ∙ sym g.kept_is)
+-- the loop passes by texts that go on
+pass_texts : (m : LineMode) (seen : Text') (ts : List Text') (lines : Lines) (n : LineMode) →
+    walk m seen (concat ts) ≡ going n →
+    (next_from m seen (map Some ts ++ lines)).1 ≡ (next_from n (seen ++ concat ts) lines).1
+pass_texts m seen [] lines n e = let k : m ≡ n = cc in rw (k, append-nil) refl
+pass_texts m seen (t ∷ ts) lines n e =
+    (elim (walk m seen t) as (λ w.
+    onward w (λ p. walk p (seen ++ t) (concat ts)) ≡ going n →
+    (after_walk w (λ p. next_from p (seen ++ t) (map Some ts ++ lines))).1
+    ≡ (next_from n (seen ++ (t ++ concat ts)) lines).1) [
+      | going p ↦ λ h. rw append_assoc at (pass_texts p (seen ++ t) ts lines n h)
+      | ended k ↦ λ h. cc
+    ]) (sym (walk-append m seen t (concat ts)) ∙ e)
+
+-- where the loop ends in a line of a whole logical line, that is its last line, and the same text is kept
+text_ends : (seen t : Text') (ts : List Text') (later : Lines) {kept k : Text'} {last : Type 0} →
+    AreCut (Some t ∷ (map Some ts ++ later)) → walk Outside [] (seen ++ t) ≡ ended k →
+    IsWhole ((seen ++ t) ++ concat ts) kept last → (ts ≡ []) × (k ≡ kept)
+text_ends seen t [] later cut e w =
+    (refl, ⊎_elim (λ f. cc) (λ r. let f = r.0 in cc) (whole_walks (rw append-nil at w)))
+text_ends seen t (u ∷ ts) later cut e w =
+    absurd (cut_some u (map Some ts ++ later) cut.1 (append-empty u (concat ts)
+    (no_more (seen ++ t) (concat (u ∷ ts)) w e (ends_join seen t (whole_ends t cut.0)))))
+  where
+    append-empty : (xs ys : Text') → xs ++ ys ≡ [] → xs ≡ []
+    append-empty [] ys h = refl
+    append-empty (x ∷ xs) ys h = cc
+
+-- the loop finds a whole logical line
+text_found : (m : LineMode) (seen : Text') (ts : List Text') (later : Lines) {kept : Text'} {last : Type 0} →
+    IsGoing seen m → AreCut (map Some ts ++ later) → (last → later ≡ []) → IsWhole (seen ++ concat ts) kept last →
+    next_from m seen (map Some ts ++ later) ≡ (length ts, Text kept)
+text_found m seen [] later g cut end w =
+    ⊎_elim (λ e. cc) (λ r. let f = r.0 in let k : m ≡ Outside = cc in rw (end r.2, k, r.1) refl)
+    (whole_walks (rw append-nil at w))
+text_found m seen (t ∷ ts) later {kept = kept} g cut end w =
+    let w' : IsWhole ((seen ++ t) ++ concat ts) kept _ = rw append_assoc w in
+    (elim (walk m seen t) as (λ r.
+    walk m seen t ≡ r →
+    after_walk r (λ n. next_from n (seen ++ t) (map Some ts ++ later)) ≡ (suc (length ts), Text kept)) [
+      | going n ↦
+          λ e.
+          ap one_more (text_found n (seen ++ t) ts later (going_more seen m t g ∙ e)
+          (cut_rest (Some t) (map Some ts ++ later) cut) end w')
+      | ended k ↦
+          λ e. let f = text_ends seen t ts later cut (going_more seen m t g ∙ e) w' in rw (f.0, f.1) refl
+    ]) refl
+
+-- the first so many lines are these texts, joined to this one
+record Taken (lines : Lines) (count : ℕ) (text : Text') : Type 0 where
+  taken : List Text'
+  later : Lines
+  are : lines ≡ map Some taken ++ later
+  number : length taken ≡ count
+  joins : text ≡ concat taken
+
+-- where the first lines join to a text, none of them is broken
+taken_of : (k : ℕ) (lines : Lines) (text : Text') → k ≤ length lines → joined_text (take k lines) ≡ Some text →
+    Taken lines k text
+taken_of zero lines text within h =
+    record { taken = []; later = lines; are = refl; number = refl; joins = let e : Some [] ≡ Some text = h in cc }
+taken_of (suc k) [] text within h = absurd (omega arith)
+taken_of (suc k) (None ∷ lines) text within h = cc
+taken_of (suc k) (Some t ∷ lines) text within h =
+    (elim (joined_text (take k lines)) as (λ j.
+    joined_text (take k lines) ≡ j → with_text_before t j ≡ Some text → Taken (Some t ∷ lines) (suc k) text) [
+      | None ↦ λ e f. cc
+      | Some u ↦
+          λ e f. let r = taken_of k lines u (omega arith) e in record {
+            taken = t ∷ r.taken;
+            later = r.later;
+            are = ap (◌∷◌ (Some t)) r.are;
+            number = ap suc r.number;
+            joins = let g : t ++ u ≡ text = cc in sym g ∙ ap (◌++◌ t) r.joins;
+          }
+    ]) refl h
+
+-- the lines of a logical line that is a text are texts
+text_of : {lines : Lines} {k : ℕ} {kept : Text'} (is : IsText lines k kept) → Taken lines k is.text
+text_of {lines = lines} {k = k} is = taken_of k lines is.text is.within is.joins
+
+-- where there are lines, a logical line that is a text takes one of them at least
+pub some_lines : (lines : Lines) (k : ℕ) (kept : Text') → lines ≢ [] → IsText lines k kept → 0 < k
+some_lines lines (suc k) kept some is = omega arith
+some_lines [] zero kept some is = absurd (some refl)
+some_lines (l ∷ lines) zero kept some is =
+    let e : Some [] ≡ Some is.text = is.joins in
+    let f : is.text ≡ [] = cc in
+    ⊎_elim (λ e. cc) (λ r. let h = r.2 in absurd (omega arith)) (whole_walks (rw f at is.whole))
+
+-- equal pairs have equal parts
+pub same_parts : {j k : ℕ} {o p : Logical} → ◌≡◌ {A = ℕ × Logical} (j, o) (k, p) → (j ≡ k) × (o ≡ p)
+same_parts e = (ap (λ r. r.0) e, ap (λ r. r.1) e)
+
+-- the loop finds a logical line that is a text
+text_next : (lines : Lines) (k : ℕ) (kept : Text') → AreCut lines → IsText lines k kept →
+    next_from Outside [] lines ≡ (k, Text kept)
+text_next lines k kept cut is =
+    let t = text_of is in
+    let number : (length t.taken, Text kept) ≡ (k, Text kept) = rw t.number refl in
+    ap (next_from Outside []) t.are
+    ∙ text_found Outside [] t.taken t.later going_start (rw t.are at cut)
+    (λ last.
+    none t.later
+    (omega (arith, t.number, ap length t.are, length-append (map Some t.taken) t.later, length-map t.taken Some)))
+    (rw t.joins at is.whole)
+    ∙ number
+  where
+    none : (lines : Lines) → length lines ≡ 0 → lines ≡ []
+    none [] h = refl
+    none (l ∷ lines) h = absurd (omega arith)
+
+-- where a logical line that is a text begins with texts that go on, it is what the loop makes of the lines after them
+pub text_kind : (taken : List Text') (lines : Lines) (m : LineMode) (j : ℕ) (kept : Text') →
+    IsGoing (concat taken) m → AreCut (map Some taken ++ lines) → IsText (map Some taken ++ lines) j kept →
+    Text kept ≡ (next_from m (concat taken) lines).1
+text_kind taken lines m j kept g cut is =
+    sym (same_parts (text_next (map Some taken ++ lines) j kept cut is)).1 ∙ pass_texts Outside [] taken lines m g
+
+-- the first broken line is one of the lines
+pub broken_within : (lines : Lines) (k : ℕ) → IsFirstBroken k lines → k ≤ length lines
+broken_within [] k h = absurd h
+broken_within (None ∷ lines) k h = omega (arith, h)
+broken_within (Some t ∷ lines) k (i, e, h) = let w = broken_within lines i h in omega (arith, w, e)
+
+-- the first broken line is after texts before other lines
+broken_after : (ts : List Text') (lines : Lines) (k : ℕ) → IsFirstBroken k (map Some ts ++ lines) → length ts < k
+broken_after [] [] k h = absurd h
+broken_after [] (None ∷ lines) k h = omega (arith, h)
+broken_after [] (Some t ∷ lines) k (i, e, h) = omega (arith, e)
+broken_after (t ∷ ts) lines k (i, e, h) = let w = broken_after ts lines i h in omega (arith, w, e)
 
 -- there is one first broken line at most
-one_broken : (lines : List (Option Text')) (j k : ℕ) → IsFirstBroken j lines → IsFirstBroken k lines → j ≡ k
+one_broken : (lines : Lines) (j k : ℕ) → IsFirstBroken j lines → IsFirstBroken k lines → j ≡ k
 one_broken [] j k a b = absurd a
 one_broken (None ∷ lines) j k a b = a ∙ sym b
-one_broken (Some t ∷ lines) j k (i, a, h) (l, b, g) = let e = one_broken lines i l h g in a ∙ ap suc e ∙ sym b
+one_broken (Some t ∷ lines) j k (i, a, h) (l, b, g) = let e = one_broken lines i l h g in omega (arith, a, b, e)
 
--- a front of texts ends before the first broken line
-before_broken : (lines : List (Option Text')) (k : ℕ) → IsFirstBroken k lines → k ≡ suc (length (texts_of lines))
-before_broken [] k a = absurd a
-before_broken (None ∷ lines) k a = a
-before_broken (Some t ∷ lines) k (i, a, h) = a ∙ ap suc (before_broken lines i h)
+-- a logical line that is a text ends before the first broken line
+before_broken : (lines : Lines) (j k : ℕ) (kept : Text') → IsText lines j kept → IsFirstBroken k lines → j < k
+before_broken lines j k kept is h =
+    let t = text_of is in let w = broken_after t.taken t.later k (rw t.are at h) in omega (arith, t.number, w)
 
 -- lines of which one is broken join to no text
-not_joined : (lines : List (Option Text')) (k : ℕ) (t : Text') → IsFirstBroken k lines → joined_text lines ≢ Some t
-not_joined [] k t a h = absurd a
-not_joined (None ∷ lines) k t a h = cc
-not_joined (Some u ∷ lines) k t (i, a, b) h = later (joined_text lines) refl h (λ v e. not_joined lines i v b e)
-  where
-    later : (j : Option Text') → joined_text lines ≡ j → with_text_before u j ≡ Some t →
-        ((v : Text') → joined_text lines ≡ Some v → ⊥) → ⊥
-    later None e h no_text = cc
-    later (Some v) e h no_text = no_text v e
+not_joined : (lines : Lines) (k : ℕ) (t : Text') → IsFirstBroken k lines → joined_text lines ≢ Some t
+not_joined lines k t h e =
+    let r = taken_of (length lines) lines t (omega arith) (rw (take_all (length lines) lines (omega arith)) e) in
+    let w = broken_after r.taken r.later k (rw r.are at h) in
+    omega (arith, r.number, w, broken_within lines k h)
 
 -- where there are lines, they have one next logical line at most, and it takes one count of them
-pub one_next : (lines : List (Option Text')) (j k : ℕ) (a b : Logical) → lines ≢ [] → AreCut lines →
-    IsNext lines j a → IsNext lines k b → (j ≡ k) × (a ≡ b)
+pub one_next : (lines : Lines) (j k : ℕ) (a b : Logical) → lines ≢ [] → AreCut lines → IsNext lines j a →
+    IsNext lines k b → (j ≡ k) × (a ≡ b)
 one_next lines j k Skip Skip some cut x y = (x.1 ∙ sym y.1, refl)
 one_next lines j k Skip (Text t) some cut x y = absurd (y.0 x.0)
 one_next lines j k Skip (Open t n) some cut x y = absurd (y.0 x.0)
 one_next lines j k Skip Broken some cut x y = absurd (y.0 x.0)
 one_next lines j k (Text s) Skip some cut x y = absurd (x.0 y.0)
 one_next lines j k (Text s) (Text t) some cut x y =
-    let e = one_text lines j k s t some cut x.1 y.1 in (e.0, ap Text e.1)
+    same_parts (sym (text_next lines j s cut x.1) ∙ text_next lines k t cut y.1)
 one_next lines j k (Text s) (Open t n) some cut x y = absurd (y.3 j s x.1)
-one_next lines j k (Text s) Broken some cut x y =
-    absurd (y.2 j s
-    (let f = found lines j s some cut x.1 in let w = f.short in let b = before_broken lines k y.1 in omega arith)
-    x.1)
+one_next lines j k (Text s) Broken some cut x y = absurd (y.2 j s (before_broken lines j k s x.1 y.1) x.1)
 one_next lines j k (Open s m) Skip some cut x y = absurd (x.0 y.0)
 one_next lines j k (Open s m) (Text t) some cut x y = absurd (x.3 k t y.1)
 one_next lines j k (Open s m) (Open t n) some cut x y =
-    let e : Some s ≡ Some t = sym x.2 ∙ y.2 in
-    let f : s ≡ t = cc in (x.1 ∙ sym y.1, ap (λ u. Open u m) f ∙ ap (Open t) (x.4 ∙ ap byte_len f ∙ sym y.4))
+    let e : Some s ≡ Some t = sym x.2 ∙ y.2 in let f : s ≡ t = cc in (x.1 ∙ sym y.1, rw (x.4, y.4, f) refl)
 one_next lines j k (Open s m) Broken some cut x y = absurd (not_joined lines k s y.1 x.2)
 one_next lines j k Broken Skip some cut x y = absurd (x.0 y.0)
-one_next lines j k Broken (Text t) some cut x y =
-    absurd (x.2 k t
-    (let f = found lines k t some cut y.1 in let w = f.short in let b = before_broken lines j x.1 in omega arith)
-    y.1)
+one_next lines j k Broken (Text t) some cut x y = absurd (x.2 k t (before_broken lines k j t y.1 x.1) y.1)
 one_next lines j k Broken (Open t n) some cut x y = absurd (not_joined lines j t x.1 y.2)
 one_next lines j k Broken Broken some cut x y = (one_broken lines j k x.1 y.1, refl)
-
--- the physical lines have a next logical line, of some number of them
-abbrev pub HasNext : List (Option Text') → Type 0
-HasNext lines = (k : ℕ) × (outcome : Logical) × IsNext lines k outcome
-
--- the first line is a comment as a whole, or it isn't
-pub skipped_or_not : (lines : List (Option Text')) → IsSkipped lines ⊎ (¬ (IsSkipped lines))
-skipped_or_not [] = inr (λ h. h)
-skipped_or_not (None ∷ lines) = inr (λ h. h)
-skipped_or_not (Some t ∷ lines) = is_or_not (begins_with hash (skip_leading_whitespace t))
-  where
-    is_or_not : (b : Bool) → (b ≡ true) ⊎ (¬ (b ≡ true))
-    is_or_not true = inl refl
-    is_or_not false = inr (λ h. cc)
-
--- all lines are texts, or one is the first broken line
-whole_or_broken : (lines : List (Option Text')) →
-    ((joined_text lines ≡ Some (concat (texts_of lines))) × (length (texts_of lines) ≡ length lines))
-    ⊎ IsFirstBroken (suc (length (texts_of lines))) lines
-whole_or_broken [] = inl (refl, refl)
-whole_or_broken (None ∷ lines) = inr refl
-whole_or_broken (Some t ∷ lines) =
-    ⊎_elim (λ h. inl (ap (with_text_before t) h.0, ap suc h.1)) (λ h. inr (suc (length (texts_of lines)), refl, h))
-    (whole_or_broken lines)
-
--- where the texts stay open, no number of lines is a logical line that is a text
-pub none_found : (lines : List (Option Text')) → lines ≢ [] → AreCut lines →
-    scan (concat (texts_of lines)) outside ≡ open_end → (j : ℕ) (kept : Text') → ¬ (IsText lines j kept)
-none_found lines some cut open_is j kept is =
-    let f = found lines j kept some cut is in
-    let e : open_end ≡ stops f.front f.ending f.rest = sym open_is ∙ f.read in cc
-
--- lines whose first is no comment, and whose texts stay open, have a next logical line
-open_next : (lines : List (Option Text')) → lines ≢ [] → AreCut lines → ¬ (IsSkipped lines) →
-    scan (concat (texts_of lines)) outside ≡ open_end → HasNext lines
-open_next lines some cut shown open_is = ⊎_elim
-    (λ h. (
-      length lines,
-      Open (concat (texts_of lines)) (byte_len (concat (texts_of lines))),
-      (shown, refl, h.0, none_found lines some cut open_is, refl),
-    ))
-    (λ h. (suc (length (texts_of lines)), Broken, (shown, h, λ j kept below. none_found lines some cut open_is j kept)))
-    (whole_or_broken lines)
-
--- the lines that are used up
-used_lines : (lines : List (Option Text')) (text rest : Text') → AreCut lines →
-    concat (texts_of lines) ≡ text ++ rest → (ends_line text ≡ true) ⊎ (rest ≡ []) →
-    take (length (physical_lines text)) (texts_of lines) ≡ physical_lines text
-used_lines lines text rest cut e (inl ends) =
-    let b = before_line text ends in
-    let again : texts_of lines ≡ physical_lines text ++ physical_lines rest =
-    sym (lines_again lines cut)
-    ∙ ap physical_lines (e ∙ ap (λ t. t ++ rest) b.1)
-    ∙ lines-append b.0 rest
-    ∙ ap (λ t. physical_lines t ++ physical_lines rest) (sym b.1) in
-    ap (take (length (physical_lines text))) again ∙ take-append_seam (physical_lines text) (physical_lines rest)
-used_lines lines text rest cut e (inr none) =
-    let again : texts_of lines ≡ physical_lines text =
-    sym (lines_again lines cut) ∙ ap physical_lines (e ∙ ap (λ r. text ++ r) none ∙ append-nil text) in
-    ap (take (length (physical_lines text))) again ∙ take-length (physical_lines text)
-
--- words that end with a line feed, after a text and two characters, make the whole end with it
-ends_after : (xs : Text') (b c : ℕ) (words : Text') → ends_line words ≡ true → ends_line (xs ++ b ∷ c ∷ words) ≡ true
-ends_after xs b c [] h = cc
-ends_after xs b c (w ∷ words) h = ends_line-append xs b (c ∷ w ∷ words) ∙ h
-
--- a text with an ending that is read as itself ends with a line feed, or nothing follows
-closed_ends : (xs : Text') (ending : Ending) (rest : Text') → IsClosed ending rest →
-    (ends_line (xs ++ ending_text ending) ≡ true) ⊎ (rest ≡ [])
-closed_ends xs line_end rest closed = inl (ends_line-append xs line_feed [])
-closed_ends xs escaped_line_end rest closed = inl (ends_line-append xs backslash (line_feed ∷ []))
-closed_ends xs (comment b words) rest closed =
-    ⊎_elim (λ h. inl (ends_after xs b hash words (ap ends_line (sym closed.1) ∙ h))) (λ h. inr (sym closed.2 ∙ h))
-    (first_line_ends (words ++ rest))
-closed_ends xs input_end rest closed = inr closed
-
--- lines whose first is no comment, read up to an ending that may stand there, have a next logical line
-text_next : (lines : List (Option Text')) → AreCut lines → ¬ (IsSkipped lines) →
-    (front : Text') (ending : Ending) (rest : Text') → Reads (concat (texts_of lines)) front ending rest →
-    IsEnding ending (length (physical_lines (front ++ ending_text ending)) ≡ length lines) → HasNext lines
-text_next lines cut shown front ending rest r is =
-    let text = front ++ ending_text ending in
-    let k = length (physical_lines text) in
-    let all : concat (texts_of lines) ≡ text ++ rest =
-    r.spelled
-    ∙ ap (λ t. t ++ (ending_text ending ++ rest)) (sym r.front_is)
-    ∙ sym (append_assoc front (ending_text ending) rest) in
-    let taken : take k (texts_of lines) ≡ physical_lines text =
-    used_lines lines text rest cut all (closed_ends front ending rest r.closed) in
-    let short : k ≤ length (texts_of lines) = omega (arith, length-take k (texts_of lines), ap length taken) in (
-      k,
-      Text (kept_text (tokens_text r.tokens) ending),
-      (
-        shown,
-        record {
-          text = text;
-          within = let w = texts_shorter lines in omega (arith, short, w);
-          joins = front_joined k lines short ∙ ap (λ ts. Some (concat ts)) taken ∙ ap Some (concat-lines text);
-          whole = record {
-            tokens = r.tokens;
-            ending = ending;
-            are_tokens = r.are;
-            is_ending = is;
-            spelled = ap (λ t. t ++ ending_text ending) r.front_is;
-            cut = refl;
-          };
-        },
-      ),
-    )
-
--- the first broken line is one of the lines
-pub broken_within : (lines : List (Option Text')) (k : ℕ) → IsFirstBroken k lines → k ≤ length lines
-broken_within [] k h = absurd h
-broken_within (None ∷ lines) k h = omega (arith, h)
-broken_within (Some t ∷ lines) k (i, e, h) = let w = broken_within lines i h in omega (arith, w, e)
-
--- lines whose first is no comment, read up to the end of input, have a next logical line
-input_next : (lines : List (Option Text')) → lines ≢ [] → AreCut lines → ¬ (IsSkipped lines) →
-    (front rest : Text') → Reads (concat (texts_of lines)) front input_end rest →
-    scan (concat (texts_of lines)) outside ≡ stops front input_end rest → HasNext lines
-input_next lines some cut shown front rest r read = ⊎_elim
-    (λ h.
-    text_next lines cut shown front input_end rest r (let e : physical_lines (front ++ []) ≡ texts_of lines =
-    ap physical_lines
-    (ap (λ t. t ++ []) r.front_is ∙ ap (λ t. tokens_text r.tokens ++ t) (sym r.closed) ∙ sym r.spelled)
-    ∙ lines_again lines cut in
-    ap length e ∙ h.1))
-    (λ h. (
-      suc (length (texts_of lines)),
-      Broken,
-      (
-        shown,
-        h,
-        λ j kept below is.
-            let f = found lines j kept some cut is in
-            let e = stops_same f.front front f.ending input_end f.rest rest (sym f.read ∙ read) in
-            let last : j ≡ length lines = subst (λ x. IsEnding x (j ≡ length lines)) e.1 f.is_ending in
-            let w = broken_within lines (suc (length (texts_of lines))) h in
-            absurd (omega (arith, last, w, f.short)),
-      ),
-    ))
-    (whole_or_broken lines)
-
--- words that stand up to the first line feed are one line
-pub one_line_words : (words rest : Text') → first_line (words ++ rest) ≡ words → IsOneLine words
-one_line_words words rest h = subst IsOneLine h (first_line_is_one (words ++ rest))
-
--- lines whose first is no comment have a next logical line, whatever the reading of their texts finds
-by_scan : (lines : List (Option Text')) → lines ≢ [] → AreCut lines → ¬ (IsSkipped lines) → (s : Scan) →
-    scan (concat (texts_of lines)) outside ≡ s → Read outside (concat (texts_of lines)) s → HasNext lines
-by_scan lines some cut shown open_end e r = open_next lines some cut shown e
-by_scan lines some cut shown (stops front line_end rest) e r = text_next lines cut shown front line_end rest r tt
-by_scan lines some cut shown (stops front escaped_line_end rest) e r =
-    text_next lines cut shown front escaped_line_end rest r tt
-by_scan lines some cut shown (stops front (comment b words) rest) e r =
-    text_next lines cut shown front (comment b words) rest r (r.closed.0, one_line_words words rest r.closed.1)
-by_scan lines some cut shown (stops front input_end rest) e r = input_next lines some cut shown front rest r e
-
--- where there are lines, there is a next logical line
-pub next_exists : (lines : List (Option Text')) → lines ≢ [] → AreCut lines → HasNext lines
-next_exists lines some cut =
-    ⊎_elim (λ h. (1, Skip, (h, refl)))
-    (λ h.
-    by_scan lines some cut h (scan (concat (texts_of lines)) outside) refl
-    (scan-reads (concat (texts_of lines)) outside tt)) (skipped_or_not lines)

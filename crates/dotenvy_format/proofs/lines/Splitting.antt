@@ -1,13 +1,16 @@
--- From the splitter's machine to the relation between physical lines and the next logical line.
--- A loop over physical lines keeps: the lines of the bytes are texts `taken` and the lines of the bytes left, the
--- joined text is that of `taken`, and `IsGoing` holds of it and the mode.
-use Rattle.std.proofs.Common.{◌≡◌, ℕ, Bool, true, false, not, cond, List, [], ◌∷◌, ◌++◌, Option}
-use Rattle.std.proofs.Common.{Some, None, refl, sym, ◌∙◌, ap, append_assoc, subst}
-use Rattle.std.specs.Prelude.{◌==◌}
+-- The splitter's machine reads the tokens of a logical line, and ends where the logical line does.
+use Rattle.std.proofs.Common.{◌≡◌, ℕ, true, false, ◌||◌, not, List, [], ◌∷◌, ◌++◌, Option}
+use Rattle.std.proofs.Common.{Some, None, refl, sym, ◌∙◌, ap, arith, append_assoc, subst, inl, inr}
+use Rattle.std.specs.Prelude.{◌==◌, ◌⊎◌}
+use Rattle.std.specs.List.{flat_map, list_all}
 use Rattle.std.proofs.lemmas.List.{append-nil}
-use Rattle.std.proofs.Common.{inr}
+use Rattle.std.proofs.lemmas.List.Folds.{list_all-append}
+use Rattle.std.proofs.lemmas.Grind.{flat_map-append}
+use Rattle.std.proofs.lemmas.Bool.Decides.{nat_tests}
 use Rattle.dotenvy_format.specs.Characters.{is_blank, is_quote, line_feed, backslash, hash}
-use Rattle.dotenvy_format.specs.Tokens.{tokens_text, stands_for_itself}
+use Rattle.dotenvy_format.specs.Tokens.{QuotedCharacter, one, pair, Token, plain, backslash_pair}
+use Rattle.dotenvy_format.specs.Tokens.{quoted, blank_pair, blank, quoted_text, token_text, tokens_text}
+use Rattle.dotenvy_format.specs.Tokens.{is_quoted, stands_for_itself, is_before_break, IsToken, AreTokens}
 use Rattle.dotenvy_format.specs.LogicalLine.{Ending, line_end, escaped_line_end, comment, input_end}
 use Rattle.dotenvy_format.specs.LogicalLine.{ending_text, IsOneLine, IsEnding, kept_text}
 use Rattle.dotenvy_format.specs.LogicalLine.{without_carriage_return, IsWhole}
@@ -15,340 +18,376 @@ use Rattle.dotenvy_format.specs.declared.walk.LineMode.{LineMode}
 use Rattle.dotenvy_format.specs.declared.walk.LineMode.TheVariants.{Outside, Escaping, Inside}
 use Rattle.dotenvy_format.specs.declared.walk.LineMode.TheVariants.{InsideEscaping, AfterBlank}
 use Rattle.dotenvy_format.specs.inside.Walk.{leads_outside, leads, kept_before, Walk, going, ended, walked, walk}
-use Rattle.dotenvy_format.proofs.Basics.{same_from, when_true, when_false}
-use Rattle.dotenvy_format.proofs.lines.Scans as scans
-use Rattle.dotenvy_format.proofs.lines.Scans.{Scan, stops, open_end, consed, scan, scan-reads}
-use Rattle.dotenvy_format.proofs.lines.Scans.{Reads, Read, consed-consed}
-use Rattle.dotenvy_format.proofs.lines.NextLine.{closed_words, one_line_words}
+use Rattle.dotenvy_format.proofs.Basics.{and_left, and_right}
 
--- the mode of the token scan, where b was read last; what it has read of a token that is not whole
-abbrev to_mode : LineMode → ℕ → scans.ScanMode
-to_mode Outside b = scans.outside
-to_mode Escaping b = scans.escaping
-to_mode (Inside q) b = scans.inside q
-to_mode (InsideEscaping q) b = scans.inside_escaping q
-to_mode AfterBlank b = scans.after_blank b
+-- what a walk gives where it goes on after this one
+abbrev pub onward : Walk → (LineMode → Walk) → Walk
+onward (going m) next = next m
+onward (ended kept) next = ended kept
 
--- what a mode has read of a token that is not whole yet: a backslash, the blank read last, or nothing
-abbrev pending : LineMode → ℕ → List ℕ
-pending Outside b = []
-pending Escaping b = backslash ∷ []
-pending (Inside q) b = []
-pending (InsideEscaping q) b = backslash ∷ []
-pending AfterBlank b = b ∷ []
+-- a walk over two texts is that over the first, and where this goes on, that over the second
+pub walk-append : (m : LineMode) (seen xs ys : List ℕ) →
+    walk m seen (xs ++ ys) ≡ onward (walk m seen xs) (λ n. walk n (seen ++ xs) ys)
+walk-append m seen [] ys = rw append-nil refl
+walk-append m seen (x ∷ xs) ys =
+    elim (leads m x) as (λ o.
+    walked o x seen (λ n. walk n (seen ++ x ∷ []) (xs ++ ys))
+    ≡ onward (walked o x seen (λ n. walk n (seen ++ x ∷ []) xs)) (λ n. walk n (seen ++ x ∷ xs) ys)) [
+      | None ↦ refl
+      | Some n ↦ rw append_assoc at (walk-append n (seen ++ x ∷ []) xs ys)
+    ]
 
--- one step of both
-record Steps (m : LineMode) (b c : ℕ) (n : LineMode) : Type 0 where
-  front : List ℕ
-  adds : front ++ pending n c ≡ pending m b ++ c ∷ []
-  reads : (cs : List ℕ) → scan (c ∷ cs) (to_mode m b) ≡ consed front (scan cs (to_mode n c))
+-- no logical line ends in the text, and reading it leads to the mode
+abbrev pub IsGoing : List ℕ → LineMode → Type 0
+IsGoing seen m = walk Outside [] seen ≡ going m
 
--- where a character ends a logical line: what the scan ends with, which keeps the same text as the walk
-record Stops (m : LineMode) (b c : ℕ) (rest : List ℕ) : Type 0 where
-  front : List ℕ
-  ending : Ending
-  reads : scan (c ∷ rest) (to_mode m b) ≡ stops front ending []
-  keeps : (xs : List ℕ) → kept_text (xs ++ front) ending ≡ kept_before c (xs ++ pending m b)
-  is_ending : (ending ≡ input_end) → ⊥
+-- where a loop begins
+pub going_start : IsGoing [] Outside
+going_start = refl
 
--- one step of both, by where the character leads: to a mode, or to the end of a logical line
-abbrev Stepped : LineMode → ℕ → ℕ → Option LineMode → Type 0
-Stepped m b c None = (rest : List ℕ) → IsOneLine (c ∷ rest) → Stops m b c rest
-Stepped m b c (Some n) = Steps m b c n
+-- a walk from the start goes on after what was seen
+pub going_more : (seen : List ℕ) (m : LineMode) (cs : List ℕ) → IsGoing seen m →
+    walk Outside [] (seen ++ cs) ≡ walk m seen cs
+going_more seen m cs g = walk-append Outside [] seen cs ∙ rw g refl
 
--- nothing follows a line feed
-nothing_after : (c : ℕ) (rest : List ℕ) → (c == line_feed) ≡ true → IsOneLine (c ∷ rest) → rest ≡ []
-nothing_after c [] h one = refl
-nothing_after c (d ∷ rest) h one = let e : false ≡ true = ap not (sym h) ∙ one.0 in cc
+-- From the walk to the tokens.
+-- an opening quote and what may stand after it
+record IsOpen (q : ℕ) (part : List ℕ) : Type 0 where
+  inner : List QuotedCharacter
+  quote : is_quote q ≡ true
+  are : list_all (is_quoted q) inner ≡ true
+  is : part ≡ q ∷ flat_map quoted_text inner
+
+-- what a mode has read of a token that is not whole yet
+abbrev IsPart : LineMode → List ℕ → Type 0
+IsPart Outside part = part ≡ []
+IsPart Escaping part = part ≡ backslash ∷ []
+IsPart (Inside q) part = IsOpen q part
+IsPart (InsideEscaping q) part = (front : List ℕ) × IsOpen q front × (part ≡ front ++ backslash ∷ [])
+IsPart AfterBlank part = (b : ℕ) × (is_blank b ≡ true) × (part ≡ b ∷ [])
+
+-- what was seen, before this text, is tokens, and a part of which this holds
+record Told (seen : List ℕ) (Part : List ℕ → Type 0) (after : List ℕ) : Type 0 where
+  tokens : List Token
+  part : List ℕ
+  are : AreTokens tokens (part ++ after)
+  is_part : Part part
+  spelled : seen ≡ tokens_text tokens ++ part
+
+-- a token more after tokens spells its text after theirs
+text_more : (tokens : List Token) (t : Token) (after : List ℕ) →
+    tokens_text tokens ++ (token_text t ++ after) ≡ tokens_text (tokens ++ t ∷ []) ++ after
+text_more tokens t after = simp (flat_map-append, append-nil, append_assoc)
+
+-- a token may stand after others where its text may follow them
+are_more : (tokens : List Token) (t : Token) (after : List ℕ) → AreTokens tokens (token_text t ++ after) →
+    IsToken t after → AreTokens (tokens ++ t ∷ []) after
+are_more [] t after are is = (is, tt)
+are_more (x ∷ tokens) t after are is =
+    (subst (IsToken x) (text_more tokens t after) are.0, are_more tokens t after are.1 is)
+
+-- a character may belong to the part
+grow : {seen cs : List ℕ} {P Q : List ℕ → Type 0} {c : ℕ} (t : Told seen P (c ∷ cs)) → Q (t.part ++ c ∷ []) →
+    Told (seen ++ c ∷ []) Q cs
+grow {c = c} t is = record {
+  tokens = t.tokens;
+  part = t.part ++ c ∷ [];
+  are = rw append_assoc t.are;
+  is_part = is;
+  spelled = rw t.spelled (append_assoc (tokens_text t.tokens) t.part (c ∷ []));
+}
+
+-- a part may be a whole token
+close : {seen after : List ℕ} (x : Token) → Told seen (λ part. part ≡ token_text x) after → IsToken x after →
+    Told seen (IsPart Outside) after
+close {after = after} x t is = record {
+  tokens = t.tokens ++ x ∷ [];
+  part = [];
+  are = are_more t.tokens x after (rw t.is_part at t.are) is;
+  is_part = refl;
+  spelled = t.spelled ∙ rw t.is_part (simp (append-nil, flat_map-append));
+}
+
+-- what stands in quotes may be followed by a character, or by a backslash and one
+open_more : {q : ℕ} {part : List ℕ} (x : QuotedCharacter) → IsOpen q part → is_quoted q x ≡ true →
+    IsOpen q (part ++ quoted_text x)
+open_more {q = q} x o is = record {
+  inner = o.inner ++ x ∷ [];
+  quote = o.quote;
+  are = rw (list_all-append, o.are, is) refl;
+  is = rw o.is (simp (flat_map-append, append-nil));
+}
+
+-- after a whole token: where a line feed, a backslash, a quote, a blank and another character lead
+outside_leads : (c : ℕ) →
+    ((c ≡ line_feed) × (leads_outside c ≡ None))
+    ⊎ (((c ≡ backslash) × (leads_outside c ≡ Some Escaping))
+    ⊎ (((is_quote c ≡ true) × (leads_outside c ≡ Some (Inside c)))
+    ⊎ (((is_blank c ≡ true) × (leads_outside c ≡ Some AfterBlank))
+    ⊎ ((not (is_blank c || stands_for_itself c) ≡ true) × (leads_outside c ≡ Some Outside)))))
+outside_leads c = grind (arith, nat_tests)
+
+-- after a backslash: where a line feed and another character lead
+escaping_leads : (c : ℕ) →
+    ((c ≡ line_feed) × (leads Escaping c ≡ None))
+    ⊎ ((not (c == line_feed) ≡ true) × (leads Escaping c ≡ Some Outside))
+escaping_leads c = grind (arith, nat_tests)
+
+-- in quotes: where the quote, a backslash and another character lead
+inside_leads : (q c : ℕ) →
+    ((c ≡ q) × (leads (Inside q) c ≡ Some Outside))
+    ⊎ (((c ≡ backslash) × (leads (Inside q) c ≡ Some (InsideEscaping q)))
+    ⊎ ((is_quoted q (one c) ≡ true) × (leads (Inside q) c ≡ Some (Inside q))))
+inside_leads q c = grind (arith, nat_tests)
+
+-- after a blank: where `#`, a character before which the blank stands alone, and another character lead
+blank_leads : (c : ℕ) →
+    ((c ≡ hash) × (leads AfterBlank c ≡ None))
+    ⊎ (((stands_for_itself c ≡ true) × (leads AfterBlank c ≡ leads_outside c))
+    ⊎ ((not (c == hash || stands_for_itself c) ≡ true) × (leads AfterBlank c ≡ Some Outside)))
+blank_leads c = grind (arith, nat_tests)
 
 -- a text that ends with a backslash has no carriage return at its end to be cut off
 not_returned : (xs : List ℕ) → without_carriage_return (xs ++ backslash ∷ []) ≡ xs ++ backslash ∷ []
 not_returned [] = refl
 not_returned (c ∷ []) = refl
-not_returned (c ∷ d ∷ xs) = ap (λ cs. c ∷ cs) (not_returned (d ∷ xs))
+not_returned (c ∷ d ∷ xs) = ap (◌∷◌ c) (not_returned (d ∷ xs))
 
--- after a whole token, this reading goes where the character leads: to the line's end, or to a mode
-abbrev LineStep : ℕ → Option LineMode → (List ℕ → Scan) → Type 0
-LineStep c None read = (rest : List ℕ) → rest ≡ [] → read rest ≡ stops [] line_end []
-LineStep c (Some n) read =
-    (front : List ℕ)
-    × (front ++ pending n c ≡ c ∷ [])
-    × ((cs : List ℕ) → read cs ≡ consed front (scan cs (to_mode n c)))
-
--- after a whole token, the scan's tests of a character lead where the walk's do
-from_outside_at : (c : ℕ) (n b q k : Bool) → (c == line_feed) ≡ n → (c == backslash) ≡ b →
-    LineStep c
-    (cond n None (cond b (Some Escaping) (cond q (Some (Inside c)) (cond k (Some AfterBlank) (Some Outside)))))
-    (λ cs.
-    elim n [
-      | true ↦ stops [] line_end cs
-      | false ↦
-          elim b [
-            | true ↦ scan cs scans.escaping
-            | false ↦
-                elim q [
-                  | true ↦ consed (c ∷ []) (scan cs (scans.inside c))
-                  | false ↦
-                      elim k [
-                        | true ↦ scan cs (scans.after_blank c)
-                        | false ↦ consed (c ∷ []) (scan cs scans.outside)
-                      ]
-                ]
-          ]
-    ])
-from_outside_at c true b q k h i = λ rest e. ap (stops [] line_end) e
-from_outside_at c false true q k h i =
-    ([], ap (λ d. d ∷ []) (sym (same_from c backslash i)), λ cs. consed-nil (scan cs scans.escaping))
-  where
-    consed-nil : (s : Scan) → s ≡ consed [] s
-    consed-nil (stops f e r) = refl
-    consed-nil open_end = refl
-from_outside_at c false false true k h i = (c ∷ [], refl, λ cs. refl)
-from_outside_at c false false false true h i = ([], refl, λ cs. consed-nil (scan cs (scans.after_blank c)))
-  where
-    consed-nil : (s : Scan) → s ≡ consed [] s
-    consed-nil (stops f e r) = refl
-    consed-nil open_end = refl
-from_outside_at c false false false false h i = (c ∷ [], refl, λ cs. refl)
-
--- after a whole token, the scan reads on from where the character leads, or ends with the line
-line_step : (c : ℕ) → LineStep c (leads_outside c) (λ cs. scan (c ∷ cs) scans.outside)
-line_step c = from_outside_at c (c == line_feed) (c == backslash) (is_quote c) (is_blank c) refl refl
-
--- after a whole token, a character that ends the logical line is a line feed
-none_is_line : (c : ℕ) → leads_outside c ≡ None → (c == line_feed) ≡ true
-none_is_line c h = at (c == line_feed) (c == backslash) (is_quote c) (is_blank c) h
-  where
-    at : (n b q k : Bool) →
-        ◌≡◌ {A = Option LineMode}
-        (cond n None (cond b (Some Escaping) (cond q (Some (Inside c)) (cond k (Some AfterBlank) (Some Outside)))))
-        None → n ≡ true
-    at true b q k h = refl
-    at false true q k h = cc
-    at false false true k h = cc
-    at false false false true h = cc
-    at false false false false h = cc
-
--- before a line feed, a line keeps what stands there without one carriage return at its end
-kept_line : (c : ℕ) (xs : List ℕ) → (c == line_feed) ≡ true → kept_before c xs ≡ without_carriage_return xs
-kept_line c xs h = rw h refl
-
--- after a whole token, scan and walk take the same step
-walk_outside_step : (b c : ℕ) (g : Option LineMode) → leads_outside c ≡ g →
-    LineStep c g (λ cs. scan (c ∷ cs) scans.outside) → Stepped Outside b c g
-walk_outside_step b c None h s = λ rest one. let n = none_is_line c h in record {
-  front = [];
-  ending = line_end;
-  reads = s rest (nothing_after c rest n one);
-  keeps = λ xs. sym (kept_line c (xs ++ []) n);
-  is_ending = λ e. cc;
-}
-walk_outside_step b c (Some m) h s = record { front = s.0; adds = s.1; reads = s.2 }
-
--- after a backslash outside quotes, scan and walk take the same step
-walk_escaping_step : (b c : ℕ) (n : Bool) → (c == line_feed) ≡ n → Stepped Escaping b c (cond n None (Some Outside))
-walk_escaping_step b c true h = λ rest one. record {
-  front = [];
-  ending = escaped_line_end;
-  reads = when_true _ _ (c == line_feed) h ∙ ap (stops [] escaped_line_end) (nothing_after c rest h one);
-  keeps =
-      λ xs.
-      ap (λ t. t ++ backslash ∷ []) (append-nil xs) ∙ sym (kept_line c (xs ++ backslash ∷ []) h ∙ not_returned xs);
-  is_ending = λ e. cc;
-}
-walk_escaping_step b c false h =
-    record { front = backslash ∷ c ∷ []; adds = refl; reads = λ cs. when_false _ _ (c == line_feed) h }
-
--- in quotes, scan and walk take the same step
-walk_inside_step : (q b c : ℕ) (x y : Bool) → (c == q) ≡ x → (c == backslash) ≡ y →
-    Stepped (Inside q) b c (cond x (Some Outside) (cond y (Some (InsideEscaping q)) (Some (Inside q))))
-walk_inside_step q b c true y h i = record { front = c ∷ []; adds = refl; reads = λ cs. when_true _ _ (c == q) h }
-walk_inside_step q b c false true h i =
-    record {
-      front = [];
-      adds = ap (λ d. d ∷ []) (sym (same_from c backslash i));
-      reads =
-          λ cs.
-          when_false _ _ (c == q) h
-          ∙ when_true _ _ (c == backslash) i
-          ∙ consed-nil (scan cs (scans.inside_escaping q));
-    }
-  where
-    consed-nil : (s : Scan) → s ≡ consed [] s
-    consed-nil (stops f e r) = refl
-    consed-nil open_end = refl
-walk_inside_step q b c false false h i =
-    record {
-      front = c ∷ [];
-      adds = refl;
-      reads = λ cs. when_false _ _ (c == q) h ∙ when_false _ _ (c == backslash) i;
-    }
+-- nothing follows a line feed in a line
+nothing_after : (c : ℕ) (rest : List ℕ) → c ≡ line_feed → IsOneLine (c ∷ rest) → rest ≡ []
+nothing_after c [] h is_one = refl
+nothing_after c (d ∷ rest) h is_one = let e : false ≡ true = rw h at is_one.0 in cc
 
 -- one line without its first character is one line
 one_line_after : (c : ℕ) (rest : List ℕ) → IsOneLine (c ∷ rest) → IsOneLine rest
-one_line_after c [] one = tt
-one_line_after c (d ∷ rest) one = one.1
+one_line_after c [] is_one = tt
+one_line_after c (d ∷ rest) is_one = is_one.1
 
--- after a blank, at a character before which it stands alone, scan and walk take the same step
-broken_step : (b c : ℕ) (g : Option LineMode) → (c == hash) ≡ false → stands_for_itself c ≡ true →
-    leads_outside c ≡ g → LineStep c g (λ cs. scan (c ∷ cs) scans.outside) → Stepped AfterBlank b c g
-broken_step b c None h i e s = λ rest one. let n = none_is_line c e in record {
-  front = b ∷ [];
-  ending = line_end;
-  reads = scans.from_break b (c ∷ rest) i ∙ ap (consed (b ∷ [])) (s rest (nothing_after c rest n one));
-  keeps = λ xs. sym (kept_line c (xs ++ b ∷ []) n);
-  is_ending = λ e. cc;
+-- tokens and a part, with what follows, are a whole logical line where the part and that are an ending
+whole_from : {seen : List ℕ} {P : List ℕ → Type 0} (after kept : List ℕ) (ending : Ending) (last : Type 0)
+    (t : Told seen P after) → t.part ++ after ≡ ending_text ending → IsEnding ending last →
+    kept ≡ kept_text (tokens_text t.tokens) ending → IsWhole (seen ++ after) kept last
+whole_from after kept ending last t e is cut = record {
+  tokens = t.tokens;
+  ending = ending;
+  are_tokens = rw e at t.are;
+  is_ending = is;
+  spelled = rw (t.spelled, append_assoc, e) refl;
+  cut = cut;
 }
-broken_step b c (Some m) h i e s =
-    record {
-      front = b ∷ s.0;
-      adds = ap (λ t. b ∷ t) s.1;
-      reads =
-          λ cs.
-          scans.from_break b (c ∷ cs) i
-          ∙ ap (consed (b ∷ [])) (s.2 cs)
-          ∙ consed-consed (b ∷ []) s.0 (scan cs (to_mode m c));
-    }
 
--- after a blank, scan and walk take the same step: a comment, a character that stands for itself, a follower
-walk_blank_step : (b c : ℕ) (x y : Bool) → (c == hash) ≡ x → stands_for_itself c ≡ y →
-    Stepped AfterBlank b c (cond x None (cond y (leads_outside c) (Some Outside)))
-walk_blank_step b c true y h i =
-    λ rest one.
-    let w = closed_words rest [] (one_line_after c rest one) (inr refl) in
-    let f = ap scans.first_line (sym (append-nil rest)) ∙ w.0 in
-    let a = ap scans.after_line (sym (append-nil rest)) ∙ w.1 in record {
-      front = [];
-      ending = comment b rest;
-      reads =
-          when_true _ _ (c == hash) h
-          ∙ (ap (λ t. stops [] (comment b t) (scans.after_line rest)) f ∙ ap (stops [] (comment b rest)) a);
-      keeps = λ xs. ap (λ t. t ++ b ∷ []) (append-nil xs) ∙ sym (no_line (xs ++ b ∷ []));
-      is_ending = λ e. cc;
-    }
-  where
-    no_line : (xs : List ℕ) → kept_before c xs ≡ xs
-    no_line xs = ap (λ d. kept_before d xs) (same_from c hash h)
-walk_blank_step b c false true h i = broken_step b c (leads_outside c) h i refl (line_step c)
-walk_blank_step b c false false h i =
-    record {
-      front = b ∷ c ∷ [];
-      adds = refl;
-      reads = λ cs. when_false _ _ (c == hash) h ∙ when_false _ _ (stands_for_itself c) i;
-    }
+-- a character leads to a mode, which has read it, or it ends the logical line
+abbrev Led : Type 0 → List ℕ → ℕ → List ℕ → Option LineMode → Type 0
+Led last seen c cs None = IsOneLine (c ∷ cs) → IsWhole (seen ++ c ∷ cs) (kept_before c seen) last
+Led last seen c cs (Some n) = Told (seen ++ c ∷ []) (IsPart n) cs
 
--- in each mode, scan and walk take the same step
-walk_step : (m : LineMode) (b c : ℕ) → Stepped m b c (leads m c)
-walk_step Outside b c = walk_outside_step b c (leads_outside c) refl (line_step c)
-walk_step Escaping b c = walk_escaping_step b c (c == line_feed) refl
-walk_step (Inside q) b c = walk_inside_step q b c (c == q) (c == backslash) refl refl
-walk_step (InsideEscaping q) b c = record { front = backslash ∷ c ∷ []; adds = refl; reads = λ cs. refl }
-walk_step AfterBlank b c = walk_blank_step b c (c == hash) (stands_for_itself c) refl refl
+-- after a whole token, where a character leads is what was read
+lead_outside : {seen cs : List ℕ} (last : Type 0) (c : ℕ) → Told seen (IsPart Outside) (c ∷ cs) →
+    Led last seen c cs (leads_outside c)
+lead_outside {seen = seen} {cs = cs} last c t = elim (outside_leads c) [
+  | inl h ↦
+      rw h.1 (λ line.
+      let none = nothing_after c cs h.0 line in
+      whole_from (c ∷ cs) (kept_before c seen) line_end last t (rw (t.is_part, h.0, none) refl) tt
+      (rw (h.0, t.spelled, t.is_part, append-nil) refl))
+  | inr (inl h) ↦ rw h.1 (grow t (rw (t.is_part, h.0) refl))
+  | inr (inr (inl h)) ↦ rw h.1 (grow t (record { inner = []; quote = h.0; are = refl; is = rw t.is_part refl }))
+  | inr (inr (inr (inl h))) ↦ rw h.1 (grow t (c, h.0, rw t.is_part refl))
+  | inr (inr (inr (inr h))) ↦ rw h.1 (close (plain c) (grow t (rw t.is_part refl)) h.0)
+]
 
--- no logical line ends in the text, and reading it leads to the mode
-pub record IsGoing (seen : List ℕ) (m : LineMode) : Type 0 where
-  pub last : ℕ
-  pub front : List ℕ
-  pub joins : front ++ pending m last ≡ seen
-  pub reads : (cs : List ℕ) → scan (seen ++ cs) scans.outside ≡ consed front (scan cs (to_mode m last))
+-- where a character leads is what was read
+lead : {seen cs : List ℕ} (last : Type 0) (m : LineMode) (c : ℕ) → Told seen (IsPart m) (c ∷ cs) →
+    Led last seen c cs (leads m c)
+lead last Outside c t = lead_outside last c t
+lead {seen = seen} {cs = cs} last Escaping c t = elim (escaping_leads c) [
+  | inl h ↦
+      rw h.1 (λ line.
+      let none = nothing_after c cs h.0 line in
+      whole_from (c ∷ cs) (kept_before c seen) escaped_line_end last t (rw (t.is_part, h.0, none) refl) tt
+      (rw (h.0, t.spelled, t.is_part, not_returned) refl))
+  | inr h ↦ rw h.1 (close (backslash_pair c) (grow t (rw t.is_part refl)) h.0)
+]
+lead last (Inside q) c t = let o = t.is_part in elim (inside_leads q c) [
+  | inl h ↦ rw h.1 (close (quoted q o.inner) (grow t (rw (o.is, h.0) refl)) (o.quote, o.are))
+  | inr (inl h) ↦ rw h.1 (grow t (t.part, o, rw h.0 refl))
+  | inr (inr h) ↦ rw h.1 (grow t (open_more (one c) o h.0))
+]
+lead last (InsideEscaping q) c t =
+    let p = t.is_part in grow t (rw (p.2, append_assoc) (open_more (pair c) p.1 refl))
+lead {seen = seen} {cs = cs} last AfterBlank c t = let p = t.is_part in elim (blank_leads c) [
+  | inl h ↦
+      rw h.1 (λ line.
+      whole_from (c ∷ cs) (kept_before c seen) (comment p.0 cs) last t (rw (p.2, h.0) refl)
+      (p.1, one_line_after c cs line) (rw (h.0, t.spelled, p.2) refl))
+  | inr (inl h) ↦
+      let alone : Told seen (λ part. part ≡ token_text (blank p.0)) (c ∷ cs) =
+      record { tokens = t.tokens; part = t.part; are = t.are; is_part = p.2; spelled = t.spelled } in
+      rw h.1 (lead_outside last c (close (blank p.0) alone (p.1, h.0)))
+  | inr (inr h) ↦ rw h.1 (close (blank_pair p.0 c) (grow t (rw p.2 refl)) (p.1, h.0))
+]
 
--- where a loop begins
-pub going_start : IsGoing [] Outside
-going_start = record { last = 0; front = []; joins = refl; reads = λ cs. consed-nil (scan cs scans.outside) }
-  where
-    consed-nil : (s : Scan) → s ≡ consed [] s
-    consed-nil (stops f e r) = refl
-    consed-nil open_end = refl
+-- a walk over a text leads to a mode, which has read it, or it ends the logical line
+abbrev Reached : Type 0 → List ℕ → List ℕ → List ℕ → Walk → Type 0
+Reached last seen cs rest (going n) = Told (seen ++ cs) (IsPart n) rest
+Reached last seen cs rest (ended kept) = IsOneLine (cs ++ rest) → IsWhole (seen ++ (cs ++ rest)) kept last
 
--- one character more
-pub going_step : (seen : List ℕ) (m : LineMode) (c : ℕ) (n : LineMode) → IsGoing seen m → leads m c ≡ Some n →
-    IsGoing (seen ++ c ∷ []) n
-going_step seen m c n g h = at (leads m c) h (walk_step m g.last c)
-  where
-    at : (o : Option LineMode) → o ≡ Some n → Stepped m g.last c o → IsGoing (seen ++ c ∷ []) n
-    at None e s = cc
-    at (Some k) e s =
-        let f : k ≡ n = (let i : Some k ≡ Some n = e in cc) in subst (λ m. IsGoing (seen ++ c ∷ []) m) f (record {
-          last = c;
-          front = g.front ++ s.front;
-          joins =
-              append_assoc g.front s.front (pending k c)
-              ∙ ap (λ t. g.front ++ t) s.adds
-              ∙ sym (append_assoc g.front (pending m g.last) (c ∷ []))
-              ∙ ap (λ t. t ++ c ∷ []) g.joins;
-          reads =
-              λ cs.
-              ap (λ t. scan t scans.outside) (append_assoc seen (c ∷ []) cs)
-              ∙ g.reads (c ∷ cs)
-              ∙ ap (consed g.front) (s.reads cs)
-              ∙ consed-consed g.front s.front (scan cs (to_mode k c));
-        })
+-- a walk after a text and a character more is a walk after the text, over one that begins with that character
+reached_more : (last : Type 0) (seen : List ℕ) (c : ℕ) (cs rest : List ℕ) (w : Walk) →
+    Reached last (seen ++ c ∷ []) cs rest w → Reached last seen (c ∷ cs) rest w
+reached_more last seen c cs rest (going n) h = rw append_assoc at h
+reached_more last seen c cs rest (ended kept) h = λ line. rw append_assoc at (h (one_line_after c (cs ++ rest) line))
 
--- a text that the scan takes whole, to an ending that may stand there, is a whole logical line
-pub whole_from : (text front : List ℕ) (ending : Ending) (last : Type 0) →
-    scan text scans.outside ≡ stops front ending [] → IsEnding ending last →
-    IsWhole text (kept_text front ending) last
-whole_from text front ending last e is =
-    from_reads (subst (Read scans.outside text) e (scan-reads text scans.outside tt))
-  where
-    from_reads : Reads text front ending [] → IsWhole text (kept_text front ending) last
-    from_reads r = record {
-      tokens = r.tokens;
-      ending = ending;
-      are_tokens = r.are;
-      is_ending = is;
-      spelled = r.spelled ∙ ap (λ t. tokens_text r.tokens ++ t) (append-nil (ending_text ending));
-      cut = ap (λ t. kept_text t ending) r.front_is;
-    }
+-- where a walk leads is what was read
+reached : (last : Type 0) (seen : List ℕ) (m : LineMode) (cs rest : List ℕ) → Told seen (IsPart m) (cs ++ rest) →
+    Reached last seen cs rest (walk m seen cs)
+reached last seen m [] rest t = rw append-nil t
+reached last seen m (c ∷ cs) rest t =
+    (elim (leads m c) as (λ o.
+    Led last seen c (cs ++ rest) o →
+    Reached last seen (c ∷ cs) rest (walked o c seen (λ n. walk n (seen ++ c ∷ []) cs))) [
+      | None ↦ λ h. h
+      | Some n ↦
+          λ h.
+          reached_more last seen c cs rest (walk n (seen ++ c ∷ []) cs)
+          (reached last (seen ++ c ∷ []) n cs rest h)
+    ]) (lead last m c t)
 
--- an ending that the scan finds may stand there, if it is not the end of the input
-is_ending_from : (text front : List ℕ) (ending : Ending) (last : Type 0) → ((ending ≡ input_end) → ⊥) →
-    scan text scans.outside ≡ stops front ending [] → IsEnding ending last
-is_ending_from text front line_end last some e = tt
-is_ending_from text front escaped_line_end last some e = tt
-is_ending_from text front (comment b words) last some e =
-    closed (subst (Read scans.outside text) e (scan-reads text scans.outside tt))
-  where
-    closed : Reads text front (comment b words) [] → IsEnding (comment b words) last
-    closed r = let k = r.closed in (k.0, one_line_words words [] k.1)
-is_ending_from text front input_end last some e = absurd (some refl)
+-- a text in which no logical line ends is tokens and a part of one, as they are before whatever follows
+told : (seen : List ℕ) (m : LineMode) (rest : List ℕ) → IsGoing seen m → Told seen (IsPart m) rest
+told seen m rest g =
+    rw g at (reached (Unit {0}) [] Outside seen rest
+    (record { tokens = []; part = []; are = tt; is_part = refl; spelled = refl }))
 
--- the character ends the line
-pub going_ends : (seen : List ℕ) (m : LineMode) (c : ℕ) (rest : List ℕ) (last : Type 0) → IsGoing seen m →
-    leads m c ≡ None → IsOneLine (c ∷ rest) → IsWhole (seen ++ c ∷ rest) (kept_before c seen) last
-going_ends seen m c rest last g h one = at (leads m c) h (walk_step m g.last c)
-  where
-    at : (o : Option LineMode) → o ≡ None → Stepped m g.last c o → IsWhole (seen ++ c ∷ rest) (kept_before c seen) last
-    at (Some n) e s = cc
-    at None e s =
-        let p = s rest one in
-        let r : scan (seen ++ c ∷ rest) scans.outside ≡ stops (g.front ++ p.front) p.ending [] =
-        g.reads (c ∷ rest) ∙ ap (consed g.front) p.reads in
-        subst (λ k. IsWhole (seen ++ c ∷ rest) k last) (p.keeps g.front ∙ ap (kept_before c) g.joins)
-        (whole_from (seen ++ c ∷ rest) (g.front ++ p.front) p.ending last r
-        (is_ending_from (seen ++ c ∷ rest) (g.front ++ p.front) p.ending last p.is_ending r))
+-- a text that leads to a whole token is a row of tokens
+pub outside_tokens : (seen : List ℕ) → IsGoing seen Outside →
+    (tokens : List Token) × AreTokens tokens [] × (seen ≡ tokens_text tokens)
+outside_tokens seen g =
+    let t = told seen Outside [] g in
+    (t.tokens, rw t.is_part at t.are, t.spelled ∙ rw t.is_part (append-nil (tokens_text t.tokens)))
 
 -- one physical line after what was seen
 abbrev pub IsWalked : Type 0 → List ℕ → List ℕ → Walk → Type 0
 IsWalked last seen line (going m) = IsGoing (seen ++ line) m
 IsWalked last seen line (ended text) = IsWhole (seen ++ line) text last
 
--- a walk after a text and one character more is a walk after the text, of a line with that character first
-walked_join : (last : Type 0) (seen : List ℕ) (c : ℕ) (cs : List ℕ) (w : Walk) →
-    IsWalked last (seen ++ c ∷ []) cs w → IsWalked last seen (c ∷ cs) w
-walked_join last seen c cs (going m) h = subst (λ t. IsGoing t m) (append_assoc seen (c ∷ []) cs) h
-walked_join last seen c cs (ended text) h = subst (λ t. IsWhole t text last) (append_assoc seen (c ∷ []) cs) h
-
 -- after a text in which no logical line ends, one more physical line does what the walk over it says
 pub walk-is : (last : Type 0) (m : LineMode) (seen line : List ℕ) → IsGoing seen m → IsOneLine line →
     IsWalked last seen line (walk m seen line)
-walk-is last m seen [] g one = subst (λ t. IsGoing t m) (sym (append-nil seen)) g
-walk-is last m seen (c ∷ cs) g one =
-    at (leads m c) refl (λ n k. walk-is last n (seen ++ c ∷ []) cs k (one_line_after c cs one))
+walk-is last m seen line g is_one =
+    at (walk m seen line) (going_more seen m line g)
+    (reached last seen m line [] (rw append-nil (told seen m line g)))
   where
-    at : (o : Option LineMode) → leads m c ≡ o →
-        ((n : LineMode) → IsGoing (seen ++ c ∷ []) n → IsWalked last (seen ++ c
-        ∷ []) cs (walk n (seen ++ c ∷ []) cs)) →
-        IsWalked last seen (c ∷ cs) (walked o c seen (λ n. walk n (seen ++ c ∷ []) cs))
-    at None e later = going_ends seen m c cs last g e one
-    at (Some n) e later = walked_join last seen c cs (walk n (seen ++ c ∷ []) cs) (later n (going_step seen m c n g e))
+    at : (w : Walk) → walk Outside [] (seen ++ line) ≡ w → Reached last seen line [] w → IsWalked last seen line w
+    at (going n) e h = e
+    at (ended kept) e h = (rw append-nil at h) is_one
+
+-- From the tokens to the walk.
+-- a token that is a character stays outside
+plain_leads : (c : ℕ) → not (is_blank c || stands_for_itself c) ≡ true → leads_outside c ≡ Some Outside
+plain_leads c h = grind (arith, nat_tests)
+
+-- after a whole token, a quote opens quotes
+quote_leads : (q : ℕ) → is_quote q ≡ true → leads_outside q ≡ Some (Inside q)
+quote_leads q h = grind (arith, nat_tests)
+
+-- after a whole token, a blank leads to what is after a blank
+blank_goes : (b : ℕ) → is_blank b ≡ true → leads_outside b ≡ Some AfterBlank
+blank_goes b h = grind (arith, nat_tests)
+
+-- in quotes, the quote leads outside
+quote_closes : (q : ℕ) → leads (Inside q) q ≡ Some Outside
+quote_closes q = grind (arith, nat_tests)
+
+-- in quotes, a backslash escapes
+quote_escapes : (q : ℕ) → is_quote q ≡ true → leads (Inside q) backslash ≡ Some (InsideEscaping q)
+quote_escapes q h = grind (arith, nat_tests)
+
+-- in quotes, another character stays
+quote_stays : (q c : ℕ) → is_quoted q (one c) ≡ true → leads (Inside q) c ≡ Some (Inside q)
+quote_stays q c h = grind (arith, nat_tests)
+
+-- what may stand in quotes, and the quote, lead outside
+walk_inner : (q : ℕ) (inner : List QuotedCharacter) (seen after : List ℕ) → is_quote q ≡ true →
+    list_all (is_quoted q) inner ≡ true →
+    walk (Inside q) seen ((flat_map quoted_text inner ++ q ∷ []) ++ after)
+    ≡ walk Outside (seen ++ (flat_map quoted_text inner ++ q ∷ [])) after
+walk_inner q [] seen after h k = rw (quote_closes q) refl
+walk_inner q (one c ∷ inner) seen after h k =
+    rw (quote_stays q c (and_left (is_quoted q (one c)) (list_all (is_quoted q) inner) k))
+    (rw (append_assoc seen (c ∷ [])) at (walk_inner q inner (seen ++ c ∷ []) after h
+    (and_right (is_quoted q (one c)) (list_all (is_quoted q) inner) k)))
+walk_inner q (pair c ∷ inner) seen after h k =
+    rw (quote_escapes q h) (rw append_assoc
+    (rw (append_assoc seen (backslash ∷ c ∷ [])) at (walk_inner q inner (seen ++ backslash ∷ c ∷ []) after h k)))
+
+-- before a character that a blank stands alone before, a walk is as after a whole token
+walk_alone : (seen after : List ℕ) → is_before_break after ≡ true → walk AfterBlank seen after ≡ walk Outside seen after
+walk_alone seen [] h = cc
+walk_alone seen (c ∷ after) h = rw (leads_alone c h) refl
+  where
+    leads_alone : (c : ℕ) → stands_for_itself c ≡ true → leads AfterBlank c ≡ leads_outside c
+    leads_alone c h = grind (arith, nat_tests)
+
+-- a walk passes a token as a whole, before any text that a blank stands alone before where it did
+walk_token : (t : Token) (seen after other : List ℕ) → IsToken t after →
+    (is_before_break after ≡ true → is_before_break other ≡ true) →
+    walk Outside seen (token_text t ++ other) ≡ walk Outside (seen ++ token_text t) other
+walk_token (plain c) seen after other is alone = rw (plain_leads c is) refl
+walk_token (backslash_pair c) seen after other is alone = elim (escaping_leads c) [
+  | inl h ↦ let e : true ≡ false = rw h.0 at (sym is) in cc
+  | inr h ↦ rw h.1 (rw append_assoc refl)
+]
+walk_token (quoted q inner) seen after other is alone =
+    rw (quote_leads q is.0) (rw (append_assoc seen (q ∷ [])) at
+    (walk_inner q inner (seen ++ q ∷ []) other is.0 is.1))
+walk_token (blank_pair b c) seen after other is alone = elim (blank_leads c) [
+  | inl h ↦ let e : true ≡ false = rw h.0 at (sym is.1) in cc
+  | inr (inl h) ↦ let k = is.1 in let l = h.0 in absurd (grind (arith, nat_tests))
+  | inr (inr h) ↦ rw (blank_goes b is.0, h.1) (rw append_assoc refl)
+]
+walk_token (blank b) seen after other is alone = rw (blank_goes b is.0) (walk_alone (seen ++ b ∷ []) other (alone is.1))
+
+-- a walk passes a row of tokens, before any text that a blank stands alone before where it did
+walk_tokens : (tokens : List Token) (seen after other : List ℕ) → AreTokens tokens after →
+    (is_before_break after ≡ true → is_before_break other ≡ true) →
+    walk Outside seen (tokens_text tokens ++ other) ≡ walk Outside (seen ++ tokens_text tokens) other
+walk_tokens [] seen after other are alone = rw append-nil refl
+walk_tokens (t ∷ tokens) seen after other are alone =
+    rw append_assoc (walk_token t seen (tokens_text tokens ++ after) (tokens_text tokens ++ other) are.0
+    (before (tokens_text tokens))
+    ∙ (rw append_assoc at (walk_tokens tokens (seen ++ token_text t) after other are.1 alone)))
+  where
+    before : (xs : List ℕ) → is_before_break (xs ++ after) ≡ true → is_before_break (xs ++ other) ≡ true
+    before [] h = alone h
+    before (c ∷ xs) h = h
+
+-- no logical line ends in a row of tokens
+pub tokens_going : (tokens : List Token) (after : List ℕ) → AreTokens tokens after →
+    (n : LineMode) × IsGoing (tokens_text tokens) n
+tokens_going tokens after are =
+    at (walk Outside [] (tokens_text tokens)) refl
+    (sym (walk-append Outside [] (tokens_text tokens) (backslash ∷ []))
+    ∙ walk_tokens tokens [] after (backslash ∷ []) are (λ h. refl))
+  where
+    at : (w : Walk) → walk Outside [] (tokens_text tokens) ≡ w →
+        onward w (λ n. walk n (tokens_text tokens) (backslash ∷ [])) ≡ going Escaping →
+        (n : LineMode) × IsGoing (tokens_text tokens) n
+    at (going n) h e = (n, h)
+    at (ended kept) h e = cc
+
+-- a walk over a whole logical line ends with the text that is kept, or it goes on to the end of the input
+pub whole_walks : {text kept : List ℕ} {last : Type 0} → IsWhole text kept last →
+    (walk Outside [] text ≡ ended kept) ⊎ (IsGoing text Outside × (kept ≡ text) × last)
+whole_walks {last = last} w =
+    rw (w.spelled, w.cut) (at w.ending (tokens_text w.tokens) w.is_ending
+    (walk_tokens w.tokens [] (ending_text w.ending) (ending_text w.ending) w.are_tokens (λ h. h)))
+  where
+    at : (ending : Ending) (ts : List ℕ) → IsEnding ending last →
+        walk Outside [] (ts ++ ending_text ending) ≡ walk Outside ts (ending_text ending) →
+        (walk Outside [] (ts ++ ending_text ending) ≡ ended (kept_text ts ending))
+        ⊎ (IsGoing (ts ++ ending_text ending) Outside × (kept_text ts ending ≡ ts ++ ending_text ending) × last)
+    at line_end ts is e = inl e
+    at escaped_line_end ts is e = inl (e ∙ ap ended (not_returned ts))
+    at (comment b words) ts is e = inl (e ∙ rw (blank_goes b is.0) refl)
+    at input_end ts is e = inr (e, sym (append-nil ts), is)

@@ -4,7 +4,7 @@ use Rattle.std.specs.Prelude.{length, Option, Some, None, MatchOption, if◌then
 use denote.Ref.{Bor}
 use Rattle.std.specs.Str.{chars, encode_utf8_all, IsUtf8}
 use Rattle.dotenvy_format.specs.declared.dialect.Dialect.{Dialect}
-use Rattle.dotenvy_format.specs.declared.text.Quoting.{Quoting as CodeQuoting}
+use Rattle.dotenvy_format.specs.declared.text.Quoting.{Quoting}
 use Rattle.dotenvy_format.specs.declared.text.Quoting.TheVariants.{Unquoted, DoubleQuoted}
 use Rattle.dotenvy_format.specs.declared.value.Kind.{Kind}
 use Rattle.dotenvy_format.specs.declared.value.Kind.TheVariants.{Backslash, SingleQuote}
@@ -17,16 +17,15 @@ use Rattle.dotenvy_format.specs.declared.value.Given.{Given}
 use Rattle.dotenvy_format.specs.declared.value.NextPiece.{NextPiece}
 use Rattle.dotenvy_format.specs.declared.value.NextPiece.TheVariants.{Piece as GivesNext, End, Unfinished, Fault}
 use Rattle.dotenvy_format.specs.Characters.{single_quote, double_quote, dollar, backslash, is_space_or_tab}
-use Rattle.dotenvy_format.specs.Value.{Quoting, unquoted, double_quoted, Piece, Text, Name}
+use Rattle.dotenvy_format.specs.Value.{Piece, Text, Name}
 use Rattle.dotenvy_format.specs.Value.{LastBackslash, is_escape, escape_meaning}
-use Rattle.dotenvy_format.specs.inside.Slices.{quoting_of}
 use Rattle.dotenvy_format.specs.Items.{LookUp, meaning, text_of}
 use Rattle.dotenvy_format.specs.inside.ReadValue.{ValueMode, base, given, read_value, value_reach}
 
 -- the other quoting, which a double quote changes to
 abbrev pub other_quoting : Quoting → Quoting
-other_quoting unquoted = double_quoted
-other_quoting double_quoted = unquoted
+other_quoting Unquoted = DoubleQuoted
+other_quoting DoubleQuoted = Unquoted
 
 -- the text has no character
 abbrev pub is_empty : List ℕ → Bool
@@ -34,7 +33,7 @@ is_empty [] = true
 is_empty (c ∷ cs) = false
 
 -- what a character begins, outside quotes or in double quotes
-abbrev pub kind_of : CodeQuoting → ℕ → Kind
+abbrev pub kind_of : Quoting → ℕ → Kind
 kind_of Unquoted c =
     if c == backslash then Backslash else
     if c == single_quote then SingleQuote else
@@ -85,7 +84,7 @@ pub record GivesPiece (dialect : Dialect) (m : ValueMode) (text : List ℕ) (nex
     : Type 0 where
   pub pieces : List Piece
   pub is_read :
-      IsReadTo dialect m text pieces (base (quoting_of next.quoting)) (chars next.rest.now)
+      IsReadTo dialect m text pieces (base next.quoting) (chars next.rest.now)
   pub follows : IsUtf8 next.rest.now
   pub means : (look_up : LookUp) →
       piece_bytes look_up next.piece ≡ encode_utf8_all (meaning look_up pieces)

@@ -1,77 +1,85 @@
--- How the code parses a line up to what is assigned, by its characters. The contracts of private functions cite it.
-use Rattle.std.specs.Prelude.{ℕ, cond, List, [], ◌∷◌, ◌==◌, bytes_eq, codes, Option, Some, None, Result, Ok, Err}
+-- How the code parses a line up to what is assigned: a definition for each function of `statement`, by characters.
+use Rattle.std.specs.Prelude.{ℕ, Bool, cond, if◌then◌else◌, List, [], ◌∷◌, ◌==◌, bytes_eq, codes}
+use Rattle.std.specs.Prelude.{Option, Some, None, ok_or, Result, Ok, Err}
 use denote.Ref.{Bor}
 use Rattle.std.specs.Str.{chars, skip_leading_whitespace}
 use Rattle.dotenvy_format.specs.declared.statement.Statement.{Statement}
-use Rattle.dotenvy_format.specs.Characters.{begins_key, continues_key, equals_sign}
+use Rattle.dotenvy_format.specs.Characters.{begins_key, continues_key, equals_sign, begins_passing}
 
 -- the word that may be a prefix
 abbrev pub export : List ℕ
 export = codes "export"
 
--- what parsing returns: a key and what is assigned, or what is left of the text at the fault
-pub data Parsed : Type 0 where
-  assigns : List ℕ → List ℕ → Parsed
-  fails : List ℕ → Parsed
+-- a key and what follows it or is assigned to it, or what is left of the text at the fault
+abbrev pub Parsed : Type 0
+Parsed = Result (List ℕ × List ℕ) (List ℕ)
 
--- the longest first part of the text whose characters may follow in a key
-abbrev pub key_run : List ℕ → List ℕ
-key_run [] = []
-key_run (c ∷ cs) = cond (continues_key c) (c ∷ key_run cs) []
+infixl 10 ◌>>=◌
+-- parsing goes on with the key and what follows it, unless there was a fault
+abbrev pub ◌>>=◌ : Parsed → (List ℕ × List ℕ → Parsed) → Parsed
+(Ok found) >>= next = next found
+(Err left) >>= next = Err left
 
--- what follows `key_run` in the text
-abbrev pub key_left : List ℕ → List ℕ
-key_left [] = []
-key_left (c ∷ cs) = cond (continues_key c) (key_left cs) (c ∷ cs)
+-- the longest first part of the text whose characters pass the test
+abbrev pub run : (ℕ → Bool) → List ℕ → List ℕ
+run passes [] = []
+run passes (c ∷ cs) = cond (passes c) (c ∷ run passes cs) []
 
--- the text has to begin with a key; parsing goes on with the key and what follows it
-abbrev pub key_then : List ℕ → (List ℕ → List ℕ → Parsed) → Parsed
-key_then [] next = fails []
-key_then (c ∷ cs) next = cond (begins_key c) (next (c ∷ key_run cs) (key_left cs)) (fails (c ∷ cs))
+-- what follows `run` in the text
+abbrev pub after_run : (ℕ → Bool) → List ℕ → List ℕ
+after_run passes [] = []
+after_run passes (c ∷ cs) = cond (passes c) (after_run passes cs) (c ∷ cs)
 
--- parsing goes on with `next` after `=`, and with `other` if the text does not begin with `=`
-abbrev pub equals_then : List ℕ → (List ℕ → Parsed) → Parsed → Parsed
-equals_then [] next other = other
-equals_then (c ∷ cs) next other = cond (c == equals_sign) (next cs) other
+-- the key that the text begins with, and what follows it, without white space at its start
+abbrev pub split_key : List ℕ → Parsed
+split_key text =
+    if begins_passing begins_key text
+    then Ok (run continues_key text, skip_leading_whitespace (after_run continues_key text))
+    else Err text
 
--- what follows `=` is assigned to the key, without white space at its start
-abbrev pub after_equals : List ℕ → List ℕ → Parsed
-after_equals key text = assigns key (skip_leading_whitespace text)
+-- the key and what is assigned to it, if what is left begins with `=`
+abbrev pub assigned : List ℕ → List ℕ → Option (List ℕ × List ℕ)
+assigned key [] = None
+assigned key (c ∷ cs) = if c == equals_sign then Some (key, skip_leading_whitespace cs) else None
 
--- after a key that is not a prefix, there has to be `=`
-abbrev pub after_plain_key : List ℕ → List ℕ → Parsed
-after_plain_key key left = equals_then left (after_equals key) (fails left)
+-- after a key that is no prefix there has to be `=`
+abbrev pub after_key : List ℕ → List ℕ → Parsed
+after_key key left = ok_or (assigned key left) left
 
--- white space after the key is skipped
-abbrev pub skipping : (List ℕ → List ℕ → Parsed) → List ℕ → List ℕ → Parsed
-skipping next key after = next key (skip_leading_whitespace after)
+-- after a prefix there has to be a key, and `=`
+abbrev pub after_prefix : List ℕ → Parsed
+after_prefix left = do
+  cut ← split_key left
+  after_key cut.0 cut.1
 
--- after a prefix, there has to be a key and `=`
-abbrev pub second_key : List ℕ → Parsed
-second_key left = key_then left (skipping after_plain_key)
-
--- after the first key: `=`, or else a second key if the first is `export`
+-- after the first word: `=`, or else a key and `=`, if the word is `export`
 abbrev pub after_first_key : List ℕ → List ℕ → Parsed
 after_first_key key left =
-    cond (bytes_eq key export) (equals_then left (after_equals key) (second_key left))
-    (after_plain_key key left)
+    elim (assigned key left) [
+      | Some statement ↦ Ok statement
+      | None ↦ if bytes_eq key export then after_prefix left else Err left
+    ]
 
--- the whole line, which has no white space at its end
+-- the statement of a text that has no white space at its start
+abbrev pub trimmed_statement : List ℕ → Parsed
+trimmed_statement text = do
+  cut ← split_key text
+  after_first_key cut.0 cut.1
+
+-- the statement of a line that has no white space at its end
 abbrev pub parse : List ℕ → Parsed
-parse line = key_then (skip_leading_whitespace line) (skipping after_first_key)
+parse line = trimmed_statement (skip_leading_whitespace line)
 
--- the result of the code, by its characters
+-- the code's statement, by its characters
+abbrev pub assignment_of : Statement → List ℕ × List ℕ
+assignment_of statement = (chars statement.key.now, chars statement.rest.now)
+
+-- the code's statement, or what is left, by its characters
 abbrev pub parsed_of : Result Statement (Bor (List ℕ)) → Parsed
-parsed_of (Ok statement) = assigns (chars statement.key.now) (chars statement.rest.now)
-parsed_of (Err left) = fails (chars left.now)
+parsed_of (Ok statement) = Ok (assignment_of statement)
+parsed_of (Err left) = Err (chars left.now)
 
--- the result of the code at `=`, by its characters; without a statement, `other`
-abbrev pub assigned_of : Option Statement → Parsed → Parsed
-assigned_of (Some statement) other = assigns (chars statement.key.now) (chars statement.rest.now)
-assigned_of None other = other
-
--- the result of the code at a key, by its characters; with a key, parsing goes on with `next`
-abbrev pub keyed_of : Result (Bor (List ℕ) × Bor (List ℕ)) (Bor (List ℕ)) →
-    (List ℕ → List ℕ → Parsed) → Parsed
-keyed_of (Ok cut) next = next (chars cut.0.now) (chars cut.1.now)
-keyed_of (Err left) next = fails (chars left.now)
+-- the code's key and what follows it, or what is left, by its characters
+abbrev pub cut_of : Result (Bor (List ℕ) × Bor (List ℕ)) (Bor (List ℕ)) → Parsed
+cut_of (Ok cut) = Ok (chars cut.0.now, chars cut.1.now)
+cut_of (Err left) = Err (chars left.now)

@@ -4,7 +4,9 @@ use Rattle.dotenvy_format.specs.declared.dialect.Dialect.{Dialect}
 use Rattle.dotenvy_format.specs.Characters.{is_space_or_tab, is_name_character, single_quote}
 use Rattle.dotenvy_format.specs.Characters.{double_quote, dollar, backslash, left_brace}
 use Rattle.dotenvy_format.specs.Characters.{right_brace, hash}
-use Rattle.dotenvy_format.specs.Value.{Quoting, unquoted, double_quoted, Piece, Text, Name, LastBackslash}
+use Rattle.dotenvy_format.specs.declared.text.Quoting.{Quoting}
+use Rattle.dotenvy_format.specs.declared.text.Quoting.TheVariants.{Unquoted, DoubleQuoted}
+use Rattle.dotenvy_format.specs.Value.{Piece, Text, Name, LastBackslash}
 use Rattle.dotenvy_format.specs.Value.{escape_meaning, is_escape, is_left_by_name}
 
 -- the mode: what reading is in the middle of
@@ -37,39 +39,39 @@ is_brace_first (d ∷ name) c = false
 
 -- the pieces that the end of the text completes, or `None` if the value lacks its end
 abbrev pub value_at_end : ValueMode → ValueReading
-value_at_end (base unquoted) = Some []
-value_at_end (escaping unquoted) = Some (LastBackslash ∷ [])
-value_at_end (naming unquoted name) = Some (Name name [] ∷ [])
+value_at_end (base Unquoted) = Some []
+value_at_end (escaping Unquoted) = Some (LastBackslash ∷ [])
+value_at_end (naming Unquoted name) = Some (Name name [] ∷ [])
 value_at_end in_tail = Some []
 value_at_end in_comment = Some []
-value_at_end (base double_quoted) = None
-value_at_end (escaping double_quoted) = None
-value_at_end (naming double_quoted name) = None
+value_at_end (base DoubleQuoted) = None
+value_at_end (escaping DoubleQuoted) = None
+value_at_end (naming DoubleQuoted name) = None
 value_at_end (bracing q name) = None
 value_at_end (in_single inner) = None
 
 -- where a character leads outside quotes; its tests are: backslash, single quote, double quote, dollar, space or tab
 abbrev pub goes_outside : (b s d o t : Bool) → ℕ → ValueStep
-goes_outside true s d o t c = Some (escaping unquoted, [])
+goes_outside true s d o t c = Some (escaping Unquoted, [])
 goes_outside false true d o t c = Some (in_single [], [])
-goes_outside false false true o t c = Some (base double_quoted, [])
-goes_outside false false false true t c = Some (naming unquoted [], [])
+goes_outside false false true o t c = Some (base DoubleQuoted, [])
+goes_outside false false false true t c = Some (naming Unquoted [], [])
 goes_outside false false false false true c = Some (in_tail, [])
-goes_outside false false false false false c = Some (base unquoted, Text (c ∷ []) ∷ [])
+goes_outside false false false false false c = Some (base Unquoted, Text (c ∷ []) ∷ [])
 
 -- where a character leads in double quotes; its tests are: backslash, double quote, dollar
 abbrev pub goes_inside : (b d o : Bool) → ℕ → ValueStep
-goes_inside true d o c = Some (escaping double_quoted, [])
-goes_inside false true o c = Some (base unquoted, [])
-goes_inside false false true c = Some (naming double_quoted [], [])
-goes_inside false false false c = Some (base double_quoted, Text (c ∷ []) ∷ [])
+goes_inside true d o c = Some (escaping DoubleQuoted, [])
+goes_inside false true o c = Some (base Unquoted, [])
+goes_inside false false true c = Some (naming DoubleQuoted [], [])
+goes_inside false false false c = Some (base DoubleQuoted, Text (c ∷ []) ∷ [])
 
 -- where a character leads if a part may begin here
 abbrev pub goes_base : Quoting → ℕ → ValueStep
-goes_base unquoted c =
+goes_base Unquoted c =
     goes_outside (c == backslash) (c == single_quote) (c == double_quote) (c == dollar)
     (is_space_or_tab c) c
-goes_base double_quoted c = goes_inside (c == backslash) (c == double_quote) (c == dollar) c
+goes_base DoubleQuoted c = goes_inside (c == backslash) (c == double_quote) (c == dollar) c
 
 -- these pieces, and then those that a step completes
 abbrev pub with_pieces : List Piece → ValueStep → ValueStep
@@ -83,7 +85,7 @@ value_goes dialect (escaping q) c =
     elim (is_escape c) [ true ↦ Some (base q, Text (escape_meaning c ∷ []) ∷ []) | false ↦ None ]
 value_goes dialect (in_single inner) c =
     elim (c == single_quote) [
-      | true ↦ Some (base unquoted, Text inner ∷ [])
+      | true ↦ Some (base Unquoted, Text inner ∷ [])
       | false ↦ Some (in_single (inner ++ c ∷ []), [])
     ]
 value_goes dialect (naming q name) c =

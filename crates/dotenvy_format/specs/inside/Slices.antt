@@ -11,26 +11,19 @@ use Rattle.dotenvy_format.specs.declared.text.ByteKind.{ByteKind}
 use Rattle.dotenvy_format.specs.declared.text.ByteKind.TheVariants.{Plain as PlainByte}
 use Rattle.dotenvy_format.specs.declared.text.ByteKind.TheVariants.{Token as TokenByte}
 use Rattle.dotenvy_format.specs.declared.text.ByteKind.TheVariants.{Key as KeyByte}
-use Rattle.dotenvy_format.specs.declared.text.Quoting.{Quoting as CodeQuoting}
-use Rattle.dotenvy_format.specs.declared.text.Quoting.TheVariants.{Unquoted, DoubleQuoted}
 use Rattle.std.specs.Char.{is_ascii_alphanumeric}
 use Rattle.dotenvy_format.specs.declared.dialect.Dialect.{Dialect}
 use Rattle.dotenvy_format.specs.Characters.{begins_passing, tab, space, underscore, double_quote}
 use Rattle.dotenvy_format.specs.Characters.{backslash, is_blank, continues_key, allows_underscore}
 use Rattle.dotenvy_format.specs.Characters.{is_name_character, is_space_or_tab}
 use Rattle.dotenvy_format.specs.Tokens.{stands_for_itself}
-use Rattle.dotenvy_format.specs.Value.{Quoting, unquoted, double_quoted, is_plain, is_plain_outside}
-
--- the quoting, as the format says it
-abbrev pub quoting_of : CodeQuoting → Quoting
-quoting_of Unquoted = unquoted
-quoting_of DoubleQuoted = double_quoted
+use Rattle.dotenvy_format.specs.Value.{is_plain, is_plain_outside}
 
 -- the character is in this class
 abbrev pub has_character : Class → ℕ → Bool
 has_character Key c = continues_key c
 has_character (Name dialect) c = is_name_character dialect c
-has_character (Plain quoting) c = is_plain (quoting_of quoting) c
+has_character (Plain quoting) c = is_plain quoting c
 has_character SpaceOrTab c = is_space_or_tab c
 has_character DoubleQuote c = c == double_quote
 has_character Token c = not (is_blank c || stands_for_itself c)
@@ -55,7 +48,7 @@ is_of_kind KeyByte b = continues_key b
 abbrev pub in_run : Class → ℕ → Bool
 in_run Key b = continues_key b
 in_run (Name dialect) b = is_name_byte dialect b
-in_run (Plain quoting) b = is_plain (quoting_of quoting) b
+in_run (Plain quoting) b = is_plain quoting b
 in_run SpaceOrTab b = is_space_or_tab b
 in_run DoubleQuote b = b == double_quote
 in_run Token b = is_token_byte b

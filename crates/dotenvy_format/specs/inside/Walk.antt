@@ -1,4 +1,4 @@
--- How the splitter walks over characters. The contracts of private functions cite it; proofs/Splitting leads to logical lines.
+-- How the splitter walks over characters. Contracts of private functions cite it; proofs/lines/Splitting reads tokens.
 use Rattle.std.specs.Prelude.{ℕ, ◌≡◌, ◌≤◌, ◌==◌, List, [], ◌∷◌, ◌++◌, length, take, Option, Some, None, if◌then◌else◌}
 use Rattle.dotenvy_format.specs.declared.walk.LineMode.{LineMode}
 use Rattle.dotenvy_format.specs.declared.walk.LineMode.TheVariants.{Outside, Escaping, Inside}

@@ -1,31 +1,39 @@
-use Rattle.std.proofs.Common.{sym, refl, subst, ◌∙◌, ap, take}
-use Rattle.std.specs.Str.{chars, IsCharBoundary}
+use Rattle.std.proofs.Common.{[], ◌∷◌, refl, sym}
+use Rattle.std.specs.Str.{chars}
+use Rattle.std.specs.Char.{encode_utf8}
+use Rattle.std.proofs.lemmas.List.{append-nil}
+use Rattle.std.proofs.lemmas.Str.{chars-nil}
 use Rattle.dotenvy_format.proofs.bytes.Slices.{past_first, take_first}
-use Rattle.dotenvy_format.proofs.values.NextPiece.{name_ends, name_open, name_left, name_then}
+use Rattle.dotenvy_format.proofs.values.Readings.{end_read, lacks_end, name_left, name_ended}
+use Rattle.dotenvy_format.proofs.values.NextPiece.{gives_name, ends_before, first_scalar}
 use Rattle.dotenvy_format.proofs.value.after_name.Goals as goal
 
 pub split_at-requires : goal.split_at-requires
 split_at-requires c =
-    subst (IsCharBoundary c.args.left.now) (sym c.len_utf8.ensures.value)
+    rw c.len_utf8.ensures.value
     (past_first c.args.left.now c.in-Some.rest.now c.in-Some.first c.utf8.left c.in-Some.ensures.bytes)
 
 pub returns-in-Unquoted : goal.returns-in-Unquoted
 returns-in-Unquoted c =
-    rw c.in-Unquoted.is (name_ends c.args.dialect c.args.name _ c.args.left c.utf8.left c.in-None.ensures refl)
+    rw c.in-Unquoted.is (gives_name [] c.utf8.left refl refl (rw (c.in-None.ensures, chars-nil) (end_read refl)))
 
 pub returns-in-DoubleQuoted : goal.returns-in-DoubleQuoted
-returns-in-DoubleQuoted c =
-    rw c.in-DoubleQuoted.is (name_open c.args.dialect (chars c.args.name.now) c.args.left.now c.in-None.ensures)
+returns-in-DoubleQuoted c = rw (c.in-DoubleQuoted.is, c.in-None.ensures, chars-nil) (lacks_end refl)
 
 pub returns-then-is_left_by_name : goal.returns-then-is_left_by_name
 returns-then-is_left_by_name c =
-    name_left c.args.dialect c.args.quoting c.args.name _ c.args.left (chars c.in-Some.rest.now) c.in-Some.first
-    c.utf8.left c.in-Some.ensures.characters c.requires.ended (sym c.if-is_left_by_name.ensures) refl
+    gives_name [] c.utf8.left refl refl
+    (name_left (chars c.args.left.now) (rw (c.in-Some.ensures.characters, ← c.if-is_left_by_name.ensures)))
 
 pub returns-else-is_left_by_name : goal.returns-else-is_left_by_name
 returns-else-is_left_by_name c =
-    name_then c.args.dialect c.args.quoting c.args.name _ c.args.left c.in-Some.rest c.in-Some.first
-    c.in-Some.ensures.follows c.in-Some.ensures.characters c.requires.ended c.requires.no_brace
-    (sym c.if-is_left_by_name.ensures) (c.split_at.ensures.front
-    ∙ ap (λ n. take n c.args.left.now) c.len_utf8.ensures.value
-    ∙ take_first c.args.left.now c.in-Some.rest.now c.in-Some.first c.in-Some.ensures.bytes) c.utf8.left
+    let first = c.in-Some.ensures in
+    let bytes = rw (
+      c.len_utf8.ensures.value,
+      take_first c.args.left.now c.in-Some.rest.now c.in-Some.first first.bytes,
+      ← append-nil (encode_utf8 c.in-Some.first),
+    ) at c.split_at.ensures.front in
+    gives_name (c.in-Some.first ∷ []) first.follows (first_scalar c.utf8.left first) bytes
+    (rw first.characters (name_ended (ends_before c.args.dialect _ (chars c.args.name.now) c.in-Some.first
+    (rw first.characters at c.requires.ended) (rw first.characters at c.requires.no_brace)
+    (sym c.if-is_left_by_name.ensures))))

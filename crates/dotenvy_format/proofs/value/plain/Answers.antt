@@ -1,8 +1,13 @@
-use Rattle.dotenvy_format.proofs.values.NextPiece.{gives_plain}
+use Rattle.std.specs.Str.{chars}
+use Rattle.std.proofs.lemmas.Str.{encodes-chars}
+use Rattle.dotenvy_format.proofs.values.Readings.{plain_run}
+use Rattle.dotenvy_format.proofs.values.NextPiece.{gives_texts}
 use Rattle.dotenvy_format.proofs.value.plain.Goals as goal
 
 pub returns-clause-next : goal.returns-clause-next
 returns-clause-next c =
     λ dialect.
-    gives_plain dialect c.args.quoting c.args.text.now _ _ c.split_while.ensures.texts.0
-    c.split_while.ensures.texts.1 c.split_while.ensures.span
+    let span = c.split_while.ensures.span in
+    let texts = c.split_while.ensures.texts in
+    gives_texts (chars c.split_while.result.0.now) texts.1 (rw (encodes-chars _ texts.0))
+    (rw span.spelled (plain_run dialect c.args.quoting _ _ span.pass))

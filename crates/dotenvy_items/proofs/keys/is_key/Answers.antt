@@ -1,5 +1,5 @@
-use Rattle.std.proofs.Common.{rules, tests, ◌≡◌, ◌++◌, refl, sym, ap, ◌∙◌}
-use Rattle.std.specs.Prelude.{encode_utf8, ◌&&◌, true}
+use Rattle.std.proofs.Common.{rules, tests, ◌≡◌, ◌++◌, refl, sym, ◌∙◌}
+use Rattle.std.specs.Prelude.{encode_utf8, true}
 use Rattle.std.specs.List.{list_all}
 use Rattle.std.specs.Str.{chars}
 use Rattle.std.specs.Str.Iter.{chars_rest}
@@ -18,8 +18,7 @@ returns-then-begins_key-clause-key c =
     (YieldsList-from_chars _ (IsUtf8-past_char _ _ _ c.utf8.text spelled) refl)
     (λ x b q k. search (rules, tests)) in
     let first : begins_key c.in-Some.first ≡ true = search rules in
-    rw (chars_past_char _ _ _ c.utf8.text spelled)
-    (others ∙ ap (λ b. b && list_all continues_key (chars (chars_rest c.next.new.self))) (sym first))
+    rw (chars_past_char _ _ _ c.utf8.text spelled, first) others
 
 pub returns-then-begins_key-clause-name : goal.returns-then-begins_key-clause-name
 returns-then-begins_key-clause-name c = λ is.

@@ -8,7 +8,5 @@ overflow_sub-result c =
     omega (arith, total)
 
 pub returns : goal.returns
-returns c =
-    λ front is.
-    let total = front_and_left c.args.text.now c.args.left.now front c.utf8.text c.utf8.left is in
-    omega (arith, total)
+returns c = λ front is.
+    let total = front_and_left c.args.text.now c.args.left.now front c.utf8.text c.utf8.left is in omega (arith, total)

@@ -1,7 +1,9 @@
-use Rattle.std.proofs.Common.{sym}
+use Rattle.std.proofs.Common.{length, refl, sym}
 use Rattle.std.specs.Str.{chars}
 use Rattle.dotenvy_items.specs.Meaning.{look_up_of}
-use Rattle.dotenvy_items.proofs.LinePasses.{some_bytes, assigned_value, assigned_fault}
+use Rattle.dotenvy_format.proofs.values.Values.{no_value}
+use Rattle.dotenvy_format.proofs.values.ValuePlaces.{value_place}
+use Rattle.dotenvy_items.proofs.LinePasses.{some_bytes, measured_value}
 use Rattle.dotenvy_items.proofs.parse.scan_assigned.Goals as goal
 
 pub fault_index-requires-clause-nonempty : goal.fault_index-requires-clause-nonempty
@@ -9,11 +11,19 @@ fault_index-requires-clause-nonempty g c = some_bytes c.args.text.now (sym c.if-
 
 pub returns-in-Ok : goal.returns-in-Ok
 returns-in-Ok g c =
-    assigned_value c.args.dialect (look_up_of c.args.names.now) c.args.key c.args.text c.in-Ok.len
-    (sym c.if-is_empty_or_comment.ensures) c.in-Ok.ensures
+    let text = chars c.args.text.now in
+    let m = measured_value c.args.dialect (look_up_of c.args.names.now) text c.in-Ok.len c.in-Ok.ensures in
+    (refl, m.0, (rw (← c.if-is_empty_or_comment.ensures) refl, refl, m.1, m.2))
 
 pub returns-in-Err : goal.returns-in-Err
 returns-in-Err g c =
-    assigned_fault c.args.dialect (look_up_of c.args.names.now) (chars c.args.key.now) c.args.text
-    (chars c.in-Err.left.now) c.fault_index.result (sym c.if-is_empty_or_comment.ensures) c.in-Err.ensures
-    c.fault_index.ensures
+    let stops = c.in-Err.ensures in (
+      refl,
+      record {
+        assigned = rw (← c.if-is_empty_or_comment.ensures) refl;
+        none = no_value c.args.dialect (chars c.args.text.now) stops.reads;
+        place = length stops.front;
+        is_place = rw stops.counts at (value_place c.args.dialect (chars c.args.text.now));
+        index_is = c.fault_index.ensures stops.front stops.spelled;
+      },
+    )

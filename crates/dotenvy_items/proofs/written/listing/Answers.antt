@@ -1,26 +1,20 @@
-use Rattle.std.proofs.Common.{rules, arith}
-use Rattle.std.specs.Prelude.{string_bytes}
-use Rattle.std.specs.String.{string_capacity}
-use Rattle.dotenvy_items.proofs.WrittenBytes.{room_for_first, listed_first}
+use Rattle.std.proofs.Common.{rules, ap, arith, length, length-append, append_assoc}
+use Rattle.dotenvy_items.proofs.WrittenBytes.{first_bytes}
 use Rattle.dotenvy_items.proofs.written.listing.Goals as goal
 
 pub push_written-requires : goal.push_written-requires
 push_written-requires g c =
+    let first = first_bytes {rest = c.next.new.self} {pairs = c.pairs.key-iterator} c.as_str.ensures.value
+    c.as_str-in-pairs.ensures.value (search rules) in
+    let pair = simp length-append at (ap length first) in
+    let whole = simp length-append at (ap length c.pairs.invariant.whole) in
     let len = c.pairs.out.bytes.ok.0 in
-    let there =
-    room_for_first (string_bytes c.in-Some.key.now)
-    (string_bytes c.in-Some.value.now) c.as_str.result.now c.as_str-in-pairs.result.now c.next.new.self
-    c.pairs.key-iterator (string_bytes c.pairs.out) _
-    (string_capacity c.pairs.out) c.as_str.ensures.value c.as_str-in-pairs.ensures.value
-    (search rules) c.pairs.invariant.whole c.pairs.invariant.capacity in
-    omega (arith, len, there)
+    omega (arith, pair, whole, len, c.pairs.invariant.capacity)
 
 pub pairs-preserved : goal.pairs-preserved
-pairs-preserved g c = record {
-  whole = listed_first (string_bytes c.in-Some.key.now)
-      (string_bytes c.in-Some.value.now) c.as_str.result.now c.as_str-in-pairs.result.now c.next.new.self
-      c.pairs.key-iterator (string_bytes c.pairs.out)
-      (string_bytes c.push_written.new.out) _ c.as_str.ensures.value c.as_str-in-pairs.ensures.value
-      (search rules) c.push_written.ensures.bytes c.pairs.invariant.whole;
-  capacity = let i = c.pairs.invariant.capacity in let k = c.push_written.ensures.capacity in omega (arith, i, k);
-}
+pairs-preserved g c =
+    let first = first_bytes {rest = c.next.new.self} {pairs = c.pairs.key-iterator} c.as_str.ensures.value
+    c.as_str-in-pairs.ensures.value (search rules) in record {
+      whole = rw (c.push_written.ensures.bytes, append_assoc, ← first) c.pairs.invariant.whole;
+      capacity = let i = c.pairs.invariant.capacity in let k = c.push_written.ensures.capacity in omega (arith, i, k);
+    }

@@ -1,24 +1,13 @@
-use Rattle.std.proofs.Common.{rules, arith}
-use Rattle.std.specs.Prelude.{string_bytes}
-use Rattle.dotenvy_items.proofs.WrittenBytes.{counted_first, counted_all}
+use Rattle.std.proofs.Common.{rules, ap, arith, length, length-append}
+use Rattle.dotenvy_items.proofs.WrittenBytes.{first_bytes}
 use Rattle.dotenvy_items.proofs.written.listing_len.Goals as goal
 
-pub pairs-init : goal.pairs-init
-pairs-init g c = record { whole = search rules; fits = omega arith }
-
 pub pairs-preserved : goal.pairs-preserved
-pairs-preserved g c = record {
-  whole = counted_first (string_bytes c.in-Some.key.now)
-      (string_bytes c.in-Some.value.now) c.as_str.result.now c.as_str-in-pairs.result.now c.next.new.self
-      c.pairs.key-iterator c.pairs.len c.written_len.result c.saturating_add-len.result _ c.as_str.ensures.value
-      c.as_str-in-pairs.ensures.value
-      (search rules) c.written_len.ensures c.saturating_add-len.ensures c.pairs.invariant.whole;
-  fits = omega (arith, c.saturating_add-len.ensures);
-}
-
-pub returns-clause-len : goal.returns-clause-len
-returns-clause-len g c =
-    counted_all c.pairs.key-iterator c.pairs.len _ (search rules) c.pairs.invariant.fits c.pairs.invariant.whole
-
-pub returns-clause-texts : goal.returns-clause-texts
-returns-clause-texts g c = c.iter-key-items.ensures.texts
+pairs-preserved g c =
+    let first = first_bytes {rest = c.next.new.self} {pairs = c.pairs.key-iterator} c.as_str.ensures.value
+    c.as_str-in-pairs.ensures.value (search rules) in
+    let pair = simp length-append at (ap length first) in
+    let whole = c.pairs.invariant.whole in record {
+      whole = omega (arith, pair, whole, c.written_len.ensures, c.saturating_add-len.ensures);
+      fits = omega (arith, c.saturating_add-len.ensures);
+    }

@@ -1,15 +1,12 @@
-use Rattle.std.proofs.Common.{arith}
-use Rattle.dotenvy_items.proofs.WrittenBytes.{pair_len}
+use Rattle.std.proofs.Common.{ap, arith, length, length-append}
+use Rattle.std.specs.Str.{chars}
+use Rattle.std.proofs.lemmas.Str.{encodes-chars}
+use Rattle.dotenvy_items.proofs.WrittenBytes.{pair_bytes, left_len}
 use Rattle.dotenvy_items.proofs.written.written_len.Goals as goal
 
 pub returns : goal.returns
 returns c =
-    let whole = pair_len c.args.key.now c.args.text.now c.utf8.key c.utf8.text in
-    omega (
-      arith,
-      c.backslash_count.ensures,
-      whole,
-      c.saturating_add.ensures,
-      c.saturating_add-2.ensures,
-      c.saturating_add-3.ensures,
-    )
+    let pair = simp length-append at (ap length (pair_bytes c.args.key.now c.args.text.now c.utf8.key)) in
+    let left = left_len (chars c.args.text.now) in
+    let text = ap length (encodes-chars c.args.text.now c.utf8.text) in
+    omega (arith, pair, left, text, c.backslash_count.ensures)

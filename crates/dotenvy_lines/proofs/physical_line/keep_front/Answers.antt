@@ -2,7 +2,6 @@ use Rattle.std.proofs.Common.{◌≡◌, ◌∙◌, ap, ◌++◌, string_bytes}
 use Rattle.std.specs.Prelude.{◌==◌}
 use Rattle.std.specs.Str.{chars}
 use Rattle.std.proofs.lemmas.Str.{IsUtf8-string_bytes, chars-append}
-use Rattle.dotenvy_format.specs.inside.Walk.{kept_before}
 use Rattle.dotenvy_format.proofs.lines.LineTexts.{kept_at_line_feed, kept_elsewhere}
 use Rattle.dotenvy_lines.proofs.physical_line.keep_front.Goals as goal
 use Rattle.dotenvy_lines.proofs.physical_line.keep_front.Goals.{then-end-eq10, else-end-eq10}
@@ -15,11 +14,7 @@ returns-clause-kept g c =
     ∙ chars-append (string_bytes c.args.text.now) c.args.front.now (IsUtf8-string_bytes c.args.text.now) in
     elim c.if-end-eq10.branch [
       | then-end-eq10 w ↦
-          ap (λ t. chars (string_bytes t)) w.text-is
-          ∙ w.drop_carriage_return.ensures
-          ∙ kept_at_line_feed c.args.end (chars (string_bytes c.push_str.new.self))
-          (ap (λ d. d == 10) w.if-end-eq10.true)
-          ∙ ap (kept_before c.args.end) pushed
-      | else-end-eq10 w ↦
-          ap (λ t. chars (string_bytes t)) w.text-is ∙ pushed ∙ kept_elsewhere c.args.end all w.if-end-eq10.false
+          rw (w.text-is, w.drop_carriage_return.ensures, pushed)
+          (kept_at_line_feed c.args.end all (ap (λ d. d == 10) w.if-end-eq10.true))
+      | else-end-eq10 w ↦ rw (w.text-is, pushed) (kept_elsewhere c.args.end all w.if-end-eq10.false)
     ]

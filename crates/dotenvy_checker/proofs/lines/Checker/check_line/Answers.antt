@@ -1,39 +1,30 @@
-use Rattle.std.proofs.Common.{subst, refl, Ok}
+use Rattle.std.proofs.Common.{refl}
 use Rattle.std.specs.Str.{chars}
 use Rattle.dotenvy_format.specs.Outcome.{Pair, Fault}
 use Rattle.dotenvy_items.specs.Meaning.{names_of}
 use Rattle.dotenvy_items.specs.Remembered.{remembered_of}
-use Rattle.dotenvy_items.specs.inside.FirstPass.{IsDeclared, Scans}
 use Rattle.dotenvy_items.proofs.LinePasses.{says_declared}
 use Rattle.dotenvy_checker.proofs.Texts.{after_ok}
 use Rattle.dotenvy_checker.proofs.lines.Checker.check_line.Goals as goal
 
 pub check_declaration-requires-clause-key : goal.check_declaration-requires-clause-key
 check_declaration-requires-clause-key g c =
-    let look_up = names_of c.args.self.now.env.now.names (remembered_of c.args.self.now.remembered.entries) in
-    let declared : IsDeclared c.args.self.now.dialect look_up (chars c.args.text.now) c.in-Ok-Some.declaration =
-    subst (λ o. Scans c.args.self.now.dialect look_up (chars c.args.text.now) (Ok o)) c.in-Ok-Some.field-0-is
-    c.in-Ok-Some.ensures in
-    declared.statement.is_key
+    let declared = rw c.in-Ok-Some.field-0-is at c.in-Ok-Some.ensures in declared.statement.is_key
 
 pub check_declaration-requires-clause-assigned : goal.check_declaration-requires-clause-assigned
 check_declaration-requires-clause-assigned g c =
     let look_up = names_of c.args.self.now.env.now.names (remembered_of c.args.self.now.remembered.entries) in
-    let declared : IsDeclared c.args.self.now.dialect look_up (chars c.args.text.now) c.in-Ok-Some.declaration =
-    subst (λ o. Scans c.args.self.now.dialect look_up (chars c.args.text.now) (Ok o)) c.in-Ok-Some.field-0-is
-    c.in-Ok-Some.ensures in
+    let declared = rw c.in-Ok-Some.field-0-is at c.in-Ok-Some.ensures in
     (look_up, declared.rest, declared.pieces, declared.is_assigned)
 
 pub returns-in-Ok-Some-clause-checks : goal.returns-in-Ok-Some-clause-checks
 returns-in-Ok-Some-clause-checks g c =
     let look_up = names_of c.args.self.now.env.now.names (remembered_of c.args.self.now.remembered.entries) in
-    let declared : IsDeclared c.args.self.now.dialect look_up (chars c.args.text.now) c.in-Ok-Some.declaration =
-    subst (λ o. Scans c.args.self.now.dialect look_up (chars c.args.text.now) (Ok o)) c.in-Ok-Some.field-0-is
-    c.in-Ok-Some.ensures in
+    let declared = rw c.in-Ok-Some.field-0-is at c.in-Ok-Some.ensures in
     let key = chars c.in-Ok-Some.declaration.key.now in
     after_ok c.check_declaration.result (λ checks. (
       Pair key declared.pieces,
-      says_declared c.args.self.now.dialect look_up (chars c.args.text.now) key c.in-Ok-Some.declaration declared refl,
+      says_declared _ _ _ key c.in-Ok-Some.declaration declared refl,
       checks,
     )) (c.check_declaration.ensures.checks look_up declared.rest declared.pieces declared.is_assigned)
 

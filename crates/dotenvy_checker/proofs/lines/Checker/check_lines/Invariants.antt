@@ -8,7 +8,7 @@ use Rattle.dotenvy_checker.proofs.lines.Checker.check_lines.Given as goal
 abbrev pub invariant-lines : goal.invariant-lines
 invariant-lines g l = record {
   shut : l.fn.lines.lines.stage ≢ Open → (l.lines.lines ≡ l.fn.lines.lines) × (l.self ≡ l.fn.self);
-  came : CheckedSoFar l.fn.self.dialect l.fn.lines.lines l.lines.lines l.fn.self l.self;
+  came : CheckedSoFar l.fn.lines.lines l.lines.lines l.fn.self l.self;
 }
 
 abbrev pub decreases-lines : goal.decreases-lines

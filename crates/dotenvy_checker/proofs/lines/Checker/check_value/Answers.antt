@@ -1,10 +1,8 @@
-use Rattle.std.proofs.Common.{◌++◌, [], subst}
+use Rattle.std.proofs.Common.{◌++◌, []}
 use Rattle.std.specs.Str.{chars}
-use Rattle.dotenvy_format.specs.Value.{unquoted}
-use Rattle.dotenvy_format.specs.inside.Slices.{quoting_of}
+use Rattle.dotenvy_format.specs.declared.text.Quoting.TheVariants.{Unquoted}
 use Rattle.dotenvy_format.specs.inside.ReadValue.{base}
-use Rattle.dotenvy_format.specs.inside.NextPiece.{IsReadTo, NextPieceIs}
-use Rattle.dotenvy_format.proofs.values.NextPiece.{none_read, read_further}
+use Rattle.dotenvy_format.proofs.values.Readings.{none_read, read_then}
 use Rattle.dotenvy_checker.proofs.Found.{finds_none, finds_pieces, finds_at_end, same_dialect}
 use Rattle.dotenvy_checker.proofs.lines.Checker.check_value.Goals as goal
 
@@ -12,7 +10,7 @@ pub pieces-init : goal.pieces-init
 pieces-init g c = record {
   utf8 = c.utf8.value;
   pieces = [];
-  read = none_read c.args.self.now.dialect (base unquoted) (chars c.args.value.now);
+  read = none_read c.args.self.now.dialect (base Unquoted) (chars c.args.value.now);
   finds = finds_none c.args.self.now;
 }
 
@@ -25,13 +23,7 @@ pieces-preserved g c =
     let next = c.in-Piece.ensures.next in record {
       utf8 = next.follows;
       pieces = i.pieces ++ next.pieces;
-      read =
-          read_further c.args.self.now.dialect (base unquoted) (base (quoting_of c.pieces.quoting))
-          (base (quoting_of c.in-Piece.given.quoting)) (chars c.args.value.now) (chars c.pieces.rest.now)
-          (chars c.in-Piece.given.rest.now) i.pieces next.pieces i.read
-          (subst (λ d. IsReadTo d (base (quoting_of c.pieces.quoting)) (chars c.pieces.rest.now) next.pieces
-          (base (quoting_of c.in-Piece.given.quoting)) (chars c.in-Piece.given.rest.now)) (same_dialect i.finds)
-          next.is_read);
+      read = read_then i.read (rw (same_dialect i.finds) at next.is_read);
       finds = finds_pieces c.args.line i.pieces next.pieces c.in-Piece.given.piece i.finds next.names
           c.in_ok-check_piece.ensures.finds;
     }
@@ -40,8 +32,7 @@ pub returns : goal.returns
 returns g c =
     let i = c.pieces.invariant in record {
       finds = λ pieces is.
-          finds_at_end c.args.line i.read
-          (subst (λ d. NextPieceIs d (base (quoting_of c.pieces.quoting)) (chars c.pieces.rest.now) c.next_piece.result)
-          (same_dialect i.finds) c.next_piece.ensures.next) c.in_default.not-Piece is i.finds;
+          finds_at_end c.args.line i.read (rw (same_dialect i.finds) at c.next_piece.ensures.next)
+          c.in_default.not-Piece is i.finds;
       memory = tt;
     }

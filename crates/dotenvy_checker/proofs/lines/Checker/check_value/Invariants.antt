@@ -3,8 +3,8 @@ use denote.Text.{Utf8}
 use denote.Shadow.{shadow}
 use Rattle.std.specs.List.{flat_map}
 use Rattle.std.specs.Str.{chars}
-use Rattle.dotenvy_format.specs.Value.{unquoted, Piece}
-use Rattle.dotenvy_format.specs.inside.Slices.{quoting_of}
+use Rattle.dotenvy_format.specs.declared.text.Quoting.TheVariants.{Unquoted}
+use Rattle.dotenvy_format.specs.Value.{Piece}
 use Rattle.dotenvy_format.specs.inside.ReadValue.{base}
 use Rattle.dotenvy_format.specs.inside.NextPiece.{IsReadTo}
 use Rattle.dotenvy_checker.specs.Findings.{has_value, piece_findings}
@@ -17,7 +17,7 @@ abbrev pub invariant-pieces : goal.invariant-pieces
 invariant-pieces g l = record {
   utf8 : shadow (Utf8 l.rest);
   pieces : List Piece;
-  read : IsReadTo l.fn.self.dialect (base unquoted) (chars l.fn.value) pieces (base (quoting_of l.quoting))
+  read : IsReadTo l.fn.self.dialect (base Unquoted) (chars l.fn.value) pieces (base l.quoting)
       (chars l.rest);
   finds : Finds (at_line l.fn.line (flat_map (piece_findings
       (has_value (env_of l.fn.self) (declared_of l.fn.self))) pieces)) l.fn.self l.self;

@@ -18,7 +18,7 @@ invariant-loading g l =
     l.self-inside.dialect l.self-inside.item_lines in
     record {
       shut : l.fn.self.lines.stage ≢ Open → (now.lines ≡ l.fn.self.lines) × (l.env ≡ l.fn.env);
-      came : CameTo (mode_of l.mode) l.fn.self l.fn.env.names l.env.names now;
+      came : CameTo (mode_of l.mode) l.fn.self l.fn.env.names l.env.names now.lines;
       keeps : mode_of l.mode ≡ Keep → KeepsNames l.fn.env.names l.env.names;
       changes : ChangesOnlyKeys l.fn.env l.env;
       same : now ≡ record l.fn.self { lines = now.lines };

@@ -4,9 +4,8 @@ use denote.Shadow.{shadow}
 use Rattle.std.specs.Prelude.{string_bytes}
 use Rattle.std.specs.String.{string_capacity}
 use Rattle.std.specs.Str.{chars, encode_utf8_all}
-use Rattle.dotenvy_format.specs.Value.{unquoted}
+use Rattle.dotenvy_format.specs.declared.text.Quoting.TheVariants.{Unquoted}
 use Rattle.dotenvy_format.specs.Items.{meaning}
-use Rattle.dotenvy_format.specs.inside.Slices.{quoting_of}
 use Rattle.dotenvy_format.specs.inside.ReadValue.{base}
 use Rattle.dotenvy_format.specs.inside.NextPiece.{IsReadTo}
 use Rattle.dotenvy_items.specs.Meaning.{look_up_of}
@@ -16,8 +15,8 @@ use Rattle.dotenvy_items.proofs.meaning.Names.append_meaning.Given as goal
 abbrev pub invariant-loop-given : goal.invariant-loop-given
 invariant-loop-given g l =
     shadow (Utf8 l.rest)
-    × ((pieces : _) × IsReadTo l.dialect (base unquoted) (chars l.value) pieces (base
-    (quoting_of l.quoting)) (chars l.rest) × (string_bytes l.text
+    × ((pieces : _) × IsReadTo l.dialect (base Unquoted) (chars l.value) pieces (base
+    l.quoting) (chars l.rest) × (string_bytes l.text
     ≡ string_bytes l.initial.text
     ++ encode_utf8_all (meaning (look_up_of l.self) pieces)) × (string_capacity l.initial.text
     ≤ string_capacity l.text))

@@ -3,9 +3,8 @@ use denote.Text.{Utf8}
 use denote.Shadow.{shadow}
 use Rattle.std.specs.Str.{chars}
 use Rattle.dotenvy_format.specs.Characters.{byte_len}
-use Rattle.dotenvy_format.specs.Value.{unquoted}
+use Rattle.dotenvy_format.specs.declared.text.Quoting.TheVariants.{Unquoted}
 use Rattle.dotenvy_format.specs.Items.{meaning}
-use Rattle.dotenvy_format.specs.inside.Slices.{quoting_of}
 use Rattle.dotenvy_format.specs.inside.ReadValue.{base}
 use Rattle.dotenvy_format.specs.inside.NextPiece.{IsReadTo}
 use Rattle.dotenvy_items.specs.Meaning.{look_up_of}
@@ -16,8 +15,8 @@ use Rattle.dotenvy_items.proofs.meaning.Names.measure.Given as goal
 abbrev pub invariant-loop-given : goal.invariant-loop-given
 invariant-loop-given g l =
     shadow (Utf8 l.rest)
-    × ((pieces : _) × IsReadTo l.dialect (base unquoted) (chars l.value) pieces (base
-    (quoting_of l.quoting)) (chars l.rest) × (l.len
+    × ((pieces : _) × IsReadTo l.dialect (base Unquoted) (chars l.value) pieces (base
+    l.quoting) (chars l.rest) × (l.len
     ≡ saturated (byte_len (meaning (look_up_of l.self) pieces))))
 
 abbrev pub decreases-loop-given : goal.decreases-loop-given

@@ -1,13 +1,23 @@
-use Rattle.dotenvy_lines.proofs.Inputs.{piece_whole, piece_open}
+use Rattle.std.proofs.Common.{arith}
+use Rattle.std.proofs.lemmas.List.{take-take, length-take-le}
 use Rattle.dotenvy_lines.proofs.input.Input.line_piece.Goals as goal
 
 pub returns-in-Some : goal.returns-in-Some
 returns-in-Some g c =
     let unread = c.unread-unread in
-    piece_whole c.args.self.now unread.result.now c.in-Some.len unread.ensures.len unread.ensures.told
-    c.in-Some.ensures.0 c.in-Some.ensures.1
+    let within = c.in-Some.ensures.0 in
+    let long = length-take-le c.in-Some.len unread.result.now within in record {
+      within = omega (arith, unread.ensures.len);
+      is_line = c.in-Some.ensures.1;
+      told = λ a left.
+          rw (long, unread.ensures.told a left)
+          (take-take c.in-Some.len c.args.self.now.unread a.bytes (omega (arith, unread.ensures.len)));
+    }
 
 pub returns-in-None : goal.returns-in-None
 returns-in-None g c =
-    piece_open c.args.self.now c.unread-unread.result.now c.unread-unread.ensures.len c.unread-unread.ensures.told
-    c.in-None.ensures
+    let unread = c.unread-unread.ensures in record {
+      within = omega (arith, unread.len);
+      is_line = (c.in-None.ensures, unread.len);
+      told = λ a left. rw unread.len (unread.told a left);
+    }

@@ -1,5 +1,0 @@
-use Rattle.dotenvy_format.proofs.WorkedFiles as worked
-use Rattle.dotenvy_format.proofs.laws.worked_dialects.Goals as goal
-
-pub returns : goal.returns
-returns c = worked.dialects

@@ -1,5 +1,0 @@
-use Rattle.std.proofs.Common.{rules}
-use Rattle.dotenvy_items.proofs.iter.Iter.last_line.Goals as goal
-
-pub returns : goal.returns
-returns g c = search rules
