@@ -1,6 +1,6 @@
 -- The names that a command sets, one after another.
-use Rattle.std.proofs.Common.{◌≡◌, ◌≢◌, ℕ, Bool, true, false, ◌&&◌, cond, T, List, [], ◌∷◌, Option}
-use Rattle.std.proofs.Common.{Some, None, refl, sym, ◌∙◌, ap}
+use Rattle.std.proofs.Common.{◌≡◌, ℕ, Bool, true, false, ◌&&◌, cond, T, List, [], ◌∷◌, Option}
+use Rattle.std.proofs.Common.{Some, None, refl, sym, ◌∙◌}
 use Rattle.std.specs.Prelude.{option_map}
 use Rattle.std.specs.Cmp.Lexicographic.{bytes_decides, slice_cmp}
 use Rattle.std.specs.FinMap as fin
@@ -11,6 +11,7 @@ use Rattle.std.specs.Process.{command_var, SameOtherVars}
 use Rattle.std.specs.declared.cmp.Ordering.{Ordering}
 use Rattle.std.specs.declared.cmp.Ordering.TheVariants.{Less, Equal, Greater}
 use Rattle.std.specs.declared.process.command.Command.{Command}
+use Rattle.std.proofs.lemmas.Bool.{both_ways, cond_both}
 use Rattle.std.proofs.lemmas.Map.Text.{is_eq-slice_cmp}
 use Rattle.dotenvy.specs.Environment.{Texts}
 
@@ -35,14 +36,13 @@ pub record SetsWithLeft {A : Type 0} (names : Texts) (left : List (List ℕ × L
 none_later : (name : List ℕ) (es : List (List ℕ × List ℕ)) → T (below_all bytes_cmp name es) →
     find bytes_cmp name es ≡ None
 none_later name [] below = refl
-none_later name (e ∷ es) below = at (bytes_cmp name e.0) (none_later name es) below
-  where
-    at : (o : Ordering) → (T (below_all bytes_cmp name es) → find bytes_cmp name es ≡ None) →
-        T (is_lt o && below_all bytes_cmp name es) →
-        cond (is_eq o) (Some e.1) (find bytes_cmp name es) ≡ None
-    at Less others below = others below
-    at Equal others below = absurd below
-    at Greater others below = absurd below
+none_later name (e ∷ es) below =
+    elim (bytes_cmp name e.0) as (λ o. T (is_lt o && below_all bytes_cmp name es) →
+    cond (is_eq o) (Some e.1) (find bytes_cmp name es) ≡ None) [
+      | Less ↦ none_later name es
+      | Equal ↦ λ never. absurd never
+      | Greater ↦ λ never. absurd never
+    ] below
 
 -- before the first name is set
 pub none_set : {A : Type 0} (names : Texts) (command : Command A) →
@@ -50,44 +50,29 @@ pub none_set : {A : Type 0} (names : Texts) (command : Command A) →
     SetsWithLeft names (fin.entries names) command
 none_set names command none = record {
   sorted = fin.entries_sorted names;
-  says = λ name. ap (λ said. option_or (option_map Some (find bytes_cmp name (fin.entries names))) said) (none name)
-      ∙ or_none (option_map Some (find bytes_cmp name (fin.entries names)))
-      ∙ ap (option_map Some) (sym (fin.get-entries names name));
+  says = λ name. rw (none name, fin.get-entries names name) (or_none _);
 }
   where
     or_none : {X : Type 0} (value : Option X) → option_or value None ≡ value
     or_none None = refl
     or_none (Some x) = refl
 
--- names that tie are one name
-ties : (name other : List ℕ) → is_eq (bytes_cmp name other) ≡ true → name ≡ other
-ties name other is = (bytes_decides name other).0 (sym (is_eq-slice_cmp name other) ∙ is)
-
--- names that don't tie are two
-differs : (name other : List ℕ) → is_eq (bytes_cmp name other) ≡ false → name ≢ other
-differs name other is same = let both : true ≡ false = sym ((bytes_decides name other).1 same)
-    ∙ sym (is_eq-slice_cmp name other) ∙ is in cc
-
 -- one name more is set
 pub one_set : {A : Type 0} (names : Texts) (name value : List ℕ) (left : List (List ℕ × List ℕ)) (old new : Command A) →
     SetsWithLeft names ((name, value) ∷ left) old → command_var new name ≡ Some (Some value) →
     SameOtherVars old new name → SetsWithLeft names left new
-one_set names name value left old new before set others = record {
-  sorted = (each_holds (below_all bytes_cmp name left) (is_sorted bytes_cmp left) before.sorted).1;
-  says = λ other. at other (is_eq (bytes_cmp other name)) refl (before.says other);
-}
-  where
-    at : (other : List ℕ) (tie : Bool) → is_eq (bytes_cmp other name) ≡ tie →
-        option_or (option_map Some (cond tie (Some value) (find bytes_cmp other left)))
-        (command_var old other) ≡ option_map Some (fin.get names other) →
-        option_or (option_map Some (find bytes_cmp other left)) (command_var new other) ≡ option_map Some
-        (fin.get names other)
-    at other true is says =
-        let same = ties other name is in
-        let later = none_later name left
-        (each_holds (below_all bytes_cmp name left) (is_sorted bytes_cmp left) before.sorted).0 in
-        ap (λ n. option_or (option_map Some (find bytes_cmp n left)) (command_var new n)) same
-        ∙ ap (λ found. option_or (option_map Some found) (command_var new name)) later ∙ set ∙ says
-    at other false is says =
-        ap (λ said. option_or (option_map Some (find bytes_cmp other left)) said)
-        (others other (differs other name is)) ∙ says
+one_set names name value left old new before set others =
+    let holds = each_holds (below_all bytes_cmp name left) (is_sorted bytes_cmp left) before.sorted in record {
+      sorted = holds.1;
+      says = λ other.
+          cond_both (is_eq (bytes_cmp other name)) (Some value) (find bytes_cmp other left)
+          (λ found. option_or (option_map Some found) (command_var old other) ≡ option_map Some (fin.get names other) →
+          option_or (option_map Some (find bytes_cmp other left)) (command_var new other)
+          ≡ option_map Some (fin.get names other))
+          (λ is says. let same : other ≡ name = (bytes_decides other name).0 (sym (is_eq-slice_cmp other name) ∙ is) in
+          rw (same, none_later name left holds.0, set) (rw same at says))
+          (λ is says.
+          let differs = λ (same : other ≡ name).
+          both_ways _ is (is_eq-slice_cmp other name ∙ (bytes_decides other name).1 same) in
+          rw (others other differs) says) (before.says other);
+    }

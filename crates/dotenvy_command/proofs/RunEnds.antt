@@ -1,5 +1,5 @@
 -- What follows from the answer to words for a run.
-use Rattle.std.proofs.Common.{◌≡◌, Bool, true, false, not, ℕ, List, Result, Ok, Err, sym, ◌∙◌, ap, subst}
+use Rattle.std.proofs.Common.{◌≡◌, not, ℕ, List, Result, Ok, Err, arith, refl}
 use Rattle.dotenvy_command.specs.declared.command_line.CommandLine.{CommandLine as Line}
 use Rattle.dotenvy_command.specs.declared.failure.Usage.{Usage as Refusal}
 use Rattle.dotenvy_command.specs.declared.failure.Usage.TheVariants as refusal
@@ -13,7 +13,7 @@ pub says_usage : {A : Type 0} (words : List (List ℕ)) (answer : Result Command
     (result : Result (Line A) (Refusal A)) → AnswersWords words result → HasUsage words answer →
     SaysAnswer answer result
 says_usage words answer result (found, has, says) is =
-    subst (λ a. SaysAnswer a result) (sym (one_usage_of_words words found answer has is)) says
+    rw (one_usage_of_words words found answer has is) says
 
 -- words that were read have no refusal
 pub not_refused : {A : Type 0} (words : List (List ℕ)) (usage : Usage) (line : Line A) →
@@ -31,21 +31,13 @@ asks_for words asked line answers is = let says = says_usage words (Ok asked) (O
 -- words that ask for a line are refused only because an allocation failed
 pub only_memory : {A : Type 0} (words : List (List ℕ)) (asked : CommandLine) (usage : Refusal A) →
     AnswersWords {A = A} words (Err usage) → HasUsage words (Ok asked) → IsMemoryFailure usage
-only_memory {A = A} words asked usage answers is = at usage (says_usage words (Ok asked) (Err usage) answers is)
-  where
-    at : (usage : Refusal A) → SaysAnswer (Ok asked) (Err usage) → IsMemoryFailure usage
-    at refusal.MissingCommand says = says
-    at refusal.MissingFile says = says
-    at (refusal.UnknownOption text) says = says
-    at (refusal.Memory error) says = tt
+only_memory words asked (refusal.Memory error) answers is = tt
+only_memory words asked usage answers is = says_usage words (Ok asked) (Err usage) answers is
 
 -- words do not ask for a list and for none
 pub lists_both : {A : Type 0} (words : List (List ℕ)) (asked : CommandLine) (line : Line A) →
     AnswersWords {A = A} words (Ok line) → HasUsage words (Ok asked) →
     line.list ≡ not asked.list → ⊥
 lists_both words asked line answers is differs =
-    at asked.list (ap (λ l. l.list) (asks_for words asked line answers is) ∙ differs)
-  where
-    at : (b : Bool) → b ≡ not b → ⊥
-    at true e = cc
-    at false e = cc
+    let same : line.list ≡ asked.list = rw (asks_for words asked line answers is) refl in
+    let both : asked.list ≡ not asked.list = cc in grind (arith, both)

@@ -1,32 +1,30 @@
 -- What a word is by itself, from the tests of its front.
-use Rattle.std.proofs.Common.{◌≡◌, ◌≢◌, ℕ, Bool, true, false, List, [], ◌∷◌, ◌++◌, Option, Some}
-use Rattle.std.proofs.Common.{None, refl, sym, ◌∙◌, ap, arith}
-use Rattle.std.specs.Prelude.{◌==◌, codes, MatchOption, unwrap_or, if◌then◌else◌}
+use Rattle.std.proofs.Common.{◌≡◌, ◌≢◌, ℕ, List, [], ◌∷◌, ◌++◌, Option, Some}
+use Rattle.std.proofs.Common.{None, refl, sym, ap}
+use Rattle.std.specs.Prelude.{◌==◌, codes, MatchOption, unwrap_or}
 use Rattle.std.specs.Str.Pattern.{FindsTextPrefix, StripsPrefix}
+use Rattle.std.proofs.lemmas.Bool.{cond_both, eqb-true}
 use denote.Ref.{Bor}
 use Rattle.dotenvy.specs.Characters.{equals_sign}
 use Rattle.dotenvy_command.specs.declared.command_line.Group.TheVariants as found
-use Rattle.dotenvy_command.specs.Words.{IsGroup, joined_file, assigned_file, without_equals}
+use Rattle.dotenvy_command.specs.Words.{joined_file, assigned_file, without_equals}
 use Rattle.dotenvy_command.specs.inside.FirstGroup.{IsAlone}
 
 -- a text whose front was stripped is that front, and then what is left
 pub stripped : (front text rest : List ℕ) → StripsPrefix (FindsTextPrefix front) text rest → text ≡ front ++ rest
-stripped front text rest (n, (is_length, joins, boundary), is_rest, fits) = joins ∙ ap (λ t. front ++ t) (sym is_rest)
+stripped front text rest (n, (is_length, joins, boundary), is_rest, fits) = rw is_rest joins
 
 -- a file after `--file=`
 pub assigned : (text : List ℕ) (name : Bor (List ℕ)) → text ≡ codes "--file=" ++ name.now →
     IsAlone text (found.File name)
-assigned text name is = (assigned_file name.now, tt, ap (λ t. t ∷ []) (sym is), (refl, refl, refl))
+assigned text name is = (assigned_file name.now, tt, rw is refl, (refl, refl, refl))
 
 -- a file after `-f`
 pub joined : (text tail : List ℕ) (name : Bor (List ℕ)) → text ≡ codes "-f" ++ tail →
     without_equals tail ≡ name.now → text ≢ codes "-f" →
     IsAlone text (found.File name)
 joined text tail name is file more =
-    (joined_file tail, some tail is, ap (λ t. t ∷ []) (sym is), (ap (λ t. t ∷ []) file, refl, refl))
-  where
-    some : (tail : List ℕ) → text ≡ codes "-f" ++ tail → IsGroup (joined_file tail)
-    some tail is none = more (is ∙ ap (λ t. codes "-f" ++ t) none)
+    (joined_file tail, (λ none. more (rw none at is)), rw is refl, (rw file refl, refl, refl))
 
 -- what is after a first `=`, or else the whole text
 pub behind_equals : (text : Bor (List ℕ)) (rest : Option (Bor (List ℕ))) →
@@ -34,12 +32,8 @@ pub behind_equals : (text : Bor (List ℕ)) (rest : Option (Bor (List ℕ))) →
     (unwrap_or rest text).now ≡ without_equals text.now
 behind_equals text None none = kept text.now none
   where
-    at : (b : Bool) (c : ℕ) (cs : List ℕ) → (c == equals_sign) ≡ b → c ∷ cs ≢ equals_sign ∷ cs →
-        c ∷ cs ≡ (if b then cs else c ∷ cs)
-    at true c cs is none = absurd (none (ap (λ d. d ∷ cs) (grind (arith, is))))
-    at false c cs is none = refl
-
     kept : (t : List ℕ) → ((later : List ℕ) → t ≢ equals_sign ∷ later) → t ≡ without_equals t
     kept [] none = refl
-    kept (c ∷ cs) none = at (c == equals_sign) c cs refl (none cs)
+    kept (c ∷ cs) none = cond_both (c == equals_sign) cs (c ∷ cs) (λ r. c ∷ cs ≡ r)
+        (λ is. absurd (none cs (rw (eqb-true c equals_sign is) refl))) (λ is. refl)
 behind_equals text (Some x) is = sym (ap without_equals is)

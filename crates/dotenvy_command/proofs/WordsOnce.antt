@@ -1,10 +1,11 @@
 -- Words have one reading as groups and an ending.
-use Rattle.std.proofs.Common.{◌≡◌, ℕ, Bool, true, false, ◌&&◌, ◌||◌, not, List, [], ◌∷◌, ◌++◌, refl}
-use Rattle.std.proofs.Common.{sym, ◌∙◌, ap, append_assoc, subst, drop, take, length, Result}
-use Rattle.std.specs.Prelude.{IsTrue, codes, nat_eq, bytes_eq}
+use Rattle.std.proofs.Common.{◌≡◌, ℕ, true, false, ◌&&◌, ◌||◌, not, List, [], ◌∷◌, ◌++◌, refl}
+use Rattle.std.proofs.Common.{sym, ◌∙◌, ap, append_assoc, drop, take, length, Result}
+use Rattle.std.specs.Prelude.{IsTrue, codes, nat_eq, bytes_eq, if◌then◌else◌}
 use Rattle.std.specs.List.{flat_map, starts_with}
 use Rattle.std.specs.Cmp.Lexicographic.{same_text}
 use Rattle.std.proofs.lemmas.List.{take-append-drop}
+use Rattle.std.proofs.lemmas.Bool.{and_parts, or_parts, not-true, not-false, both_ways, false_from_ne_true, cond_both}
 use Rattle.dotenvy_command.specs.Words.{Form, short, long, Group, file, joined_file, assigned_file}
 use Rattle.dotenvy_command.specs.Words.{list, next, WordsEnd, nothing, missing_file, unknown}
 use Rattle.dotenvy_command.specs.Words.{command, file_word, group_words, ending_words, is_option}
@@ -21,34 +22,13 @@ pub data Kind : Type 0 where
 -- the kind of a word, by its first characters
 abbrev pub kind : List ℕ → Kind
 kind w =
-    elim (is_option w) [
-      | false ↦ command_word
-      | true ↦
-          elim (bytes_eq w (codes "-f")) [
-            | true ↦ takes_file short
-            | false ↦
-                elim (starts_with nat_eq w (codes "-f")) [
-                  | true ↦ single (joined_file (drop 2 w))
-                  | false ↦
-                      elim (bytes_eq w (codes "--file")) [
-                        | true ↦ takes_file long
-                        | false ↦
-                            elim (starts_with nat_eq w (codes "--file=")) [
-                              | true ↦ single (assigned_file (drop 7 w))
-                              | false ↦
-                                  elim (bytes_eq w (codes "--list")) [
-                                    | true ↦ single list
-                                    | false ↦
-                                        elim (bytes_eq w (codes "--next")) [
-                                          | true ↦ single next
-                                          | false ↦ unknown_option
-                                        ]
-                                  ]
-                            ]
-                      ]
-                ]
-          ]
-    ]
+    if not (is_option w) then command_word else
+    if bytes_eq w (codes "-f") then takes_file short else
+    if starts_with nat_eq w (codes "-f") then single (joined_file (drop 2 w)) else
+    if bytes_eq w (codes "--file") then takes_file long else
+    if starts_with nat_eq w (codes "--file=") then single (assigned_file (drop 7 w)) else
+    if bytes_eq w (codes "--list") then single list else
+    if bytes_eq w (codes "--next") then single next else unknown_option
 
 -- the groups that were read, and the ending
 abbrev pub Reading : Type 0
@@ -81,73 +61,39 @@ read (w ∷ x ∷ ws) = before (kind w) w x ws (read (x ∷ ws)) (read ws)
 -- a word that is a whole group is read as that group, before what the others give
 read_single : (w : List ℕ) (ws : List (List ℕ)) (group : Group) → kind w ≡ single group →
     read (w ∷ ws) ≡ grouped group (read ws)
-read_single w [] group h = ap (λ k. alone k w) h
-read_single w (x ∷ ws) group h = ap (λ k. before k w x ws (read (x ∷ ws)) (read ws)) h
+read_single w [] group h = rw h refl
+read_single w (x ∷ ws) group h = rw h refl
 
 -- an option that the program lacks is read as the ending, with the words after it
 read_unknown : (w : List ℕ) (ws : List (List ℕ)) → kind w ≡ unknown_option → read (w ∷ ws) ≡ ([], unknown w ws)
-read_unknown w [] h = ap (λ k. alone k w) h
-read_unknown w (x ∷ ws) h = ap (λ k. before k w x ws (read (x ∷ ws)) (read ws)) h
+read_unknown w [] h = rw h refl
+read_unknown w (x ∷ ws) h = rw h refl
 
 -- a word that is a command is read as the ending, with the words after it
 read_command : (w : List ℕ) (ws : List (List ℕ)) → kind w ≡ command_word → read (w ∷ ws) ≡ ([], command w ws)
-read_command w [] h = ap (λ k. alone k w) h
-read_command w (x ∷ ws) h = ap (λ k. before k w x ws (read (x ∷ ws)) (read ws)) h
+read_command w [] h = rw h refl
+read_command w (x ∷ ws) h = rw h refl
 
 -- a word that does not begin with `-f` is not `-f`
-front_f : (w : List ℕ) (b : Bool) → bytes_eq w (codes "-f") ≡ b → starts_with nat_eq w (codes "-f") ≡ false → b ≡ false
-front_f w false e h = refl
-front_f w true e h =
-    let f : true ≡ false =
-    ap (λ v. starts_with nat_eq v (codes "-f")) (sym (same_text w (codes "-f") (sym e))) ∙ h in
-    cc
-
--- where tests say that a word is an option and begins no group, they choose an unknown option
-unknown_tests : (o e s l a t n : Bool) → (s ≡ false → e ≡ false) → (o && not (((s || l) || a) || (t || n))) ≡ true →
-    (x y z u v w r : Kind) →
-    elim o [
-      | false ↦ x
-      | true ↦
-          elim e [
-            | true ↦ y
-            | false ↦
-                elim s [
-                  | true ↦ z
-                  | false ↦
-                      elim l [
-                        | true ↦ u
-                        | false ↦
-                            elim a [
-                              | true ↦ v
-                              | false ↦ elim t [ true ↦ w | false ↦ elim n [ true ↦ r | false ↦ unknown_option ] ]
-                            ]
-                      ]
-                ]
-          ]
-    ] ≡ unknown_option
-unknown_tests true false false false false false false f h x y z u v w r = refl
-unknown_tests true true false l a t n f h x y z u v w r = let g : true ≡ false = f refl in cc
-unknown_tests false e s l a t n f h x y z u v w r = cc
-unknown_tests true e true l a t n f h x y z u v w r = cc
-unknown_tests true e false true a t n f h x y z u v w r = cc
-unknown_tests true e false false true t n f h x y z u v w r = cc
-unknown_tests true e false false false true n f h x y z u v w r = cc
-unknown_tests true e false false false false true f h x y z u v w r = cc
+front_f : (w : List ℕ) → starts_with nat_eq w (codes "-f") ≡ false → bytes_eq w (codes "-f") ≡ false
+front_f w h = false_from_ne_true _ (λ e. both_ways _ (rw (same_text w (codes "-f") (sym e)) at h) refl)
 
 -- an option that begins no group is an unknown option by its kind
 kind_unknown : (w : List ℕ) → IsTrue (is_option w && not (begins_group w)) → kind w ≡ unknown_option
 kind_unknown w h =
-    unknown_tests (is_option w) (bytes_eq w (codes "-f")) (starts_with nat_eq w (codes "-f"))
-    (bytes_eq w (codes "--file")) (starts_with nat_eq w (codes "--file=")) (bytes_eq w (codes "--list"))
-    (bytes_eq w (codes "--next")) (front_f w (bytes_eq w (codes "-f")) refl) h _ _ _ _ _ _ _
+    let both = and_parts (is_option w) (not (begins_group w)) h in
+    let front = starts_with nat_eq w (codes "-f") in
+    let word = bytes_eq w (codes "--file") in
+    let assigned = starts_with nat_eq w (codes "--file=") in
+    let none = or_parts ((front || word) || assigned) _ (not-true (begins_group w) both.1) in
+    let files = or_parts (front || word) assigned none.0 in
+    let fronts = or_parts front word files.0 in
+    let flags = or_parts (bytes_eq w (codes "--list")) (bytes_eq w (codes "--next")) none.1 in
+    rw (both.0, front_f w fronts.0, fronts.0, fronts.1, files.1, flags.0, flags.1) refl
 
 -- a word that is no option is a command by its kind
 kind_command : (w : List ℕ) → IsTrue (not (is_option w)) → kind w ≡ command_word
-kind_command w h = at (is_option w) h _
-  where
-    at : (o : Bool) → not o ≡ true → (x : Kind) → elim o [ false ↦ command_word | true ↦ x ] ≡ command_word
-    at false h x = refl
-    at true h x = cc
+kind_command w h = rw h refl
 
 -- the words of an ending are read as that ending, with no group before it
 read_ending : (ending : WordsEnd) → IsWordsEnd ending → read (ending_words ending) ≡ ([], ending)
@@ -168,21 +114,18 @@ read_groups : (groups : List Group) (ending : WordsEnd) → AreGroups groups →
     read (flat_map group_words groups ++ ending_words ending) ≡ (groups, ending)
 read_groups [] ending are is = read_ending ending is
 read_groups (file form name ∷ groups) ending are is =
-    read_file form name (flat_map group_words groups ++ ending_words ending)
-    ∙ ap (grouped (file form name)) (read_groups groups ending are.1 is)
+    read_file form name _ ∙ ap (grouped (file form name)) (read_groups groups ending are.1 is)
 read_groups (joined_file [] ∷ groups) ending are is = absurd (are.0 refl)
 read_groups (joined_file (c ∷ tail) ∷ groups) ending are is =
-    read_single (codes "-f" ++ c ∷ tail) (flat_map group_words groups ++ ending_words ending)
-    (joined_file (c ∷ tail)) refl ∙ ap (grouped (joined_file (c ∷ tail))) (read_groups groups ending are.1 is)
+    read_single (codes "-f" ++ c ∷ tail) _ (joined_file (c ∷ tail)) refl
+    ∙ ap (grouped (joined_file (c ∷ tail))) (read_groups groups ending are.1 is)
 read_groups (assigned_file name ∷ groups) ending are is =
-    read_single (codes "--file=" ++ name) (flat_map group_words groups ++ ending_words ending) (assigned_file name)
-    refl ∙ ap (grouped (assigned_file name)) (read_groups groups ending are.1 is)
+    read_single (codes "--file=" ++ name) _ (assigned_file name) refl
+    ∙ ap (grouped (assigned_file name)) (read_groups groups ending are.1 is)
 read_groups (list ∷ groups) ending are is =
-    read_single (codes "--list") (flat_map group_words groups ++ ending_words ending) list refl
-    ∙ ap (grouped list) (read_groups groups ending are.1 is)
+    read_single (codes "--list") _ list refl ∙ ap (grouped list) (read_groups groups ending are.1 is)
 read_groups (next ∷ groups) ending are is =
-    read_single (codes "--next") (flat_map group_words groups ++ ending_words ending) next refl
-    ∙ ap (grouped next) (read_groups groups ending are.1 is)
+    read_single (codes "--next") _ next refl ∙ ap (grouped next) (read_groups groups ending are.1 is)
 
 -- words are read as their groups and their ending
 pub read-words : (words : List (List ℕ)) (groups : List Group) (ending : WordsEnd) → AreWords words groups ending →
@@ -198,64 +141,28 @@ IsKind w unknown_option = IsTrue (is_option w && not (begins_group w))
 IsKind w command_word = IsTrue (not (is_option w))
 
 -- a word that begins with a front is that front and what is left of the word after it
-front_is : (w front : List ℕ) → starts_with nat_eq w front ≡ true → w ≡ front ++ drop (length front) w
+front_is : (w front : List ℕ) → starts_with nat_eq w front ≡ true → front ++ drop (length front) w ≡ w
 front_is w front h =
-    sym (take-append-drop (length front) w)
-    ∙ ap (λ t. t ++ drop (length front) w) (sym (same_text front (take (length front) w) (sym h)))
+    rw (← (same_text front (take (length front) w) (sym h))) at (take-append-drop (length front) w)
 
 -- where a word is `-f` with a tail, but not `-f` alone, the tail is not empty
-joined_some : (w tail : List ℕ) → bytes_eq w (codes "-f") ≡ false → w ≡ codes "-f" ++ tail → IsGroup (joined_file tail)
-joined_some w [] h e none = let f : true ≡ false = ap (λ v. bytes_eq v (codes "-f")) (sym e) ∙ h in cc
+joined_some : (w tail : List ℕ) → bytes_eq w (codes "-f") ≡ false → codes "-f" ++ tail ≡ w → IsGroup (joined_file tail)
+joined_some w [] h e none = both_ways _ (rw (← e) at h) refl
 joined_some w (c ∷ tail) h e none = cc
-
--- a word is of the kind that its tests choose, whatever they answer
-kind_at : (w : List ℕ) (o e s l a t n : Bool) → is_option w ≡ o → bytes_eq w (codes "-f") ≡ e →
-    starts_with nat_eq w (codes "-f") ≡ s → bytes_eq w (codes "--file") ≡ l →
-    starts_with nat_eq w (codes "--file=") ≡ a → bytes_eq w (codes "--list") ≡ t →
-    bytes_eq w (codes "--next") ≡ n →
-    IsKind w (elim o [
-      | false ↦ command_word
-      | true ↦
-          elim e [
-            | true ↦ takes_file short
-            | false ↦
-                elim s [
-                  | true ↦ single (joined_file (drop 2 w))
-                  | false ↦
-                      elim l [
-                        | true ↦ takes_file long
-                        | false ↦
-                            elim a [
-                              | true ↦ single (assigned_file (drop 7 w))
-                              | false ↦
-                                  elim t [
-                                    | true ↦ single list
-                                    | false ↦ elim n [ true ↦ single next | false ↦ unknown_option ]
-                                  ]
-                            ]
-                      ]
-                ]
-          ]
-    ])
-kind_at w false e s l a t n ho he hs hl ha ht hn = ap not ho
-kind_at w true true s l a t n ho he hs hl ha ht hn = same_text w (codes "-f") (sym he)
-kind_at w true false true l a t n ho he hs hl ha ht hn =
-    let f = front_is w (codes "-f") hs in (joined_some w (drop 2 w) he f, ap (λ v. v ∷ []) (sym f))
-kind_at w true false false true a t n ho he hs hl ha ht hn = same_text w (codes "--file") (sym hl)
-kind_at w true false false false true t n ho he hs hl ha ht hn =
-    (tt, ap (λ v. v ∷ []) (sym (front_is w (codes "--file=") ha)))
-kind_at w true false false false false true n ho he hs hl ha ht hn =
-    (tt, ap (λ v. v ∷ []) (sym (same_text w (codes "--list") (sym ht))))
-kind_at w true false false false false false true ho he hs hl ha ht hn =
-    (tt, ap (λ v. v ∷ []) (sym (same_text w (codes "--next") (sym hn))))
-kind_at w true false false false false false false ho he hs hl ha ht hn = rw (ho, hs, hl, ha, ht, hn) refl
 
 -- each word is of the kind that is found by its first characters
 kind_is : (w : List ℕ) → IsKind w (kind w)
 kind_is w =
-    kind_at w (is_option w) (bytes_eq w (codes "-f")) (starts_with nat_eq w (codes "-f"))
-    (bytes_eq w (codes "--file")) (starts_with nat_eq w (codes "--file=")) (bytes_eq w (codes "--list"))
-    (bytes_eq w (codes "--next")) refl refl refl refl refl refl refl
+    cond_both (not (is_option w)) _ _ (IsKind w) (λ no. no) (λ o.
+    cond_both (bytes_eq w (codes "-f")) _ _ (IsKind w) (λ yes. same_text w _ (sym yes)) (λ e.
+    cond_both (starts_with nat_eq w (codes "-f")) _ _ (IsKind w)
+    (λ yes. let f = front_is w (codes "-f") yes in (joined_some w (drop 2 w) e f, rw f refl)) (λ s.
+    cond_both (bytes_eq w (codes "--file")) _ _ (IsKind w) (λ yes. same_text w _ (sym yes)) (λ l.
+    cond_both (starts_with nat_eq w (codes "--file=")) _ _ (IsKind w)
+    (λ yes. (tt, rw (front_is w (codes "--file=") yes) refl)) (λ a.
+    cond_both (bytes_eq w (codes "--list")) _ _ (IsKind w) (λ yes. (tt, rw (same_text w _ (sym yes)) refl)) (λ t.
+    cond_both (bytes_eq w (codes "--next")) _ _ (IsKind w) (λ yes. (tt, rw (same_text w _ (sym yes)) refl))
+    (λ n. rw (not-false _ o, s, l, a, t, n) refl)))))))
 
 -- the words are the groups and the ending of this reading
 abbrev Reads : List (List ℕ) → Reading → Type 0
@@ -264,14 +171,12 @@ Reads words (groups, ending) = AreWords words groups ending
 -- where words have a reading, the words of a group before them have it with that group at its front
 group_first : (group : Group) (front words : List (List ℕ)) (r : Reading) → IsGroup group →
     group_words group ≡ front → Reads words r → Reads (front ++ words) (grouped group r)
-group_first group front words (groups, ending) is e are = record {
-  are_groups = (is, are.are_groups);
-  is_ending = are.is_ending;
-  spelled =
-      ap (λ t. t ++ words) (sym e)
-      ∙ ap (λ t. group_words group ++ t) are.spelled
-      ∙ sym (append_assoc (group_words group) (flat_map group_words groups) (ending_words ending));
-}
+group_first group front words (groups, ending) is e are =
+    record {
+      are_groups = (is, are.are_groups);
+      is_ending = are.is_ending;
+      spelled = rw (← e, are.spelled, append_assoc) refl;
+    }
 
 -- the words of an ending are that ending, with no group before it
 only : (ending : WordsEnd) → IsWordsEnd ending → Reads (ending_words ending) ([], ending)
@@ -279,8 +184,7 @@ only ending is = record { are_groups = tt; is_ending = is; spelled = refl }
 
 -- the last word, of whatever kind, is what it gives by that kind
 alone_reads : (w : List ℕ) (k : Kind) → IsKind w k → Reads (w ∷ []) (alone k w)
-alone_reads w (takes_file form) is =
-    subst (λ v. Reads (v ∷ []) ([], missing_file form)) (sym is) (only (missing_file form) tt)
+alone_reads w (takes_file form) is = rw is (only (missing_file form) tt)
 alone_reads w (single group) is = group_first group (w ∷ []) [] ([], nothing) is.0 is.1 (only nothing tt)
 alone_reads w unknown_option is = only (unknown w []) is
 alone_reads w command_word is = only (command w []) is
@@ -288,8 +192,7 @@ alone_reads w command_word is = only (command w []) is
 -- a word before others, of whatever kind, is what it gives by that kind, where the others are what they give
 before_reads : (w x : List ℕ) (ws : List (List ℕ)) (k : Kind) (this after : Reading) → IsKind w k →
     Reads (x ∷ ws) this → Reads ws after → Reads (w ∷ x ∷ ws) (before k w x ws this after)
-before_reads w x ws (takes_file form) this after is h g =
-    group_first (file form x) (w ∷ x ∷ []) ws after tt (ap (λ v. v ∷ x ∷ []) (sym is)) g
+before_reads w x ws (takes_file form) this after is h g = rw is (group_first (file form x) _ ws after tt refl g)
 before_reads w x ws (single group) this after is h g = group_first group (w ∷ []) (x ∷ ws) this is.0 is.1 h
 before_reads w x ws unknown_option this after is h g = only (unknown w (x ∷ ws)) is
 before_reads w x ws command_word this after is h g = only (command w (x ∷ ws)) is
@@ -320,5 +223,4 @@ usage_exists words = (answer_to (read words).0 (read words).1, ((read words).0, 
 pub one_usage_of_words : (words : List (List ℕ)) (answer other : Result CommandLine Usage) → HasUsage words answer →
     HasUsage words other → other ≡ answer
 one_usage_of_words words answer other (groups, ending, is, e) (groups', ending', is', e') =
-    let s = one_reading_of_words words groups groups' ending ending' is is' in
-    e' ∙ ap (λ g. answer_to g ending') s.0 ∙ ap (answer_to groups) s.1 ∙ sym e
+    let s = one_reading_of_words words groups groups' ending ending' is is' in rw (e, e', s.0, s.1) refl

@@ -1,5 +1,5 @@
 -- What a call of `add` adds: a load that was accepted, one that was refused, or nothing for want of memory.
-use Rattle.std.proofs.Common.{◌≡◌, [], ◌∷◌, Option, Some, None, Result, Err, refl, sym, subst, inl, inr}
+use Rattle.std.proofs.Common.{◌≡◌, [], ◌∷◌, Option, Some, None, Err, refl, sym, inl, inr}
 use Rattle.dotenvy.specs.Dialect.TheVariants.{V15}
 use Rattle.dotenvy.specs.Error.{Error}
 use Rattle.dotenvy.specs.Entries.{Fails, Memory}
@@ -7,24 +7,13 @@ use Rattle.dotenvy.specs.Environment.{Texts}
 use Rattle.dotenvy.specs.Errors.{IsMemory}
 use Rattle.dotenvy.specs.Items.{LookUp}
 use Rattle.dotenvy.specs.Iter.{fresh}
-use Rattle.dotenvy.specs.LoadsRest.{Rule, Leaves, LoadsRest}
+use Rattle.dotenvy.specs.LoadsRest.{Leaves}
 use Rattle.dotenvy.specs.Meaning.{values_of, recalled_of}
 use Rattle.dotenvy.specs.Source.{Told}
 use Rattle.std.specs.Option.{option_or}
 use Rattle.env_layers.specs.declared.layers.Mode.{Mode}
 use Rattle.env_layers.specs.declared.layers.Mode.TheVariants.{Keep, Override}
-use Rattle.env_layers.specs.Layers.{AddsLayer, after_load, rule_of}
-
--- a load by the rule of the mode, whose answer decides what stands
-pub adds_by : {A : Type 0} (mode : Mode) (rule : Rule) (told : Told) (old loaded : Texts)
-    (answer : Result (Unit {0}) (Error A)) → rule_of mode ≡ rule →
-    LoadsRest rule (fresh told V15) old answer loaded →
-    AddsLayer mode told old answer (after_load old loaded answer)
-adds_by mode rule told old loaded answer is loads = record {
-  loaded = loaded;
-  loads = subst (λ r. LoadsRest r (fresh told V15) old answer loaded) (sym is) loads;
-  stands = refl;
-}
+use Rattle.env_layers.specs.Layers.{AddsLayer, rule_of}
 
 -- a value, or else none
 or_none : {T : Type 0} (value : Option T) → option_or value None ≡ value

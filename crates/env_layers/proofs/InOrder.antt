@@ -1,14 +1,14 @@
 -- What calls of `add` come to, one after another.
-use Rattle.std.proofs.Common.{◌≡◌, Bool, true, false, cond, List, [], ◌∷◌, ◌++◌, append-nil, None}
-use Rattle.std.proofs.Common.{Result, Ok, Err, refl, sym, ◌∙◌, ap, subst, arith}
+use Rattle.std.proofs.Common.{◌≡◌, true, false, List, [], ◌∷◌, append-nil, None}
+use Rattle.std.proofs.Common.{Result, Ok, Err, refl, sym, ◌∙◌, arith}
 use Rattle.std.proofs.Math.Path.{fun_ext}
-use Rattle.std.specs.Prelude.{None, filter, is_ok, option_map}
-use Rattle.std.specs.Option.{option_flatten}
+use Rattle.std.proofs.lemmas.Bool.{cond_both}
+use Rattle.std.specs.Prelude.{None, filter, is_ok, if◌then◌else◌}
 use Rattle.std.specs.Cmp.Lexicographic.{slice_cmp}
 use Rattle.std.specs.FinMap as fin
 use Rattle.std.specs.List.{FoldsTo}
 use Rattle.std.specs.Ordering.{nat_cmp}
-use Rattle.std.specs.Str.{chars, encode_utf8_all}
+use Rattle.std.specs.Str.{encode_utf8_all}
 use Rattle.dotenvy.specs.Dialect.TheVariants.{V15}
 use Rattle.dotenvy.specs.Error.{Error}
 use Rattle.dotenvy.specs.Entries.{Failure, Entry}
@@ -35,7 +35,7 @@ takes_all Override (keeping, overriding) = overriding
 -- a fresh iterator remembers nothing
 nothing_recalled : recalled_of fin.empty ≡ no_values
 nothing_recalled = fun_ext
-    (λ name. ap (λ o. option_map chars (option_flatten o)) (fin.get-empty (slice_cmp nat_cmp) (encode_utf8_all name)))
+    (λ name. rw (fin.get-empty (slice_cmp nat_cmp) (encode_utf8_all name)) refl)
 
 -- a fresh iterator over fewer than 2^32 bytes, which tells no fault, can read them all
 can_read : {A : Type 0} (old : Texts) (layer : Layer) (new : Texts) (added : Adds A old layer new) →
@@ -53,18 +53,14 @@ leaves_rule old layer new entries all added has =
     takes_all layer.mode all (fresh added.told V15)
     (record { bytes = layer.bytes; fault = None }) old adds.loaded added.answer entries
     (can_read old layer new added) has adds.loads added.not_refused in
-    subst (λ es. Leaves (layer_result layer (values_of old) es) adds.loaded added.answer) (append-nil entries)
-    (subst (λ remembered. Leaves
-    (rule_of layer.mode (values_of old) remembered
-    (entries ++ [])) adds.loaded added.answer) nothing_recalled whole)
+    rw (nothing_recalled, append-nil) at whole
 
 -- two answers that say the same are both Ok, or neither is
 both_ok : {A : Type 0} (said : Result (Unit {0}) Failure) (answer : Result (Unit {0}) (Error A)) →
     IsAnswer said answer → is_ok answer ≡ is_ok said
 both_ok (Ok done) (Ok r) is = refl
-both_ok (Ok done) (Err e) is = absurd is
-both_ok (Err failure) (Ok r) is = absurd is
 both_ok (Err failure) (Err e) is = refl
+both_ok said answer is = absurd is
 
 -- a layer is accepted exactly where its rule answers Ok
 pub accepted_exactly : {A : Type 0} → LoadsTakeAll A → AcceptedExactly A
@@ -72,24 +68,16 @@ accepted_exactly all old new layer entries added has =
     let leaves = leaves_rule old layer new entries all added has in
     added.accepted ∙ both_ok (layer_result layer (values_of old) entries).answer added.answer leaves.is_answer
 
--- an answer that is Ok says so
-said_ok : {A : Type 0} (said : Result (Unit {0}) Failure) (answer : Result (Unit {0}) (Error A)) →
-    IsAnswer said answer → is_ok answer ≡ true → said ≡ Ok tt
-said_ok (Ok done) answer is ok = refl
-said_ok (Err failure) (Ok r) is ok = absurd is
-said_ok (Err failure) (Err e) is ok = cc
+-- an answer that is Ok is the one value that Ok has
+is_the_ok : {E : Type 0} (said : Result (Unit {0}) E) → is_ok said ≡ true → said ≡ Ok tt
+is_the_ok (Ok done) ok = refl
+is_the_ok (Err failure) ok = cc
 
--- what was loaded stands where the answer is Ok
-loaded_stands : {E : Type 0} (before loaded : Texts) (answer : Result (Unit {0}) E) → is_ok answer ≡ true →
-    after_load before loaded answer ≡ loaded
-loaded_stands before loaded (Ok done) ok = refl
-loaded_stands before loaded (Err e) ok = cc
-
--- what was there before stands where the answer is a fault
-before_stands : {E : Type 0} (before loaded : Texts) (answer : Result (Unit {0}) E) → is_ok answer ≡ false →
-    after_load before loaded answer ≡ before
-before_stands before loaded (Ok done) fault = cc
-before_stands before loaded (Err e) fault = refl
+-- what was loaded stands where the answer is Ok, and else what was there before
+stands : {E : Type 0} (before loaded : Texts) (answer : Result (Unit {0}) E) →
+    after_load before loaded answer ≡ (if is_ok answer then loaded else before)
+stands before loaded (Ok done) = refl
+stands before loaded (Err e) = refl
 
 -- an accepted call applies the rule of its layer
 accepted_applies : {A : Type 0} (old : Texts) (layer : Layer) (new : Texts) → HasOneReading → LoadsTakeAll A →
@@ -99,39 +87,28 @@ accepted_applies old layer new one all added accepted =
     let reading = one V15 (without_mark layer.bytes) in
     let leaves = leaves_rule old layer new reading.0 all added reading.1 in
     let ok = sym added.accepted ∙ accepted in
-    let is_new = added.adds.stands ∙ loaded_stands old added.adds.loaded added.answer ok in
+    let stays = added.adds.stands ∙ stands old added.adds.loaded added.answer in
     record {
       entries = reading.0;
       has_entries = reading.1;
-      is_ok = said_ok (layer_result layer (values_of old) reading.0).answer added.answer leaves.is_answer ok;
-      leaves = λ name. ap (λ names. values_of names name) is_new ∙ leaves.values name;
+      is_ok = is_the_ok (layer_result layer (values_of old) reading.0).answer
+          (sym (both_ok (layer_result layer (values_of old) reading.0).answer added.answer leaves.is_answer) ∙ ok);
+      leaves = λ name. rw (stays, ok) (leaves.values name);
     }
 
 -- a call that was not accepted changes nothing
 refused_stays : {A : Type 0} (old : Texts) (layer : Layer) (new : Texts) → Adds A old layer new →
     layer.accepted ≡ false → new ≡ old
 refused_stays old layer new added refused = added.adds.stands
-    ∙ before_stands old added.adds.loaded added.answer (sym added.accepted ∙ refused)
-
--- the layers that were accepted
-abbrev accepted : List Layer → List Layer
-accepted layers = filter (λ layer. layer.accepted) layers
-
--- one call more, before calls whose accepted layers were applied in order
-first_applied : {A : Type 0} (old : Texts) (layer : Layer) (next : Texts) (layers : List Layer) (new : Texts) →
-    HasOneReading → LoadsTakeAll A →
-    Adds A old layer next → FoldsTo Applies (values_of next) (accepted layers) (values_of new) →
-    FoldsTo Applies (values_of old) (accepted (layer ∷ layers)) (values_of new)
-first_applied old layer next layers new one all added later = at layer.accepted refl
-  where
-    at : (b : Bool) → layer.accepted ≡ b →
-        FoldsTo Applies (values_of old) (cond b (layer ∷ accepted layers) (accepted layers)) (values_of new)
-    at true is = (values_of next, accepted_applies old layer next one all added is, later)
-    at false is = subst (λ names. FoldsTo Applies (values_of names) (accepted layers) (values_of new))
-        (refused_stays old layer next added is) later
+    ∙ rw (stands old added.adds.loaded added.answer, ← added.accepted, refused) refl
 
 -- after any calls the rules of the accepted layers were applied, in order
 pub layers_in_order : {A : Type 0} → HasOneReading → LoadsTakeAll A → LayersInOrder A
-layers_in_order one all old new [] same = ap values_of same
+layers_in_order one all old new [] same = rw same refl
 layers_in_order one all old new (layer ∷ layers) (next, added, later) =
-    first_applied old layer next layers new one all added (layers_in_order one all next new layers later)
+    let accepted = filter (λ layer. layer.accepted) layers in
+    let applied = layers_in_order one all next new layers later in
+    cond_both layer.accepted (layer ∷ accepted) accepted
+    (λ these. FoldsTo Applies (values_of old) these (values_of new))
+    (λ is. (values_of next, accepted_applies old layer next one all added is, applied))
+    (λ is. rw (refused_stays old layer next added is) at applied)

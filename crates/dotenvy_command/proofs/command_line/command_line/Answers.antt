@@ -1,8 +1,6 @@
-use Rattle.std.proofs.Common.{arith, ◌≡◌, true, [], Ok, Err, refl, sym, ap, subst, rules}
+use Rattle.std.proofs.Common.{◌≡◌, true, [], Ok, Err, refl, rules}
 use Rattle.std.proofs.lemmas.Result.{err_from_is_err_and}
-use Rattle.std.proofs.lemmas.Grind.{common_steps}
 use Rattle.dotenvy_command.specs.Answers.{texts, line_of}
-use Rattle.dotenvy_command.specs.inside.FirstGroup.{GroupBeginsWith}
 use Rattle.dotenvy_command.specs.Words.{MissingCommand}
 use Rattle.dotenvy_command.proofs.WordGroups.{answers_memory, answers_refused, copied, ends}
 use Rattle.dotenvy_command.proofs.WordGroups.{ends_without_command, no_texts, no_words, one_more}
@@ -12,13 +10,11 @@ use Rattle.dotenvy_command.proofs.command_line.command_line.Goals as goal
 
 pub returns-in_err-clone : goal.returns-in_err-clone
 returns-in_err-clone g c =
-    let p = err_from_is_err_and c.from_residual.result c.from_residual.ensures.1 in
-    rw p.1 (answers_memory (texts c.args.words.now) p.0 p.2)
+    answers_memory (texts c.args.words.now) c.from_residual.result c.from_residual.ensures.1
 
 pub returns-in_err-line : goal.returns-in_err-line
 returns-in_err-line g c =
-    let p = err_from_is_err_and c.from_residual-in_err-line.result c.from_residual-in_err-line.ensures.1 in
-    rw p.1 (answers_memory (texts c.args.words.now) p.0 p.2)
+    answers_memory (texts c.args.words.now) c.from_residual-in_err-line.result c.from_residual-in_err-line.ensures.1
 
 pub returns-in_err-group : goal.returns-in_err-group
 returns-in_err-group g c =
@@ -29,12 +25,11 @@ returns-in_err-group g c =
 
 pub returns-in_err-add : goal.returns-in_err-add
 returns-in_err-add g c =
-    let p = err_from_is_err_and c.from_residual-in_err-add.result c.from_residual-in_err-add.ensures.1 in
-    rw p.1 (answers_memory (texts c.args.words.now) p.0 p.2)
+    answers_memory (texts c.args.words.now) c.from_residual-in_err-add.result c.from_residual-in_err-add.ensures.1
 
 pub groups-preserved : goal.groups-preserved
 groups-preserved g c =
-    let begins = subst (λ o. GroupBeginsWith (texts c.groups.rest.now) (Ok o)) c.in-Some.is c.in_ok-group.ensures in
+    let begins = rw c.in-Some.is at c.in_ok-group.ensures in
     rw (c.in_ok-add.ensures begins.0 begins.3)
     (one_more (texts c.args.words.now) (texts c.groups.rest.now) (texts c.in-Some.after.now)
     (line_of c.groups.line) begins.0 c.groups.invariant begins.1 begins.2)
@@ -49,13 +44,12 @@ returns-then-not-line g c = (
 
 pub returns-in_err-line-2 : goal.returns-in_err-line-2
 returns-in_err-line-2 g c =
-    let p = err_from_is_err_and c.from_residual-in_err-line-2.result c.from_residual-in_err-line-2.ensures.1 in
-    rw p.1 (answers_memory (texts c.args.words.now) p.0 p.2)
+    answers_memory (texts c.args.words.now) c.from_residual-in_err-line-2.result c.from_residual-in_err-line-2.ensures.1
 
 pub returns : goal.returns
 returns g c =
     let line = line_of c.groups.line in
-    let command = subst (λ o. GroupBeginsWith (texts c.groups.rest.now) (Ok o)) c.in_default.is c.in_ok-group.ensures in
+    let command = rw c.in_default.is at c.in_ok-group.ensures in
     let listed : texts c.groups.rest.now ≡ [] → c.groups.line.list ≡ true =
     λ none.
     let empty = no_words c.groups.rest.now none in
@@ -65,9 +59,5 @@ returns g c =
     ] in (
       Ok (record line { command = texts c.groups.rest.now }),
       ends (texts c.args.words.now) (texts c.groups.rest.now) line c.groups.invariant command listed,
-      ap (λ words. Ok (record line { command = words }))
-          (sym (copied c.groups.rest.now c.in_ok-line-2.field-0.items c.in_ok-line-2.ensures.items)),
+      rw (copied c.groups.rest.now c.in_ok-line-2.field-0.items c.in_ok-line-2.ensures.items) refl,
     )
-
-pub groups-smaller : goal.groups-smaller
-groups-smaller g c = grind (arith, common_steps)

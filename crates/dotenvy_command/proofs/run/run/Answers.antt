@@ -1,9 +1,6 @@
-use Rattle.std.proofs.Common.{rules, not, refl, sym, ap, subst, ◌∙◌, inl, inr}
+use Rattle.std.proofs.Common.{not, refl, sym, ap, ◌∙◌, inl, inr}
 use Rattle.std.proofs.lemmas.Result.{err_from_is_err_and}
-use Rattle.dotenvy.specs.Iter.{fresh}
-use Rattle.dotenvy.specs.Listed.{Lists}
 use Rattle.dotenvy_command.specs.Answers.{texts}
-use Rattle.dotenvy_command.specs.Ends.{EndsAs, RunsCommand}
 use Rattle.dotenvy_command.proofs.RunEnds.{asks_for, lists_both, not_refused, only_memory, says_usage}
 use Rattle.dotenvy_command.proofs.run.run.Goals as goal
 use Rattle.std.proofs.Common.{Err}
@@ -34,11 +31,7 @@ returns-then-line-clause-usage g c =
 
 pub returns-then-line-clause-lists : goal.returns-then-line-clause-lists
 returns-then-line-clause-lists g c = λ line is listed.
-    let asked = asks_for (texts c.args.words.now) line c.in_ok-line.line c.in_ok-line.ensures is in
-    inr (subst (λ l. EndsAs (Lists {A = g.row.A.Denot}
-    (fresh (g.S.Source.told c.args.reader.now) l)
-    g.W.Sink.told c.args.writer.now c.list.new.writer) c.list.result)
-    (sym (ap (λ l. l.dialect) asked)) c.list.ensures.lists)
+    inr (rw (asks_for (texts c.args.words.now) line c.in_ok-line.line c.in_ok-line.ensures is) c.list.ensures.lists)
 
 pub returns-then-line-clause-command : goal.returns-then-line-clause-command
 returns-then-line-clause-command g c = λ line is unlisted.
@@ -54,18 +47,6 @@ returns-clause-lists g c = λ line is listed.
     absurd (lists_both (texts c.args.words.now) line c.in_ok-line.line c.in_ok-line.ensures is
     (c.if-line.false ∙ ap not (sym listed)))
 
-pub returns-in_err-line-clause-early : goal.returns-in_err-line-clause-early
-returns-in_err-line-clause-early g c = search rules
-
-pub returns-then-line-clause-early : goal.returns-then-line-clause-early
-returns-then-line-clause-early g c = search rules
-
-pub returns-clause-early : goal.returns-clause-early
-returns-clause-early g c = search rules
-
-pub returns-clause-command : goal.returns-clause-command
-returns-clause-command g c = search rules
-
 pub returns-then-line-clause-runs : goal.returns-then-line-clause-runs
 returns-then-line-clause-runs g c = λ line is unlisted.
     absurd (lists_both (texts c.args.words.now) line c.in_ok-line.line c.in_ok-line.ensures is
@@ -73,6 +54,4 @@ returns-then-line-clause-runs g c = λ line is unlisted.
 
 pub returns-clause-runs : goal.returns-clause-runs
 returns-clause-runs g c = λ line is unlisted.
-    subst (λ l. RunsCommand (g.R.Starter.ends c.args.rt.now) l.command c.run_command.result)
-    (sym (asks_for (texts c.args.words.now) line c.in_ok-line.line c.in_ok-line.ensures is))
-    c.run_command.ensures.runs
+    rw (asks_for (texts c.args.words.now) line c.in_ok-line.line c.in_ok-line.ensures is) c.run_command.ensures.runs

@@ -1,11 +1,6 @@
-use Rattle.std.proofs.Common.{Ok, Err, ap, subst, ◌∙◌}
+use Rattle.std.proofs.Common.{refl, ◌∙◌}
 use Rattle.std.proofs.lemmas.Result.{err_from_is_err_and}
-use Rattle.dotenvy.specs.Dialect.TheVariants.{V15}
-use Rattle.dotenvy.specs.Iter.{fresh}
-use Rattle.dotenvy.specs.Loads.{load_result, override_result}
-use Rattle.dotenvy.specs.LoadsRest.{LoadsRest}
-use Rattle.env_layers.specs.Layers.{rule_of}
-use Rattle.env_layers.proofs.Added.{adds_by, adds_none}
+use Rattle.env_layers.proofs.Added.{adds_none}
 use Rattle.env_layers.proofs.layers.Layers.add.Goals.{in-Keep+in_ok-from_read-in-Keep}
 use Rattle.env_layers.proofs.layers.Layers.add.Goals.{in-Override+in_ok-from_read_override-in-Override}
 use Rattle.env_layers.proofs.layers.Layers.add.Goals as goal
@@ -21,44 +16,28 @@ pub returns-in_err-from_read-in-Keep-clause-told : goal.returns-in_err-from_read
 returns-in_err-from_read-in-Keep-clause-told g c =
     let p = err_from_is_err_and c.from_residual-in_err-from_read-in-Keep.result
     c.from_residual-in_err-from_read-in-Keep.ensures.1 in
-    let source = g.R.Source.told c.args.reader in
-    let answer = Err c.in_err-from_read-in-Keep.field-0.0 in
-    let told = subst (λ e. LoadsRest {A = g.row.A.Denot} load_result
-    (fresh source V15) e.names answer c.from_read.new.env.names)
-    (c.in_ok-layered.ensures.ok ∙ c.self.view_is) c.in_err-from_read-in-Keep.ensures.told in
-    rw (p.1, p.2)
-    (adds_by c.args.mode load_result source c.args.self.now.names c.from_read.new.env.names answer
-    (ap rule_of c.in-Keep.is) told)
+    let told = rw (c.in_ok-layered.ensures.ok ∙ c.self.view_is) at c.in_err-from_read-in-Keep.ensures.told in
+    rw (p.1, p.2) (record { loaded = c.from_read.new.env.names; loads = rw c.in-Keep.is told; stands = refl })
 
 pub returns-in_err-from_read_override-in-Override-clause-told :
     goal.returns-in_err-from_read_override-in-Override-clause-told
 returns-in_err-from_read_override-in-Override-clause-told g c =
     let p = err_from_is_err_and c.from_residual-in_err-from_read_override-in-Override.result
     c.from_residual-in_err-from_read_override-in-Override.ensures.1 in
-    let source = g.R.Source.told c.args.reader in
-    let answer = Err c.in_err-from_read_override-in-Override.field-0.0 in
-    let told = subst (λ e. LoadsRest {A = g.row.A.Denot} override_result
-    (fresh source V15) e.names answer c.from_read_override.new.env.names)
-    (c.in_ok-layered.ensures.ok ∙ c.self.view_is) c.in_err-from_read_override-in-Override.ensures.told in
+    let told =
+    rw (c.in_ok-layered.ensures.ok ∙ c.self.view_is) at c.in_err-from_read_override-in-Override.ensures.told in
     rw (p.1, p.2)
-    (adds_by c.args.mode override_result source c.args.self.now.names c.from_read_override.new.env.names answer
-    (ap rule_of c.in-Override.is) told)
+    (record { loaded = c.from_read_override.new.env.names; loads = rw c.in-Override.is told; stands = refl })
 
 pub returns-clause-told : goal.returns-clause-told
 returns-clause-told g c =
-    let source = g.R.Source.told c.args.reader in
     let copied = c.in_ok-layered.ensures.ok ∙ c.self.view_is in
     elim c.match-mode.branch [
       | in-Keep+in_ok-from_read-in-Keep w ↦
-          let told = subst (λ e. LoadsRest {A = g.row.A.Denot} load_result (fresh source V15) e.names
-          (Ok tt) w.from_read.new.env.names) copied w.in_ok-from_read-in-Keep.ensures.told in
-          rw w.layered-is
-          (adds_by c.args.mode load_result source c.args.self.now.names w.from_read.new.env.names (Ok tt)
-          (ap rule_of w.in-Keep.is) told)
+          let told = rw copied at w.in_ok-from_read-in-Keep.ensures.told in
+          rw w.layered-is (record { loaded = w.from_read.new.env.names; loads = rw w.in-Keep.is told; stands = refl })
       | in-Override+in_ok-from_read_override-in-Override w ↦
-          let told = subst (λ e. LoadsRest {A = g.row.A.Denot} override_result (fresh source V15) e.names
-          (Ok tt) w.from_read_override.new.env.names) copied w.in_ok-from_read_override-in-Override.ensures.told in
+          let told = rw copied at w.in_ok-from_read_override-in-Override.ensures.told in
           rw w.layered-is
-          (adds_by c.args.mode override_result source c.args.self.now.names w.from_read_override.new.env.names (Ok tt)
-          (ap rule_of w.in-Override.is) told)
+          (record { loaded = w.from_read_override.new.env.names; loads = rw w.in-Override.is told; stands = refl })
     ]

@@ -1,20 +1,15 @@
-use Rattle.std.proofs.Common.{rules, ◌≡◌, ◌∙◌, subst, sym}
-use Rattle.dotenvy.specs.Environment.{KeepsNames}
-use Rattle.dotenvy.specs.LoadsRest.{ChangesOnlyKeys}
+use Rattle.std.proofs.Common.{◌≡◌, ◌∙◌, sym}
 use Rattle.env_layers.specs.declared.layers.Mode.TheVariants.{Keep, Override}
 use Rattle.env_layers.proofs.layers.Layers.add_file_with.Goals.{in-Keep+in_ok-load-in-Keep}
 use Rattle.env_layers.proofs.layers.Layers.add_file_with.Goals.{in-Override+in_ok-load_override-in-Override}
 use Rattle.env_layers.proofs.layers.Layers.add_file_with.Goals as goal
-
-pub returns-in_err-path-clause-refused : goal.returns-in_err-path-clause-refused
-returns-in_err-path-clause-refused g c = search rules
 
 pub returns-clause-keeps : goal.returns-clause-keeps
 returns-clause-keeps g c = λ keep.
     let copied = c.in_ok-copy.ensures.ok ∙ c.self.view_is in
     elim c.match-mode.branch [
       | in-Keep+in_ok-load-in-Keep w ↦
-          rw w.copy-is (subst (λ e. KeepsNames e.names w.load.new.env.names) copied w.load.ensures.adds.keeps)
+          rw w.copy-is (rw copied at w.load.ensures.adds.keeps)
       | in-Override+in_ok-load_override-in-Override w ↦
           absurd (let both : Keep ≡ Override = sym keep ∙ w.in-Override.is in cc)
     ]
@@ -24,7 +19,7 @@ returns-clause-changes g c =
     let copied = c.in_ok-copy.ensures.ok ∙ c.self.view_is in
     elim c.match-mode.branch [
       | in-Keep+in_ok-load-in-Keep w ↦
-          rw w.copy-is (subst (λ e. ChangesOnlyKeys e w.load.new.env) copied w.load.ensures.adds.changes)
+          rw w.copy-is (rw copied at w.load.ensures.adds.changes)
       | in-Override+in_ok-load_override-in-Override w ↦
-          rw w.copy-is (subst (λ e. ChangesOnlyKeys e w.load_override.new.env) copied w.load_override.ensures.changes)
+          rw w.copy-is (rw copied at w.load_override.ensures.changes)
     ]
