@@ -1,5 +1,5 @@
 -- The answer to a load, from what is to be written of it.
-use Rattle.std.proofs.Common.{◌≡◌, ◌≤◌, ℕ, Bool, List, length, refl, ap, sym, subst, ◌∙◌}
+use Rattle.std.proofs.Common.{◌≡◌, ◌≤◌, ℕ, Bool, List, length, refl, sym, ◌∙◌}
 use Rattle.std.specs.Prelude.{IsTrue, ◌↔◌, Some, Result}
 use Rattle.std.specs.declared.alloc.Global.{Global}
 use Rattle.dotenvy.specs.Environment.{Texts}
@@ -35,8 +35,8 @@ answered is fits bytes old new same wide written = record {
   index = is.index;
   block_len = is.block_len;
   text_len = is.text_len;
-  fits = subst (λ b. IsTrue fits ↔ (length b ≤ length old)) (same ∙ is.bytes) wide;
-  written = written ∙ ap (λ b. written_if fits b old) (same ∙ is.bytes);
+  fits = rw (same ∙ is.bytes) at wide;
+  written = rw (same ∙ is.bytes) at written;
 }
 
 -- a load of a fresh file over the environment of a block
@@ -48,10 +48,8 @@ pub loads_file : {options : ℕ} {file block : List ℕ} {start : IterState} {be
 loads_file {options = options} {file = file} {block = block} {start = start} {before = before} {names = names}
     {outcome = outcome} fresh same loads keys fits tells = record {
       outcome = outcome;
-      loads =
-          subst (λ b. LoadsRest (rule_of options) (fresh_file file (dialect_of options)) b outcome names) same
-          (subst (λ s. IsOpen s → LoadsRest (rule_of options) s before outcome names) fresh loads refl);
-      keys = subst (λ b. ChangesKeys b names) same keys;
+      loads = rw (fresh, same) at loads refl;
+      keys = rw same at keys;
       fits_block = fits;
       tells = sym tells;
     }

@@ -1,6 +1,6 @@
 -- The entries of a block.
 use Rattle.std.proofs.Common.{◌≡◌, ◌<◌, ◌+◌, ◌==◌, ℕ, Bool, true, false, List, [], ◌∷◌, ◌++◌, length, take, drop}
-use Rattle.std.proofs.Common.{get_or, refl, sym, ap, ◌∙◌, arith}
+use Rattle.std.proofs.Common.{get_or, refl, ap, ◌∙◌, arith}
 use Rattle.std.specs.Prelude.{None, Some, string_bytes, IsTrue}
 use Rattle.std.specs.Str.{IsUtf8, is_utf8}
 use Rattle.std.specs.List.{flat_map, list_all, position_or_len, before_first, after_first}
@@ -38,10 +38,7 @@ pub added : {A : Type 0} (old new : List (String A × String A)) (name value : S
     string_bytes name ≡ before_first is_equals entry → string_bytes value ≡ after_first is_equals entry →
     text_entries new ≡ text_entries old ++ entry_pairs entry
 added old new name value entry items utf8 lt named valued =
-    ap text_entries items ∙ map_push _ old (name, value)
-    ∙ ap (λ n. text_entries old ++ (n, string_bytes value) ∷ []) named
-    ∙ ap (λ v. text_entries old ++ (before_first is_equals entry, v) ∷ []) valued
-    ∙ ap (λ pairs. text_entries old ++ pairs) (sym (one_pair entry utf8 lt))
+    rw (items, one_pair entry utf8 lt) (map_push _ old (name, value) ∙ rw (named, valued) refl)
 
 -- the first NUL stands here
 first_nul : (bs : List ℕ) (i : ℕ) → IsFirstByte (is_byte 0) bs (Some i) → position_or_len is_nul bs ≡ i
@@ -55,8 +52,7 @@ cut_block : (bs : List ℕ) (i : ℕ) → IsFirstByte (is_byte 0) bs (Some i) �
 cut_block bs i first =
     let at = first_nul bs i first in
     let high = first.0.high in
-    ap (flat_map entry_pairs) (slice_split_first is_nul bs 0 (omega (arith, at, high)))
-    ∙ ap (λ n. entry_pairs (take n bs) ++ block_pairs (drop (n + 1) bs)) at
+    rw at at (ap (flat_map entry_pairs) (slice_split_first is_nul bs 0 (omega (arith, at, high))))
 
 -- a block without a NUL is one entry
 last_block : (bs : List ℕ) → IsFirstByte (is_byte 0) bs None → block_pairs bs ≡ entry_pairs bs
@@ -68,21 +64,17 @@ last_block bs none =
     ∙ append-nil (entry_pairs bs)
 
 -- the entries up to a NUL were added
-pub entry_added : (old new whole : List (List ℕ × List ℕ)) (rest front back : List ℕ) (at : ℕ) →
-    new ≡ old ++ entry_pairs front → front ≡ take at rest → back ≡ drop at rest →
-    IsFirstByte (is_byte 0) rest (Some at) → old ++ block_pairs rest ≡ whole →
-    (left : List ℕ) → left ≡ drop (at + 1) rest → new ++ block_pairs left ≡ whole
-entry_added old new whole rest front back at grown fronts backs first before left lefts =
-    ap (λ n. n ++ block_pairs left) (grown ∙ ap (λ f. old ++ entry_pairs f) fronts)
-    ∙ ap (λ l. (old ++ entry_pairs (take at rest)) ++ block_pairs l) lefts
-    ∙ append_assoc old (entry_pairs (take at rest)) (block_pairs (drop (at + 1) rest))
-    ∙ ap (λ pairs. old ++ pairs) (sym (cut_block rest at first)) ∙ before
+pub entry_added : {new whole : List (List ℕ × List ℕ)} (old : List (List ℕ × List ℕ)) (rest front left : List ℕ)
+    (at : ℕ) →
+    new ≡ old ++ entry_pairs front → front ≡ take at rest → IsFirstByte (is_byte 0) rest (Some at) →
+    old ++ block_pairs rest ≡ whole → left ≡ drop (at + 1) rest → new ++ block_pairs left ≡ whole
+entry_added old rest front left at grown fronts first before lefts =
+    rw (grown, fronts, lefts, append_assoc, ← (cut_block rest at first)) before
 
 -- the last entry was added
 pub last_added : (old new whole : List (List ℕ × List ℕ)) (rest : List ℕ) → new ≡ old ++ entry_pairs rest →
     IsFirstByte (is_byte 0) rest None → old ++ block_pairs rest ≡ whole → new ≡ whole
-last_added old new whole rest grown none before =
-    grown ∙ ap (λ pairs. old ++ pairs) (sym (last_block rest none)) ∙ before
+last_added old new whole rest grown none before = rw (grown, ← (last_block rest none)) before
 
 -- a pair of good strings, with others that fit a block, fits a block
 pub more_fits : {A : Type 0} (name value : String A) (left rest : List (List ℕ × List ℕ)) →
@@ -92,13 +84,11 @@ pub more_fits : {A : Type 0} (name value : String A) (left rest : List (List ℕ
 more_fits name value left rest is named valued others =
     let name_utf8 = is_utf8-from_IsUtf8 (string_bytes name) (IsUtf8-string_bytes name) in
     let value_utf8 = is_utf8-from_IsUtf8 (string_bytes value) (IsUtf8-string_bytes value) in
-    ap (list_all is_block_pair) is ∙ rw (named, valued, name_utf8, value_utf8) others
+    rw (is, named, valued, name_utf8, value_utf8) others
 
 -- with one entry more in front of those that are left the block is the same
 pub one_more : (block grown whole : List ℕ) (name value : List ℕ) (left rest : List (List ℕ × List ℕ)) →
     left ≡ (name, value) ∷ rest → grown ≡ block ++ entry_of (name, value) →
     block ++ flat_map entry_of left ≡ whole → grown ++ flat_map entry_of rest ≡ whole
 one_more block grown whole name value left rest is added before =
-    ap (λ g. g ++ flat_map entry_of rest) added
-    ∙ append_assoc block (entry_of (name, value)) (flat_map entry_of rest)
-    ∙ ap (λ l. block ++ flat_map entry_of l) (sym is) ∙ before
+    rw (added, append_assoc block (entry_of (name, value)) (flat_map entry_of rest)) (rw is at before)

@@ -1,12 +1,11 @@
 -- What C is told says the items and the loads of the grammar.
-use Rattle.std.proofs.Common.{ℕ, ◌≡◌, ◌<◌, ◌^◌, List, [], ◌∷◌, length, refl, subst, ap, append-nil}
-use Rattle.std.specs.Prelude.{Some, None, Result, Ok, Err, unwrap_or}
+use Rattle.std.proofs.Common.{ℕ, ◌≡◌, ◌<◌, ◌^◌, List, [], ◌∷◌, length, refl, ap, append-nil}
+use Rattle.std.specs.Prelude.{Some, None, Result, Ok, Err}
 use Rattle.std.specs.declared.alloc.Global.{Global}
 use Rattle.std.specs.declared.io.ErrorKind.TheVariants.{Interrupted}
 use Rattle.std.proofs.lemmas.Option.{none-some}
 use Rattle.dotenvy.specs.Dialect.{Dialect}
 use Rattle.dotenvy.specs.Entries.{Entry, Failure, HasEntries, LineParse as said_line, Io as said_io, Nul as said_nul}
-use Rattle.dotenvy.specs.Entries.{Memory as said_memory}
 use Rattle.dotenvy.specs.Environment.{Texts}
 use Rattle.dotenvy.specs.Error.{Error}
 use Rattle.dotenvy.specs.Error.TheVariants.{LineParse, Io, EnvVar, Nul, Memory}
@@ -37,11 +36,8 @@ gives names s (first ∷ later) (t, tells, others) = (t, tells.next, gives names
 
 -- an error that is told is no refused memory
 pub not_refused_error : (error : Error Global) (told : Told) → error_told error ≡ Some told → ¬ (IsMemory error)
-not_refused_error (LineParse line place) told tells = λ h. h
-not_refused_error (Io fault) told tells = λ h. h
-not_refused_error (EnvVar e) told tells = λ h. h
-not_refused_error (Nul key) told tells = λ h. h
 not_refused_error (Memory e) told tells = λ h. none-some told tells
+not_refused_error error told tells = λ h. h
 
 -- nor is an item
 not_refused : (item : Item Global) (told : Told) → item_told item ≡ Some told → ¬ (IsMemoryErr item)
@@ -56,46 +52,38 @@ none_refused names s [] tells = tt
 none_refused names s (first ∷ later) (t, tells, others) =
     (not_refused tells.item first.0 tells.tells, none_refused names t later others)
 
+-- what is told is what is said to be told
+told_is : {one told : Told} → Some one ≡ Some told → one ≡ told
+told_is e = cc
+
 -- an error as it is told says the failure that the error says
 pub error_says : (error : Error Global) (told : Told) (said : Failure) → error_told error ≡ Some told →
     SaysItem {A = Global} (Err error) (Err said) → SaysTold told (Err said)
 error_says (LineParse line place) told (said_line text index) tells says =
-    subst (λ o. SaysTold o (Err (said_line text index))) (ap (λ o. unwrap_or o told) tells) (refl, refl, says.0, says.1)
-error_says (LineParse line place) told (said_io kind) tells says = absurd says
-error_says (LineParse line place) told (said_nul key) tells says = absurd says
-error_says (LineParse line place) told said_memory tells says = absurd says
-error_says (Io fault) told (said_line text index) tells says = absurd says
-error_says (Io fault) told (said_io kind) tells says =
-    subst (λ o. SaysTold o (Err (said_io kind))) (ap (λ o. unwrap_or o told) tells)
-    (ap kind_status says, refl, refl, refl)
-error_says (Io fault) told (said_nul key) tells says = absurd says
-error_says (Io fault) told said_memory tells says = absurd says
+    rw (← (told_is tells)) (refl, refl, says.0, says.1)
+error_says (Io fault) told (said_io kind) tells says = rw (← (told_is tells)) (ap kind_status says, refl, refl, refl)
+error_says (Nul text) told (said_nul key) tells says = rw (← (told_is tells)) (refl, refl, says, refl)
 error_says (EnvVar e) told said tells says = absurd (none-some told tells)
-error_says (Nul text) told (said_line line index) tells says = absurd says
-error_says (Nul text) told (said_io kind) tells says = absurd says
-error_says (Nul text) told (said_nul key) tells says =
-    subst (λ o. SaysTold o (Err (said_nul key))) (ap (λ o. unwrap_or o told) tells) (refl, refl, says, refl)
-error_says (Nul text) told said_memory tells says = absurd says
 error_says (Memory e) told said tells says = absurd (none-some told tells)
+error_says error told said tells says = absurd says
 
 -- an item as it is told says what the item says
 item_says : (item : Item Global) (told : Told) (said : Result (List ℕ × List ℕ) Failure) →
     item_told item ≡ Some told → SaysItem item said → SaysTold told said
-item_says (Ok pair) told (Ok (key, value)) tells says =
-    subst (λ o. SaysTold o (Ok (key, value))) (ap (λ o. unwrap_or o told) tells) (refl, says.0, says.1, refl)
-item_says (Ok pair) told (Err failure) tells says = absurd says
-item_says (Err error) told (Ok said) tells says = absurd says
+item_says (Ok pair) told (Ok (key, value)) tells says = rw (← (told_is tells)) (refl, says.0, says.1, refl)
 item_says (Err error) told (Err failure) tells says = error_says error told failure tells says
+item_says item told said tells says = absurd says
 
+-- all items as they are told say what the items say
 say_told : (names : Texts) (s : IterState) (told : List ToldItem) (tells : TellsItems names s told)
     (said : List (Result (List ℕ × List ℕ) Failure)) → SayItems (given_of names s told tells) said → SayTold told said
 unfolding given_of
 say_told names s [] tells [] says = tt
-say_told names s [] tells (one ∷ others) says = says
-say_told names s (first ∷ later) tells [] says = says
 say_told names s (first ∷ later) (t, tells, rest) (one ∷ others) says =
     (item_says tells.item first.0 one tells.tells says.0, say_told names t later rest others says.1)
+say_told names s told tells said says = says
 
+-- the items of a file, as they are told, say what its entries give
 pub tells_all_items : (dialect : Dialect) (file : List ℕ) (names : Texts) (entries : List Entry)
     (told : List ToldItem) → length file < 2 ^ 32 → HasEntries dialect file entries →
     TellsItems names (fresh_file file dialect) told → SayTold told (items (values_of names) entries)
@@ -105,6 +93,5 @@ tells_all_items dialect file names entries told few has tells =
     let readable : IsReadable a =
     record { few = few; not_interrupted = λ e. none-some Interrupted e } in
     say_told names state told tells (items (values_of names) entries)
-    (subst (λ es. SayItems (given_of names state told tells) (items (values_of names) es)) (append-nil entries)
-    (items_in_order dialect (file_told file) a names entries (given_of names state told tells) refl readable has
-    (gives names state told tells) (none_refused names state told tells)))
+    (rw append-nil at (items_in_order dialect (file_told file) a names entries (given_of names state told tells) refl
+    readable has (gives names state told tells) (none_refused names state told tells)))

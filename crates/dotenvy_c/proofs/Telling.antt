@@ -1,7 +1,8 @@
 -- The items that were told so far, and those of a whole file.
-use Rattle.std.proofs.Common.{ℕ, suc, ◌≡◌, ◌≤◌, ◌+◌, Bool, List, [], ◌∷◌, ◌++◌, length, refl, sym, subst, ap, ◌∙◌}
-use Rattle.std.proofs.Common.{length-append, append_assoc, append-nil, add_assoc, add-zero, zero-add}
+use Rattle.std.proofs.Common.{ℕ, ◌≡◌, ◌≤◌, ◌+◌, Bool, List, [], ◌∷◌, ◌++◌, length, refl, ap, ◌∙◌}
+use Rattle.std.proofs.Common.{length-append, append-nil, add_assoc, add-zero, zero-add}
 use Rattle.std.specs.Prelude.{Some, None, IsTrue, ◌↔◌}
+use Rattle.std.proofs.lemmas.Grind.{flat_map-append}
 use Rattle.std.specs.declared.alloc.Global.{Global}
 use Rattle.dotenvy.specs.Environment.{Texts}
 use Rattle.dotenvy.specs.Iter.{IterState}
@@ -31,35 +32,31 @@ pub record HasTaken (names : Texts) (s t : IterState) (records : Records) : Type
 -- one item more
 tells_more : (names : Texts) (s t u : IterState) (told : List ToldItem) (more : ToldItem) →
     TellsUpTo names s told t → TellsItem names t more u → TellsUpTo names s (told ++ more ∷ []) u
-tells_more names s t u [] more before next =
-    (u, subst (λ x. TellsItem names x more u) (sym before) next, refl)
+tells_more names s t u [] more before next = (u, rw before next, refl)
 tells_more names s t u (first ∷ told) more (x, is, before) next =
     (x, is, tells_more names x t u told more before next)
 
 -- and then none
 tells_all : (names : Texts) (s t u : IterState) (told : List ToldItem) → TellsUpTo names s told t →
     NextItem {A = Global} names t None u → TellsItems names s told
-tells_all names s t u [] before none = (u, subst (λ x. NextItem {A = Global} names x None u) (sym before) none)
+tells_all names s t u [] before none = (u, rw before none)
 tells_all names s t u (first ∷ told) (x, is, before) none = (x, is, tells_all names x t u told before none)
 
 -- the records with one more
 records_more : (at : ℕ) (told : List ToldItem) (more : ToldItem) →
     records_from at (told ++ more ∷ []) ≡ records_from at told ++ record_at (at + length (texts_of told)) more ∷ []
-records_more at [] more = ap (λ n. record_at n more ∷ []) (sym (add-zero at))
+records_more at [] more = rw add-zero refl
 records_more at (first ∷ told) more =
-    ap (λ rs. record_at at first ∷ rs)
-    (records_more (at + length (text_of first)) told more
-    ∙ ap (λ n. records_from (at + length (text_of first)) told ++ record_at n more ∷ [])
-    (sym (ap (λ n. at + n) (length-append (text_of first) (texts_of told))
-    ∙ sym (add_assoc at (length (text_of first)) (length (texts_of told))))))
+    rw (
+      records_more (at + length (text_of first)) told more,
+      length-append (text_of first) (texts_of told),
+      add_assoc at (length (text_of first)) (length (texts_of told)),
+    ) refl
 
 -- the texts with one more
 texts_more : (told : List ToldItem) (more : ToldItem) →
     texts_of (told ++ more ∷ []) ≡ texts_of told ++ text_of more
-texts_more [] more = append-nil (text_of more)
-texts_more (first ∷ told) more =
-    ap (λ t. text_of first ++ t) (texts_more told more)
-    ∙ sym (append_assoc (text_of first) (texts_of told) (text_of more))
+texts_more told more = simp (flat_map-append, append-nil)
 
 -- nothing was taken yet
 pub none_taken : (names : Texts) (s : IterState) (records : Records) → records.items.items ≡ [] →
@@ -76,15 +73,8 @@ one_taken {names = names} {s = s} {t = t} {u = u} {old = old} {item = item} {lin
       tells =
           tells_more names s t u before.told more before.tells
           (record { item = item; next = next; tells = adds.tells; lines = on });
-      items =
-          adds.adds.items
-          ∙ ap (λ rs. rs ++ record_at (length old.text.items) more ∷ []) before.items
-          ∙ ap (λ text. records_from 0 before.told ++ record_at (length text) more ∷ []) before.text
-          ∙ ap (λ n. records_from 0 before.told ++ record_at n more ∷ [])
-          (sym (zero-add (length (texts_of before.told))))
-          ∙ sym (records_more 0 before.told more);
-      text =
-          adds.adds.text ∙ ap (λ text. text ++ text_of more) before.text ∙ sym (texts_more before.told more);
+      items = rw (adds.adds.items, before.items, before.text, records_more 0 before.told more, zero-add) refl;
+      text = rw (adds.adds.text, before.text, texts_more before.told more) refl;
     }
 
 -- all were taken
@@ -100,7 +90,7 @@ all_taken {names = names} {s = s} {t = t} {u = u} before none = record {
 -- there are as many records as items
 length-records_from : (at : ℕ) (told : List ToldItem) → length (records_from at told) ≡ length told
 length-records_from at [] = refl
-length-records_from at (first ∷ told) = ap suc (length-records_from (at + length (text_of first)) told)
+length-records_from at (first ∷ told) = rw (length-records_from (at + length (text_of first)) told) refl
 
 -- records and texts, written where both fit, answer a call for items
 pub answered_items : {options : ℕ} {file block : List ℕ} {records : Records} →
@@ -119,10 +109,7 @@ answered_items {records = records} has fits count text_len old_items new_items o
       status = refl;
       items = counted ∙ size;
       text_len = measured ∙ ap length has.text;
-      fits =
-          subst (λ n. IsTrue fits ↔ ((n ≤ length old_items) × (length (texts_of has.told) ≤ length old))) size
-          (subst (λ t. IsTrue fits
-          ↔ ((length records.items.items ≤ length old_items) × (length t ≤ length old))) has.text wide);
-      records = items ∙ ap (λ rs. written_if fits rs old_items) has.items;
-      texts = texts ∙ ap (λ t. written_if fits t old) has.text;
+      fits = rw (size, has.text) at wide;
+      records = rw (← has.items) items;
+      texts = rw (← has.text) texts;
     }

@@ -10,8 +10,8 @@ ghost use Rattle.dotenvy_c.specs.Buffer.{written_if};
 ghost use Rattle.dotenvy_c.specs.Told.{told_of};
 
 use crate::block::environment_of;
-use crate::options::{DROP_MARK, NEXT_DIALECT, are_among, dialect_of, has_option};
 use crate::buffer::write_front;
+use crate::options::{DROP_MARK, NEXT_DIALECT, are_among, dialect_of, has_option};
 use crate::status::{BAD_OPTION, DONE, NO_MEMORY, Told, item_told};
 use dotenvy::{Bytes, Environment, Error, Iter, Result};
 use std::alloc::{AllocError, Global};

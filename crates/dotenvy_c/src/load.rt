@@ -9,8 +9,8 @@ ghost use Rattle.dotenvy_c.specs.Load.{AnswersLoad, IsLoaded, refusal};
 ghost use Rattle.dotenvy_c.specs.Buffer.{written_if};
 
 use crate::block::{block_of, environment_of};
-use crate::options::{NEXT_DIALECT, OVERRIDE, are_among, dialect_of, has_option};
 use crate::buffer::write_front;
+use crate::options::{NEXT_DIALECT, OVERRIDE, are_among, dialect_of, has_option};
 use crate::status::{BAD_OPTION, NO_MEMORY, outcome_told};
 use dotenvy::{Bytes, Environment, Error, Iter, Result};
 use std::alloc::{AllocError, Global};

@@ -7,10 +7,9 @@ use Rattle.dotenvy_c.proofs.block.pairs_in.Goals as goal
 
 pub entries-preserved : goal.entries-preserved
 entries-preserved c =
-    entry_added (text_entries c.entries.pairs.items) (text_entries c.add_entry.new.pairs.items)
-    (block_pairs c.args.block.now) c.entries.rest.now c.split_at.result.0.now c.split_at.result.1.now c.in-Some.at
-    c.in_ok-add_entry.ensures.ok c.split_at.ensures.front c.split_at.ensures.back c.in-Some.ensures
-    c.entries.invariant (take (length c.split_at.result.1.now - 1) (drop 1 c.split_at.result.1.now))
+    entry_added (text_entries c.entries.pairs.items) c.entries.rest.now c.split_at.result.0.now
+    (take (length c.split_at.result.1.now - 1) (drop 1 c.split_at.result.1.now)) c.in-Some.at
+    c.in_ok-add_entry.ensures.ok c.split_at.ensures.front c.in-Some.ensures c.entries.invariant
     (take_all _ _ (let e = length-drop 1 c.split_at.result.1.now in omega (arith, e))
     ∙ ap (drop 1) c.split_at.ensures.back ∙ drop-drop 1 c.in-Some.at c.entries.rest.now)
 
