@@ -55,13 +55,3 @@ pub good_entries : (env : Env) → IsEnvironment env → AreGood (entries env.na
 good_entries env good =
     all_good (entries env.names) (entries_sorted env.names)
     (λ name value found. good name value (get-entries env.names name ∙ found))
-
--- the first of good pairs has a good name
-pub first_is_good : (name value : List ℕ) (pairs : List (List ℕ × List ℕ)) → AreGood ((name, value) ∷ pairs) →
-    IsTrue (name_ok name)
-first_is_good name value pairs good = (and_parts _ _ (and_parts _ _ good).0).0
-
--- where pairs are good, so are those after the first
-pub others_are_good : (name value : List ℕ) (pairs : List (List ℕ × List ℕ)) → AreGood ((name, value) ∷ pairs) →
-    AreGood pairs
-others_are_good name value pairs good = (and_parts _ _ good).1

@@ -11,7 +11,8 @@ use Rattle.std.proofs.lemmas.Str.{length-encode, len_utf8_bounds}
 use Rattle.std.proofs.Math.Utf8.{encode, scalar, scalars}
 use Rattle.dotenvy_format.specs.PhysicalLines.{no_line_feed, physical_lines, onto_first, line_text, line_texts}
 use Rattle.dotenvy_format.specs.LogicalLine.{joined_text, with_text_before}
-use Rattle.dotenvy_format.proofs.Basics.{same_from, and_left, and_right}
+use Rattle.std.proofs.lemmas.Bool.{eqb-true}
+use Rattle.dotenvy_format.proofs.Basics.{and_left, and_right}
 
 -- where a character is no line feed and a test holds, so do both
 pub after_first : (c : ℕ) (w : Bool) → (not (c == 10) && w) ≡ true → ((c == 10) ≡ false) × (w ≡ true)
@@ -73,7 +74,7 @@ joined-texts (xs ∷ xss) = ap (with_text_before xs) (joined-texts xss)
 -- The lines of a text's bytes.
 -- a line feed is one byte, which is its code, before whatever bytes follow
 pub ten : (c : ℕ) (more : List ℕ) → (c == 10) ≡ true → encode c ++ more ≡ 10 ∷ more
-ten c more h = rw (same_from c 10 h, encode_ascii 10 (omega arith)) refl
+ten c more h = rw (eqb-true c 10 h, encode_ascii 10 (omega arith)) refl
 
 -- a character has a byte
 pub encode_some : (c : ℕ) → 0 < length (encode c)

@@ -16,7 +16,7 @@ use Rattle.dotenvy_format.specs.LogicalLine.{Logical, Skip, Text, Open, Broken, 
 use Rattle.dotenvy_format.specs.declared.walk.LineMode.{LineMode}
 use Rattle.dotenvy_format.specs.declared.walk.LineMode.TheVariants.{Outside}
 use Rattle.dotenvy_format.specs.inside.Walk.{going, ended, walk}
-use Rattle.dotenvy_format.proofs.Basics.{same_from}
+use Rattle.std.proofs.lemmas.Bool.{eqb-true}
 use Rattle.dotenvy_format.proofs.lines.Cuts.{after_first}
 use Rattle.dotenvy_format.proofs.lines.Splitting.{IsGoing, onward, walk-append, tokens_going, whole_walks}
 use Rattle.dotenvy_format.proofs.lines.Splitting.{outside_tokens, going_start, going_more}
@@ -82,7 +82,7 @@ ends_join s (c ∷ t) h = ends_line-append s c t ∙ h
 no_line_feed : (test : ℕ → Bool) (c : ℕ) → test c ≡ true → test line_feed ≡ false → (c == line_feed) ≡ false
 no_line_feed test c h k =
     (elim (c == line_feed) as (λ b. (c == line_feed) ≡ b → b ≡ false) [
-      | true ↦ λ e. let f = same_from c line_feed e in cc
+      | true ↦ λ e. let f = eqb-true c line_feed e in cc
       | false ↦ λ e. refl
     ]) refl
 

@@ -11,7 +11,7 @@ use Rattle.dotenvy_format.specs.Outcome.{Outcome, Nothing, Pair, Fault, is_nothi
 use Rattle.dotenvy_format.specs.Outcome.{HasNoValue}
 use Rattle.dotenvy_format.specs.inside.ParseStatement.{Parsed, parse}
 use Rattle.dotenvy_format.specs.inside.ReadValue.{ValueReading, read_value, value_reach, base}
-use Rattle.dotenvy_format.proofs.Basics.{not_is}
+use Rattle.std.proofs.lemmas.Bool.{not-true}
 use Rattle.dotenvy_format.proofs.statements.Statements.{statement-parses}
 use Rattle.dotenvy_format.proofs.statements.StatementPlaces.{by_test, parse-statement, parse-fault, statement_fronts}
 use Rattle.dotenvy_format.proofs.values.Values.{read-value, value-read, no_value}
@@ -75,9 +75,9 @@ outcome_of-is dialect line =
 says_only : (dialect : Dialect) (line : List ℕ) (a : Outcome) → Says dialect line a → a ≡ outcome_of dialect line
 says_only dialect line Nothing h = rw h
 says_only dialect line (Pair key pieces) (some, rest, is, inl (empty, none)) =
-    rw (not_is _ some, statement-parses is, empty, none)
+    rw (not-true _ some, statement-parses is, empty, none)
 says_only dialect line (Pair key pieces) (some, rest, is, inr (assigned, value)) =
-    rw (not_is _ some, statement-parses is, not_is _ assigned, read-value dialect rest pieces value)
+    rw (not-true _ some, statement-parses is, not-true _ assigned, read-value dialect rest pieces value)
 says_only dialect line (Fault text index) (some, inl fault) = at (parse (trimmed line)) refl
   where
     at : (r : Parsed) → parse (trimmed line) ≡ r → Fault text index ≡ outcome_of dialect line
@@ -85,7 +85,7 @@ says_only dialect line (Fault text index) (some, inl fault) = at (parse (trimmed
     at (Err left) e =
         let other = parse-fault (trimmed line) left e in
         rw (
-          not_is _ some,
+          not-true _ some,
           e,
           front_length (trimmed line) other.1 left other.2,
           fault.line_is,
@@ -99,9 +99,9 @@ says_only dialect line (Fault text index) (some, inr (key, is, fault)) =
     at (Some pieces) e = absurd (fault.none pieces (value-read dialect text pieces e))
     at None e =
         rw (
-          not_is _ some,
+          not-true _ some,
           statement-parses is,
-          not_is _ fault.assigned,
+          not-true _ fault.assigned,
           e,
           fault.index_is,
           one_place (BeginsValue dialect) (value_fronts dialect) text fault.place _ fault.is_place

@@ -6,10 +6,9 @@ use Rattle.std.specs.List.{list_all}
 use Rattle.std.specs.Str.{chars, IsUtf8, trim_start, trim_end, skip_leading_whitespace}
 use Rattle.std.specs.Str.{drop_trailing_whitespace, encode_utf8_all, all_scalars}
 use Rattle.std.proofs.lemmas.Str.{chars-encodes, scalars-chars, encodes-chars}
-use Rattle.std.proofs.lemmas.Bool.{and_parts, and_from, cond_both}
+use Rattle.std.proofs.lemmas.Bool.{and_parts, and_from, cond_both, not-true}
 use Rattle.std.proofs.lemmas.Bool.Decides.{same_from_decides, Decides-like}
 use Rattle.std.proofs.lemmas.Slice.Eq.{bytes_eq-Decides}
-use Rattle.dotenvy_format.proofs.Basics.{not_is}
 use Rattle.dotenvy_format.specs.Characters.{begins_key, continues_key, begins_passing}
 use lib.Utf8.{scalar, encode}
 use Rattle.dotenvy_format.specs.inside.Slices.{IsSpan}
@@ -21,7 +20,7 @@ pub run_is : (passes : ℕ → Bool) (front rest : List ℕ) → list_all passes
     not (begins_passing passes rest) ≡ true →
     (run passes (front ++ rest) ≡ front) × (after_run passes (front ++ rest) ≡ rest)
 run_is passes [] [] h longest = (refl, refl)
-run_is passes [] (c ∷ rest) h longest = (rw (not_is (passes c) longest) refl, rw (not_is (passes c) longest) refl)
+run_is passes [] (c ∷ rest) h longest = (rw (not-true (passes c) longest) refl, rw (not-true (passes c) longest) refl)
 run_is passes (c ∷ front) rest h longest =
     let here = and_parts (passes c) (list_all passes front) h in
     let later = run_is passes front rest here.1 longest in (rw (here.0, later.0) refl, rw (here.0, later.1) refl)

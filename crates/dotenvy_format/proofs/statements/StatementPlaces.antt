@@ -6,7 +6,7 @@ use Rattle.std.specs.Char.{is_whitespace, is_ascii}
 use Rattle.std.specs.List.{list_all}
 use Rattle.std.specs.Str.{skip_leading_whitespace}
 use Rattle.std.specs.Cmp.Lexicographic.{same_text}
-use Rattle.std.proofs.lemmas.Bool.{and_from, cases_Bool}
+use Rattle.std.proofs.lemmas.Bool.{and_from, cases_Bool, eqb-true}
 use Rattle.std.proofs.lemmas.List.{append-nil}
 use Rattle.std.proofs.Math.Seq.{take-append_seam}
 use Rattle.dotenvy_format.specs.Characters.{begins_key, continues_key, equals_sign, begins_passing, begins_with}
@@ -16,7 +16,6 @@ use Rattle.dotenvy_format.specs.Places.{BeginsStatement, IsPlace}
 use Rattle.dotenvy_format.specs.inside.Slices.{IsSpan}
 use Rattle.dotenvy_format.specs.inside.ParseStatement.{◌>>=◌, split_key, export, Parsed, run, after_run, after_key}
 use Rattle.dotenvy_format.specs.inside.ParseStatement.{after_prefix, after_first_key, parse}
-use Rattle.dotenvy_format.proofs.Basics.{same_from}
 use Rattle.dotenvy_format.proofs.KeyCharacters.{key_begins_continues}
 use Rattle.dotenvy_format.proofs.statements.Statements.{IsCut, cut_splits, skip_is, skip_white, equals_cut, parse_cut}
 use Rattle.dotenvy_format.proofs.statements.Statements.{no_equals_first, after_word, after_equals, statement-parses}
@@ -134,7 +133,7 @@ stop {text} {key} start cut fails = record {
 -- a text that begins with `=` is that and what follows
 equals_text : (text : List ℕ) → begins_with equals_sign text ≡ true → (cs : List ℕ) × (text ≡ equals_sign ∷ cs)
 equals_text [] h = cc
-equals_text (c ∷ cs) h = (cs, (let is = same_from c equals_sign h in cc))
+equals_text (c ∷ cs) h = (cs, (let is = eqb-true c equals_sign h in cc))
 
 -- what is parsed of a text that begins a key is right, if it is where no `=` comes behind the key
 word_right : (start : Start) (text : List ℕ) → begins_passing begins_key text ≡ true →

@@ -17,7 +17,7 @@ use Rattle.dotenvy_format.specs.inside.ReadValue.{in_comment, ValueReading, Valu
 use Rattle.dotenvy_format.specs.inside.ReadValue.{value_goes, value_at_end, read_after, read_value}
 use Rattle.dotenvy_format.specs.inside.ReadValue.{value_reach_after, value_reach}
 use Rattle.dotenvy_format.specs.inside.NextPiece.{IsReadTo, StopsAt}
-use Rattle.dotenvy_format.proofs.Basics.{same_from}
+use Rattle.std.proofs.lemmas.Bool.{eqb-true}
 use Rattle.dotenvy_format.proofs.bytes.NameCharacters.{dollar_no_name, brace_no_name, quote_no_name}
 
 -- pieces given before others that are given are both given, in order
@@ -186,7 +186,7 @@ in_comment_read dialect (c ∷ cs) = rw (in_comment_read dialect cs)
 pub comment_read : (dialect : Dialect) (comment : List ℕ) → is_empty_or_comment comment ≡ true →
     read_value dialect comment in_tail ≡ Some []
 comment_read dialect [] h = refl
-comment_read dialect (c ∷ cs) h = rw (same_from c hash h, in_comment_read dialect cs)
+comment_read dialect (c ∷ cs) h = rw (eqb-true c hash h, in_comment_read dialect cs)
 
 -- the characters of a text, each as a separate text
 abbrev pub each_text : List ℕ → List Piece

@@ -26,7 +26,7 @@ use Rattle.dotenvy_format.specs.inside.ReadValue.{ValueStep, given, is_brace_fir
 use Rattle.dotenvy_format.specs.inside.ReadValue.{goes_base, with_pieces, value_goes}
 use Rattle.dotenvy_format.specs.inside.ReadValue.{value_at_end, read_after, read_value}
 use Rattle.dotenvy_format.specs.inside.NextPiece.{IsReadTo, other_quoting}
-use Rattle.dotenvy_format.proofs.Basics.{same_from}
+use Rattle.std.proofs.lemmas.Bool.{eqb-true}
 use Rattle.std.proofs.lemmas.List.Folds.{list_all-append}
 pub use Rattle.dotenvy_format.proofs.values.Readings.{given-given}
 use Rattle.dotenvy_format.proofs.values.Readings.{one, none_read, read_then, plain_goes, escape_begun, name_begun}
@@ -245,7 +245,7 @@ leads dialect (escaping q) c ok =
     (λ is. (tt, λ cs qs h. part_first dialect q (escape c) cs qs is h)) (λ is. tt)
 leads dialect (in_single inner) c ok =
     by_test (Leads dialect (in_single inner) c) (c == single_quote)
-    (λ is. (tt, λ cs qs h. rw (same_from c single_quote is) (rw append_assoc at (segment_first (single inner) ok h))))
+    (λ is. (tt, λ cs qs h. rw (eqb-true c single_quote is) (rw append_assoc at (segment_first (single inner) ok h))))
     (λ is. (rw (list_all-append, ok, is), λ cs qs h. rw append_assoc at h))
 leads dialect (naming q name) c ok =
     by_test (Leads dialect (naming q name) c) (is_name_character dialect c)
@@ -263,7 +263,7 @@ leads dialect (bracing q name) c ok =
     by_test (Leads dialect (bracing q name) c) (c == right_brace)
     (λ is. (
       tt,
-      λ cs qs h. rw (same_from c right_brace is)
+      λ cs qs h. rw (eqb-true c right_brace is)
           (rw append_assoc at (part_first dialect q (braced name) cs qs ok h)),
     ))
     (λ is. (rw (list_all-append, ok, is), λ cs qs h. rw append_assoc at h))
