@@ -112,10 +112,10 @@ pub moves_on : (a : Ahead) (s t v : InputState) (used more left later : List ℕ
 moves_on a s t v used more left later first next = moves_both first next
 
 -- a wait behind some steps leaves what these used as it is
-pub moves_still : (a : Ahead) (s t v : InputState) (used left : List ℕ) → Moves a s used left t →
+pub moves_still : {a : Ahead} {s t : InputState} {used left : List ℕ} (v : InputState) → Moves a s used left t →
     v.left ≡ Some (ahead_of left a.fault) → ReadsFit (ahead_of left a.fault) t (ahead_of left a.fault) v →
     Moves a s used left v
-moves_still a s t v used left first is_left fits =
+moves_still v first is_left fits =
     record { joins = first.joins; is_left = is_left; reads = omega arith }
 
 -- where it was told what is left, it is told what is left behind what was used of it
@@ -127,7 +127,7 @@ told_behind told moves = (moves.is_left, told.1)
 pub moves_read : {a : Ahead} {s t v : InputState} {used left : List ℕ} → IsTold s.left a → Moves a s used left t →
     ((b : Ahead) → IsTold t.left b → (v.left ≡ Some b) × ReadsFit b t b v) → Moves a s used left v
 moves_read told moves more =
-    let m = more _ (told_behind told moves) in moves_still _ _ _ _ _ _ moves m.0 m.1
+    let m = more _ (told_behind told moves) in moves_still _ moves m.0 m.1
 
 -- where a fact of each fault makes another, refused memory or such a fault is that or one of the other
 io_weaker : {A : Type 0} (P Q : IoError → Type 0) (e : Error A) → ((x : IoError) → P x → Q x) →

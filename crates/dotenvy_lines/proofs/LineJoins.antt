@@ -46,7 +46,7 @@ use Rattle.dotenvy_format.proofs.lines.Splitting.{IsGoing, going_start, walk-is}
 use Rattle.dotenvy_format.proofs.lines.SplitLines.{line_is_one, at_end, next-skip}
 use Rattle.dotenvy_format.proofs.lines.SplitLines.{next-text, next-open, next-broken, concat_more, lines_more}
 use Rattle.dotenvy_lines.proofs.NumberedLines.{counts_one, counts_none}
-use Rattle.dotenvy_lines.proofs.Inputs.{ahead_of, moves_none, moves_on, moves_still, final_before}
+use Rattle.dotenvy_lines.proofs.Inputs.{ahead_of, moves_none, moves_both, moves_still, final_before}
 use Rattle.dotenvy_lines.proofs.LineEntries.{no_lines}
 
 -- up to their last line feed, a line with its line feed and more bytes are that line and what those have
@@ -125,9 +125,7 @@ took_more {a} {s} {t} {v} {u} {before} {now} {after} {texts} {line} k waits some
     let x = line_text line in record {
       used = k.used ++ line;
       left = l.left;
-      moves =
-          moves_on a s v u k.used line k.left l.left (moves_still a s t v k.used k.left k.moves waits.left waits.fits)
-          l.moves;
+      moves = moves_both (moves_still v k.moves waits.left waits.fits) l.moves;
       rest = rw (drop_more texts x (physical_lines a.bytes), ← k.rest, e.0);
       lines = rw (append_assoc texts (x ∷ []) (whole_lines (ahead_of l.left a.fault)), ← e.1) k.lines;
       ends = elim l.is_line [
@@ -354,7 +352,7 @@ joining_finish {a} {s} {t} {v} (c ∷ text) m u j waits end =
     let cut = rw all at (cut_line_texts (whole_before a.fault a.bytes)) in
     let is_next =
     at_end j.taken m some cut (λ h. begun (j.shown [] (rw append-nil h))) (rw j.joined at j.is_going) in
-    let moves = moves_still a s t v k.used k.left k.moves waits.left waits.fits in
+    let moves = moves_still v k.moves waits.left waits.fits in
     let next =
     taken_next {next = at_input_end m (chars (c ∷ text))} k moves some
     (rw (all, j.joined, length-map j.taken Some) is_next) (λ h. end.0) (inl end) in
@@ -395,11 +393,11 @@ pub joining_fails : {A : Type 0} {P : List ℕ → Type 0} {a : Ahead} {s t v : 
     {seen : List ℕ} {m : LineMode} (u : InputState) (e : Error A) (j : Joining a s before seen m t now) →
     Waits (rest_of j) t v → ((bytes : List ℕ) → P bytes → no_line_feed bytes ≡ true) →
     IsFinal (rest_of j) v P e u → IsFinal a s IsUndecided e u
-joining_fails {P = P} {a = a} {s = s} {t = t} {v = v} u e j waits feeds fails =
+joining_fails {P = P} {a = a} {s = s} {v = v} u e j waits feeds fails =
     let k = j.took in
     let fits = waits.fits in
-    final_before a s v u P IsUndecided k.used k.left e k.moves.joins
-    (moves_still a s t v k.used k.left k.moves waits.left fits).reads
+    let waited = moves_still v k.moves waits.left fits in
+    final_before a s v u P IsUndecided k.used k.left e waited.joins waited.reads
     (λ kind front later cut why none. undecided j front (feeds front none)
     (elim k.ends [
       | inr always ↦ always

@@ -4,6 +4,7 @@ use Rattle.std.proofs.Common.{append_assoc, None, arith}
 use Rattle.std.specs.Prelude.{◌==◌}
 use Rattle.std.specs.Char.{is_whitespace}
 use Rattle.std.specs.Str.{skip_leading_whitespace}
+use Rattle.std.proofs.lemmas.Bool.{eqb-true}
 use Rattle.std.proofs.lemmas.Bool.Decides.{nat_tests}
 use Rattle.dotenvy_format.specs.declared.walk.LineMode.{LineMode}
 use Rattle.dotenvy_lines.specs.declared.physical_line.Progress.{Progress}
@@ -12,7 +13,6 @@ use Rattle.dotenvy_format.specs.Characters.{begins_with, hash, line_feed}
 use Rattle.dotenvy_format.specs.PhysicalLines.{no_line_feed}
 use Rattle.dotenvy_format.specs.inside.Walk.{going, ended, walk, leads}
 use Rattle.dotenvy_lines.specs.inside.TakenLine.{IsNoComment, Walks, WalksOn, WalksFrom, still_blank}
-use Rattle.dotenvy_format.proofs.Basics.{same_from}
 use Rattle.dotenvy_format.proofs.lines.LineTexts.{walk-more}
 use Rattle.dotenvy_lines.proofs.Inputs.{none_parts}
 
@@ -76,7 +76,8 @@ begins-other {mode = mode} piece new q w other =
 
 -- white space other than a line feed ends no line
 blank_leads : (m : LineMode) (c : ℕ) → is_whitespace c ≡ true → (c == line_feed) ≡ false → leads m c ≢ None
-blank_leads m c white other = λ e. let hash_is = same_from c hash in grind (arith, nat_tests, hash_is)
+blank_leads m c white other = λ e.
+    let hash_is : (c == hash) ≡ true → c ≡ hash = eqb-true c hash in grind (arith, nat_tests, hash_is)
 
 -- a line whose characters are white space ends with its line feed alone
 pub blank-ends : (m : LineMode) (seen xs text : List ℕ) → skip_leading_whitespace xs ≡ [] →

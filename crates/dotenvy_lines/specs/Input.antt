@@ -45,9 +45,17 @@ input_code =
 abbrev pub IsTold : Option Ahead → Ahead → Type 0
 IsTold left a = (left ≡ Some a) × (a.fault ≢ Some Interrupted)
 
+-- the most bytes that one read asks for
+abbrev pub most_bytes : ℕ
+most_bytes = 8192
+
+-- the most reads that one iterator makes
+abbrev pub most_reads : ℕ
+most_reads = 2 ^ 32
+
 -- the measure of loops over an input: it falls with each read, and with each byte that is used
 abbrev pub input_measure : InputState → ℕ
-input_measure s = s.reads * 8193 + s.unread
+input_measure s = s.reads * (most_bytes + 1) + s.unread
 
 -- 1 where the end was read
 abbrev pub end_reads : Bool → ℕ
@@ -98,11 +106,11 @@ DropsMark a s (Ok _) t =
 DropsMark a s (Err e) t = IsFinal a s (λ bytes. begins_mark bytes ≡ true) e t
 
 -- the reads that were made on the way from s to t: each counts, also one that was interrupted; each
--- asks for 8,192 bytes at most; none follows the end, or a fault that is no interruption; and the
+-- asks for `most_bytes` at most; none follows the end, or a fault that is no interruption; and the
 -- end is met by a read that gave no byte, and by nothing else
 pub record MakesReads (s t : InputState) (made : List Call) : Type 0 where
   pub counted : length made + t.reads ≡ s.reads
-  pub small : AllByRecursion (λ call. call.len ≤ 8192) made
+  pub small : AllByRecursion (λ call. call.len ≤ most_bytes) made
   pub in_turn : OnlyLastEnds made
   pub ended : s.at_end ≡ true → (made ≡ []) × (t.at_end ≡ true)
   pub meets_end : s.at_end ≡ false → t.at_end ≡ true → LastMovesNone made
@@ -119,11 +127,11 @@ TellsReads goes_on s t =
 abbrev pub AsksReads : Type 0 → InputState → InputState → Type 0
 AsksReads goes_on s t = (t.references ≡ s.references) × TellsReads goes_on s t
 
--- reads that one iterator makes: not more than 2^32, each for 8,192 bytes at most, and none after
+-- reads that one iterator makes: at most `most_reads`, each for at most `most_bytes`, and none after
 -- the end, or after a fault that is no interruption
 pub record AreReads (made : List Call) : Type 0 where
-  pub few : length made ≤ 2 ^ 32
-  pub small : AllByRecursion (λ call. call.len ≤ 8192) made
+  pub few : length made ≤ most_reads
+  pub small : AllByRecursion (λ call. call.len ≤ most_bytes) made
   pub in_turn : OnlyLastEnds made
 
 -- between what a source told and what it tells now, one iterator made reads of it, and no one else

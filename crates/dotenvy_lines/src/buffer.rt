@@ -2,6 +2,7 @@
 
 ghost use Rattle.std.specs.Prelude.{◌≡◌, ◌≤◌, ◌<◌, ◌==◌, IfErr, IfOk, [], length, drop};
 ghost use Rattle.dotenvy_base.specs.Errors.{IsMemory};
+ghost use Rattle.dotenvy_lines.specs.Input.{most_bytes};
 ghost use Rattle.dotenvy_lines.specs.inside.Buffer.{Fills};
 
 use dotenvy_base::errors::Result;
@@ -23,12 +24,13 @@ pub struct Buffer<A: Allocator> {
 
 impl<A: Allocator> Model for Buffer<A> {
     ghost use Rattle.std.specs.Prelude.{ℕ, List, ◌≡◌, ◌≤◌, ◌-◌, take, drop, vec_len};
+    ghost use Rattle.dotenvy_lines.specs.Input.{most_bytes};
 
     ghost Value = { List ℕ };
 
     ghost view = { λ s. take (s.filled - s.used) (drop s.used s.bytes.items) };
 
-    ghost invariant = { λ s. (s.used ≤ s.filled) × (s.filled ≤ 8192) × (vec_len s.bytes ≡ 8192) };
+    ghost invariant = { λ s. (s.used ≤ s.filled) × (s.filled ≤ most_bytes) × (vec_len s.bytes ≡ most_bytes) };
 }
 
 impl<A: Allocator> Buffer<A> {
@@ -61,7 +63,7 @@ impl<A: Allocator> Buffer<A> {
     /// The bytes that were read and are not used yet.
     pub fn unread(&self) -> &[u8]
         ensures bytes { result.now ≡ self.now }
-        ensures bound { length self.now ≤ 8192 }
+        ensures bound { length self.now ≤ most_bytes }
     {
         &self.bytes[self.used..self.filled]
     }
@@ -78,7 +80,7 @@ impl<A: Allocator> Buffer<A> {
     ///
     /// The unread bytes move to the start of the buffer first, and the read asks for as many bytes as fit after them.
     pub fn read_from<R: Source>(&mut self, reader: &mut R) -> io::Result<usize>
-        requires { length self.old < 8192 }
+        requires { length self.old < most_bytes }
         ensures { Fills (R.told reader.old) self.old result (R.told reader.new) self.new }
     {
         self.bytes.copy_within(self.used..self.filled, 0);

@@ -1,11 +1,11 @@
 //! The bytes of a source, one physical line at a time.
 
-ghost use Rattle.std.specs.Prelude.{[], ◌≡◌, ◌≤◌, ◌<◌, ◌+◌, ◌==◌, ◌⊎◌, true, false, Some, None, IfOk, IsOk, IsTrue, ◌↔◌, OnOk, MatchOption, MatchBool, position, nat_eq, length, take, drop, vec_len};
+ghost use Rattle.std.specs.Prelude.{[], ◌≡◌, ◌≤◌, ◌<◌, ◌+◌, ◌==◌, true, false, Some, None, IfOk, IsOk, IsTrue, ◌↔◌, OnOk, MatchOption, position, nat_eq, length, take, drop};
 ghost use Rattle.std.specs.IoError.{error_kind};
 ghost use Rattle.dotenvy_base.specs.Source.{Ahead};
-ghost use Rattle.dotenvy_lines.specs.Input.{input_measure, begins_mark, DropsMark, AsksReads};
+ghost use Rattle.dotenvy_lines.specs.Input.{most_bytes, input_measure, DropsMark, AsksReads};
 ghost use Rattle.dotenvy_lines.specs.Lines.{fresh_lines};
-ghost use Rattle.dotenvy_lines.specs.inside.InputSteps.{WhereTold, ReadsOnce, IsAllRead, used_up, IsLinePiece, ReadsMore, FindsMore, MovesLine, SkipsLine, AsksOnce};
+ghost use Rattle.dotenvy_lines.specs.inside.InputSteps.{WhereTold, ReadsOnce, IsAllRead, used_up, IsLinePiece, ReadsMore, FindsMore, MovesLine, SkipsLine, MarkIsUndecided, AsksOnce};
 ghost use Rattle.std.specs.List.{starts_with};
 ghost use Rattle.dotenvy_format.specs.PhysicalLines.{is_whole_line, no_line_feed};
 ghost use Rattle.dotenvy_format.specs.Marks.{byte_order_mark};
@@ -174,8 +174,8 @@ fn whole_line_len(bytes: &[u8]) -> Option<usize>
 
 // One read: appends what it gives, and answers whether it met the end. An interrupted read gives nothing.
 fn read_once<R: Source, A: Allocator>(reader: &mut R, buffer: &mut Buffer<A>) -> Result<bool, A>
-    requires { length buffer.old < 8192 }
-    ensures bound { length buffer.new ≤ 8192 }
+    requires { length buffer.old < most_bytes }
+    ensures bound { length buffer.new ≤ most_bytes }
     ensures grows { length buffer.old ≤ length buffer.new }
     ensures told { WhereTold (R.told reader.old).ahead
         (λ a. ReadsOnce a buffer.old result (R.told reader.new).ahead buffer.new) }
@@ -196,7 +196,7 @@ fn read_once<R: Source, A: Allocator>(reader: &mut R, buffer: &mut Buffer<A>) ->
 impl<R: Source, A: Allocator> Input<R, A> {
     /// Reads once. A read that is interrupted counts too. Past the bound on reads the error is `Io` of kind Other.
     pub fn read_more(&mut self) -> Result<(), A>
-        requires unread { self.old.unread < 8192 }
+        requires unread { self.old.unread < most_bytes }
         requires unended { self.old.at_end ≡ false }
         ensures falls { OnOk result (input_measure self.new < input_measure self.old) }
         ensures grows { self.old.unread ≤ self.new.unread }
@@ -269,10 +269,7 @@ impl<R: Source, A: Allocator> Input<R, A> {
 
     // Whether a byte order mark may stand next, and more has to be read to know.
     fn is_undecided(&self) -> bool
-        ensures told { (a : Ahead) → self.now.left ≡ Some a →
-            MatchBool result
-            ((self.now.at_end ≡ false) × (begins_mark (take self.now.unread a.bytes) ≡ true))
-            (IsAllRead a self.now.unread ⊎ (begins_mark (take self.now.unread a.bytes) ≡ false)) }
+        ensures told { (a : Ahead) → self.now.left ≡ Some a → MarkIsUndecided a self.now result }
         ensures unended { result ≡ true → self.now.at_end ≡ false }
         ensures short { result ≡ true → self.now.unread < 3 }
     {

@@ -1,10 +1,10 @@
 //! The logical lines of a source: physical lines, joined where a quote stays open.
 
-ghost use Rattle.std.specs.Prelude.{◌≡◌, ◌≢◌, ◌≤◌, ◌<◌, ◌^◌, ◌⊎◌, None, Ok, IfOk, IfErr, IsOk, OnOk, OnErr, IfSome, IsSome, IsTrue, ◌↔◌, length, string_bytes};
+ghost use Rattle.std.specs.Prelude.{◌≡◌, ◌≢◌, ◌≤◌, ◌<◌, ◌⊎◌, None, Ok, IfOk, IfErr, IsOk, OnOk, OnErr, IfSome, IsSome, IsTrue, ◌↔◌, length, string_bytes};
 ghost use Rattle.std.specs.Str.{chars};
 ghost use Rattle.std.specs.IoError.{error_kind};
 ghost use Rattle.dotenvy_base.specs.Errors.{IsIoOf, IsLineParseOf, IsMemory, IsMemoryErr};
-ghost use Rattle.dotenvy_lines.specs.Input.{AsksReads, DropsMark};
+ghost use Rattle.dotenvy_lines.specs.Input.{most_reads, AsksReads, DropsMark};
 ghost use Rattle.dotenvy_lines.specs.inside.InputSteps.{WhereTold};
 ghost use Rattle.dotenvy_lines.specs.Lines.{lines_measure, WhereOpen, fresh_lines};
 ghost use Rattle.dotenvy_lines.specs.inside.NextLine.{AdvanceIs, outcome_of, given_text};
@@ -195,7 +195,7 @@ impl<R: Source, A: Allocator + Clone> Splitter<R, A> {
     where
         R: Drop,
         ensures ok { IfOk result
-            (λ s. s.lines ≡ fresh_lines (R.told reader) (2 ^ 32)) }
+            (λ s. s.lines ≡ fresh_lines (R.told reader) most_reads) }
         ensures memory { IfErr result IsMemory }
     {
         Splitter::with_limit(alloc, reader, READ_LIMIT)

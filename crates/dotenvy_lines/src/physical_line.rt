@@ -1,16 +1,13 @@
 //! One physical line, in the pieces in which it is read, as a part of a logical line.
 
-ghost use Rattle.std.specs.Prelude.{◌≡◌, ◌≤◌, ◌<◌, ◌++◌, true, ℕ, List, [], IfOk, IfErr, IsOk, OnOk, length, string_bytes};
-ghost use Rattle.std.specs.Str.{chars, skip_leading_whitespace};
-ghost use Rattle.dotenvy_base.specs.Source.{Ahead};
-ghost use Rattle.dotenvy_format.specs.Characters.{begins_with, hash};
-ghost use Rattle.dotenvy_format.specs.PhysicalLines.{no_line_feed};
+ghost use Rattle.std.specs.Prelude.{◌≡◌, ◌≤◌, ◌<◌, ◌++◌, IfOk, IfErr, IsOk, OnOk, string_bytes};
+ghost use Rattle.std.specs.Str.{chars};
 ghost use Rattle.dotenvy_format.specs.LogicalLine.{without_carriage_return};
 ghost use Rattle.dotenvy_format.specs.inside.Walk.{kept_before};
 ghost use Rattle.dotenvy_base.specs.Errors.{IsMemory};
 ghost use Rattle.dotenvy_lines.specs.Input.{AsksReads, input_measure};
 ghost use Rattle.dotenvy_lines.specs.inside.InputSteps.{WhereTold};
-ghost use Rattle.dotenvy_lines.specs.inside.TakenLine.{IsTextFront, PieceFalls, TakesLineOn, TakesPiece, WalksFrom, WalksOn, after_text, at_line_end, starting, still_blank};
+ghost use Rattle.dotenvy_lines.specs.inside.TakenLine.{IsTextFront, PieceFalls, TakesLineOn, TakesPieceOn, WalksFrom, WalksOn, after_text, at_line_end, starting, still_blank};
 
 use crate::input::Input;
 use dotenvy_base::errors::Result;
@@ -181,12 +178,8 @@ fn take_piece<R: Source, A: Allocator>(
 ) -> Result<Step, A>
     ensures measure { input_measure input.new ≤ input_measure input.old }
     ensures falls { IfOk result (λ step. PieceFalls input.old step.after input.new) }
-    ensures told { IfOk result (λ step.
-        (a : Ahead) → input.old.left ≡ Some a →
-        (piece : List ℕ)
-        × TakesPiece a input.old piece step.after input.new
-        × WalksOn progress (chars (string_bytes text.old)) (chars piece)
-        (chars (string_bytes text.new)) step.progress) }
+    ensures told { IfOk result (λ step. TakesPieceOn progress (chars (string_bytes text.old))
+        input.old step.progress step.after (chars (string_bytes text.new)) input.new) }
     ensures memory { IfErr result IsMemory }
     ensures asks { AsksReads (Unit {0}) input.old input.new }
 {

@@ -1,5 +1,6 @@
 -- What one step of reading does to an input.
-use Rattle.dotenvy_lines.specs.Input.{InputState, IsTold, end_reads, ReadsFit, IsFinal, Moves}
+use Rattle.dotenvy_lines.specs.Input.{InputState, IsTold, begins_mark, end_reads, most_bytes}
+use Rattle.dotenvy_lines.specs.Input.{ReadsFit, IsFinal, Moves}
 use Rattle.std.specs.Prelude.{ℕ, ◌≡◌, ◌+◌, ◌-◌, ◌≤◌, ◌<◌, ◌⊎◌, Bool, true, false, List, [], ◌∷◌}
 use Rattle.std.specs.Prelude.{◌++◌, length, take, drop, Option, Some, None, Result, Ok, Err}
 use Rattle.std.specs.Prelude.{MatchBool}
@@ -104,12 +105,19 @@ abbrev pub SkipsLine : {A : Type 0} → Ahead → InputState → Result (Unit {0
 SkipsLine a s (Ok _) t = (line : List ℕ) × TakesLine a s line t
 SkipsLine a s (Err e) t = IsFinal a s (λ bytes. no_line_feed bytes ≡ true) e t
 
--- one read of the source, for at most 8,192 bytes; more may follow, unless it met the end, which is
--- to give no byte, or failed
+-- whether a byte order mark may stand next: a front of it was read, and more may follow; or else
+-- all was read, or what was read begins no mark
+abbrev pub MarkIsUndecided : Ahead → InputState → Bool → Type 0
+MarkIsUndecided a s undecided =
+    MatchBool undecided ((s.at_end ≡ false) × (begins_mark (take s.unread a.bytes) ≡ true))
+    (IsAllRead a s.unread ⊎ (begins_mark (take s.unread a.bytes) ≡ false))
+
+-- one read of the source, for at most `most_bytes`; more may follow, unless it met the end, which
+-- is to give no byte, or failed
 abbrev pub AsksOnce : {A : Type 0} → Told → Result Bool (Error A) → Told → Type 0
 AsksOnce before answer after =
     (after.references ≡ before.references)
     × ((all : List Call) → after.calls ≡ Some all →
     (calls : List Call) × (call : Call) × (before.calls ≡ Some calls) × (all ≡ calls ++ call ∷ [])
-    × (call.len ≤ 8192) × (answer ≡ Ok false → MayGoOn call.answer)
+    × (call.len ≤ most_bytes) × (answer ≡ Ok false → MayGoOn call.answer)
     × (answer ≡ Ok true → call.answer ≡ Ok 0))

@@ -106,6 +106,13 @@ pub record TakesPiece (a : Ahead) (s : InputState) (piece : List ℕ) (after : A
   pub at_end : t.at_end ≡ s.at_end
   pub stands : Stands after piece left a.fault t
 
+-- where the source tells what is left, a piece of it was taken, and the line was walked on over it
+abbrev pub TakesPieceOn : Progress → List ℕ → InputState → Progress → After → List ℕ → InputState →
+    Type 0
+TakesPieceOn p old s q after new t =
+    (a : Ahead) → s.left ≡ Some a →
+    (piece : List ℕ) × TakesPiece a s piece after t × WalksOn p old (chars piece) new q
+
 -- what is left to use falls, or there is room to read more, or something is left that is no text
 abbrev pub PieceFalls : InputState → After → InputState → Type 0
 PieceFalls s LineEnd t = input_measure t < input_measure s
