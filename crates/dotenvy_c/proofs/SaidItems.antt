@@ -1,5 +1,5 @@
 -- What C is told says the items and the loads of the grammar.
-use Rattle.std.proofs.Common.{ℕ, ◌≡◌, ◌<◌, ◌^◌, List, [], ◌∷◌, length, refl, ap, append-nil}
+use Rattle.std.proofs.Common.{ℕ, ◌≡◌, ◌<◌, List, [], ◌∷◌, length, refl, ap, append-nil}
 use Rattle.std.specs.Prelude.{Some, None, Result, Ok, Err}
 use Rattle.std.specs.declared.alloc.Global.{Global}
 use Rattle.std.specs.declared.io.ErrorKind.TheVariants.{Interrupted}
@@ -10,6 +10,7 @@ use Rattle.dotenvy.specs.Environment.{Texts}
 use Rattle.dotenvy.specs.Error.{Error}
 use Rattle.dotenvy.specs.Error.TheVariants.{LineParse, Io, EnvVar, Nul, Memory}
 use Rattle.dotenvy.specs.Errors.{IsMemory, IsMemoryErr}
+use Rattle.dotenvy.specs.Input.{most_reads}
 use Rattle.dotenvy.specs.Items.{items}
 use Rattle.dotenvy.specs.Iter.{IterState}
 use Rattle.dotenvy.specs.Iteration.{GivesItems, IsReadable, NoneRefused, SayItems}
@@ -85,7 +86,7 @@ say_told names s told tells said says = says
 
 -- the items of a file, as they are told, say what its entries give
 pub tells_all_items : (dialect : Dialect) (file : List ℕ) (names : Texts) (entries : List Entry)
-    (told : List ToldItem) → length file < 2 ^ 32 → HasEntries dialect file entries →
+    (told : List ToldItem) → length file < most_reads → HasEntries dialect file entries →
     TellsItems names (fresh_file file dialect) told → SayTold told (items (values_of names) entries)
 tells_all_items dialect file names entries told few has tells =
     let state = fresh_file file dialect in

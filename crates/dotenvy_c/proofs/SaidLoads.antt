@@ -1,5 +1,5 @@
 -- What C is told of a load says what the specification of the load says.
-use Rattle.std.proofs.Common.{ℕ, ◌≡◌, ◌<◌, ◌^◌, Bool, true, false, List, [], ◌++◌, length, refl, subst, ap}
+use Rattle.std.proofs.Common.{ℕ, ◌≡◌, ◌<◌, Bool, true, false, List, [], ◌++◌, length, refl, subst, ap}
 use Rattle.std.proofs.Common.{append-nil}
 use Rattle.std.specs.Prelude.{Some, None, Result, Ok, Err, unwrap_or, option_map, if◌then◌else◌}
 use Rattle.std.specs.Option.{option_flatten}
@@ -14,6 +14,7 @@ use Rattle.dotenvy.specs.Entries.{Entry, Failure, HasEntries}
 use Rattle.dotenvy.specs.Environment.{Texts}
 use Rattle.dotenvy.specs.Error.{Error}
 use Rattle.dotenvy.specs.Errors.{IsMemoryErr}
+use Rattle.dotenvy.specs.Input.{most_reads}
 use Rattle.dotenvy.specs.Items.{no_values}
 use Rattle.dotenvy.specs.Iteration.{IsReadable}
 use Rattle.dotenvy.specs.Laws.{LoadsAllLeft}
@@ -59,7 +60,7 @@ answer_says (Err error) told (Ok r) tells is = absurd is
 answer_says (Err error) told (Err failure) tells is = error_says error told failure tells is
 
 pub loads_all_entries : (options : ℕ) (file block : List ℕ) (names : Texts) (entries : List Entry) (told : Told) →
-    length file < 2 ^ 32 → HasEntries (dialect_of options) (without_mark file) entries →
+    length file < most_reads → HasEntries (dialect_of options) (without_mark file) entries →
     LoadsFile options file block names told →
     SaysLoad (rule_of options (values_of (block_names block)) no_values entries) names told
 loads_all_entries options file block names entries told few has load =

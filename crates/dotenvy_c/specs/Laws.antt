@@ -1,8 +1,9 @@
 -- The laws of blocks, and of what C is told.
-use Rattle.std.specs.Prelude.{ℕ, ◌≡◌, ◌<◌, ◌^◌, List, length}
+use Rattle.std.specs.Prelude.{ℕ, ◌≡◌, ◌<◌, List, length}
 use Rattle.dotenvy.specs.Dialect.{Dialect}
 use Rattle.dotenvy.specs.Entries.{Entry, HasEntries}
 use Rattle.dotenvy.specs.Environment.{Texts}
+use Rattle.dotenvy.specs.Input.{most_reads}
 use Rattle.dotenvy.specs.Items.{items, no_values}
 use Rattle.dotenvy.specs.Marks.{without_mark}
 use Rattle.dotenvy.specs.Meaning.{values_of}
@@ -22,7 +23,7 @@ BlockReadsBack = (names : Texts) → FitsBlock names → block_names (block_of n
 abbrev pub ItemsAreTold : Type 0
 ItemsAreTold =
     (dialect : Dialect) (file : List ℕ) (names : Texts) (entries : List Entry) (told : List ToldItem) →
-    length file < 2 ^ 32 → HasEntries dialect file entries →
+    length file < most_reads → HasEntries dialect file entries →
     TellsItems names (fresh_file file dialect) told →
     SayTold told (items (values_of names) entries)
 
@@ -31,6 +32,6 @@ ItemsAreTold =
 abbrev pub LoadsAreTold : Type 0
 LoadsAreTold =
     (options : ℕ) (file block : List ℕ) (names : Texts) (entries : List Entry) (told : Told) →
-    length file < 2 ^ 32 → HasEntries (dialect_of options) (without_mark file) entries →
+    length file < most_reads → HasEntries (dialect_of options) (without_mark file) entries →
     LoadsFile options file block names told →
     SaysLoad (rule_of options (values_of (block_names block)) no_values entries) names told

@@ -1,5 +1,5 @@
 -- What an iterator over pairs has left, and what it remembers.
-use Rattle.std.specs.Prelude.{ℕ, ◌≡◌, ◌^◌, Result, refl}
+use Rattle.std.specs.Prelude.{ℕ, ◌≡◌, Result, refl}
 use Rattle.std.specs.Coded.{Coded, code_by, coded×, coded_ℕ, coded_list, coded_option}
 use Rattle.std.specs.FinMap as fin
 use Rattle.dotenvy_format.specs.declared.dialect.Dialect.{Dialect}
@@ -7,7 +7,7 @@ use Rattle.dotenvy_format.specs.contracts.dialect.Dialect as dialect
 use Rattle.dotenvy_base.specs.Source.{Ahead, Told}
 use Rattle.dotenvy_base.specs.declared.errors.Error.{Error}
 use Rattle.dotenvy_lines.specs.declared.lines.Stage.TheVariants.{Open, Failed}
-use Rattle.dotenvy_lines.specs.Input.{AsksReads, DropsMark, IsTold}
+use Rattle.dotenvy_lines.specs.Input.{most_reads, AsksReads, DropsMark, IsTold}
 use Rattle.dotenvy_lines.specs.Lines.{LinesState, lines_code, lines_measure, WhereOpen, fresh_lines, no_line}
 use Rattle.dotenvy_items.specs.Remembered.{Remembered}
 
@@ -42,7 +42,7 @@ state_of lines remembered dialect item_lines = record {
 -- nothing was read of a source that tells this, and nothing is remembered
 abbrev pub fresh : Told → Dialect → IterState
 fresh told dialect = record {
-  lines = fresh_lines told (2 ^ 32);
+  lines = fresh_lines told most_reads;
   remembered = fin.empty;
   dialect = dialect;
   item_lines = no_line;

@@ -1,5 +1,5 @@
 -- What calls of `next_item` give one after another, and when items or results say the same.
-use Rattle.std.specs.Prelude.{ℕ, ◌≡◌, ◌≢◌, ◌⊎◌, ◌^◌, ◌+◌, ◌<◌, ◌≤◌, List, [], ◌∷◌, ◌++◌, length, Some}
+use Rattle.std.specs.Prelude.{ℕ, ◌≡◌, ◌≢◌, ◌⊎◌, ◌+◌, ◌<◌, ◌≤◌, List, [], ◌∷◌, ◌++◌, length, Some}
 use Rattle.std.specs.Prelude.{None, Result}
 use Rattle.std.specs.declared.io.ErrorKind.TheVariants.{Interrupted, Other}
 use Rattle.dotenvy_format.specs.declared.dialect.Dialect.{Dialect}
@@ -9,7 +9,7 @@ use Rattle.dotenvy_format.specs.Entries.{Failure, Entry, Fails, Io}
 use Rattle.dotenvy_format.specs.Decided.{HasDecided}
 use Rattle.dotenvy_base.specs.Environment.{Texts}
 use Rattle.dotenvy_base.specs.Source.{Ahead}
-use Rattle.dotenvy_lines.specs.Input.{end_reads}
+use Rattle.dotenvy_lines.specs.Input.{end_reads, most_reads}
 use Rattle.dotenvy_lines.specs.Reading.{StopsAtMemory, certain_bytes, told_fault}
 use Rattle.dotenvy_items.specs.Iter.{IterState, IsOpen, TellsLeft}
 use Rattle.dotenvy_items.specs.NextItem.{Item, SaysItem, NextItem}
@@ -28,7 +28,7 @@ NoneRefused (item ∷ items) = ¬ (IsMemoryErr item) × NoneRefused items
 
 -- a source tells fewer than 2^32 bytes, and no interrupted read
 pub record IsReadable (a : Ahead) : Type 0 where
-  pub few : length a.bytes < 2 ^ 32
+  pub few : length a.bytes < most_reads
   pub not_interrupted : a.fault ≢ Some Interrupted
 
 -- an open iterator has this left: no interrupted read, and fewer bytes than the reads that may still be made and the bytes that were read already

@@ -1,11 +1,12 @@
 -- Laws of layers: what calls of `add` come to.
-use Rattle.std.specs.Prelude.{ℕ, ◌≡◌, ◌<◌, ◌^◌, Bool, List, length, filter, Some, None, Result, Ok, is_ok}
+use Rattle.std.specs.Prelude.{ℕ, ◌≡◌, ◌<◌, Bool, List, length, filter, Some, None, Result, Ok, is_ok}
 use Rattle.std.specs.List.{FoldsTo}
 use Rattle.dotenvy.specs.Dialect.TheVariants.{V15}
 use Rattle.dotenvy.specs.Error.{Error}
 use Rattle.dotenvy.specs.Entries.{Entry, HasEntries}
 use Rattle.dotenvy.specs.Environment.{Texts}
 use Rattle.dotenvy.specs.Errors.{IsMemoryErr}
+use Rattle.dotenvy.specs.Input.{most_reads}
 use Rattle.dotenvy.specs.Items.{LookUp, no_values}
 use Rattle.dotenvy.specs.Marks.{without_mark}
 use Rattle.dotenvy.specs.Meaning.{values_of}
@@ -30,7 +31,7 @@ pub record Adds (A : Type 0) (old : Texts) (layer : Layer) (new : Texts) : Type 
   pub told : Told
   pub tells : TellsAll told layer.bytes
   pub adds : AddsLayer layer.mode told old answer new
-  pub few : length layer.bytes < 2 ^ 32
+  pub few : length layer.bytes < most_reads
   pub not_refused : ¬ (IsMemoryErr answer)
   pub accepted : layer.accepted ≡ is_ok answer
 
