@@ -11,7 +11,7 @@ use Rattle.std.specs.declared.cmp.Ordering.TheVariants.{Less, Equal, Greater}
 use Rattle.dotenvy_base.specs.Environment.{Env, IsEnvironment, AreGood, name_ok, value_ok}
 use Rattle.dotenvy_base.proofs.Basics.{left_holds, right_holds}
 use Rattle.dotenvy_base.proofs.TextMaps.{by_name}
-use Rattle.std.proofs.lemmas.Bool.{and_parts, and_from}
+use Rattle.std.proofs.lemmas.Bool.{and_from}
 
 -- a name ties with itself
 ties_itself : (name : List ℕ) → slice_cmp nat_cmp name name ≡ Equal
