@@ -1,6 +1,6 @@
 -- What a logical line says, as the item that it adds.
 use Rattle.std.proofs.Common.{◌≡◌, ℕ, Bool, true, false, List, [], Option, Some, None, Result}
-use Rattle.std.proofs.Common.{Ok, Err, ◌⊎◌, inl, inr, refl, ap, unwrap_or}
+use Rattle.std.proofs.Common.{Ok, Err, inl, inr, refl, ap, unwrap_or}
 use Rattle.std.proofs.Common.{string_bytes, arith}
 use Rattle.std.specs.Prelude.{OnOk, IfErr, IsTrue, ◌↔◌, option_map, if◌then◌else◌}
 use Rattle.std.specs.Str.{chars}
@@ -18,8 +18,8 @@ use Rattle.dotenvy_format.specs.Entries.{outcome_entries}
 use Rattle.dotenvy_format.specs.Items.{meaning}
 use Rattle.dotenvy_base.specs.Environment.{Texts}
 use Rattle.dotenvy_items.specs.Meaning.{names_of}
-use Rattle.dotenvy_items.specs.inside.ParsedLine.{IsLineAnswer, Remembers}
-use Rattle.dotenvy_items.specs.Iter.{IterState}
+use Rattle.dotenvy_items.specs.inside.ParsedLine.{AnswersLine, IsLineAnswer, Remembers}
+use Rattle.dotenvy_items.specs.inside.Reading.{ReadingState}
 use Rattle.dotenvy_items.specs.inside.ItemStep.{lines_after, AddsEntries, IsRefused, AddsLine}
 use Rattle.dotenvy_format.proofs.Basics.{not_is}
 use Rattle.dotenvy_format.proofs.statements.Statements.{one_statement}
@@ -31,7 +31,7 @@ lines_said (Ok said) s = s
 lines_said (Err e) s = lines_after e s
 
 -- the answer for a line adds what the line says: nothing, the pair that is then remembered, or the fault
-answer_added : {A : Type 0} (names : Texts) (s t : IterState) (line : List ℕ) (outcome : Outcome)
+answer_added : {A : Type 0} (names : Texts) (s t : ReadingState) (line : List ℕ) (outcome : Outcome)
     (said : Result (Option (String A × String A)) (Error A)) → Says s.dialect line outcome →
     IsLineAnswer (names_of names s.remembered) outcome said → Remembers line s.remembered t.remembered said →
     t.lines ≡ lines_said said s.lines →
@@ -84,18 +84,16 @@ refused_added (Err (Memory e)) s t is h = (is, rw h refl)
 refused_added _ s t is h = absurd is
 
 -- what a line says is what it adds
-pub line_added : {A : Type 0} (names : Texts) (s t : IterState) (line : Result (Unit {0}) (Error A)) (text : List ℕ)
+pub line_added : {A : Type 0} (names : Texts) (s t : ReadingState) (line : Result (Unit {0}) (Error A))
     (said : Result (Option (String A × String A)) (Error A)) →
-    OnOk line (IsMemoryErr said
-    ⊎ ((outcome : Outcome) × Says s.dialect (chars text) outcome × IsLineAnswer (names_of names
-    s.remembered) outcome said)) →
-    OnOk line (Remembers (chars text) s.remembered t.remembered said) →
-    IfErr line (λ e. (said ≡ Err e) × (t.remembered ≡ s.remembered)) →
-    t.lines ≡ lines_said said s.lines → AddsLine names s line text (result_transpose said) t
-line_added names s t (Ok u) text said (inl refused) remembers fault lines =
-    inl (refused_added said s.lines t.lines refused lines)
-line_added names s t (Ok u) text said (inr (outcome, says, is)) remembers fault lines =
-    let added = answer_added names s t (chars text) outcome said says is remembers lines in
+    OnOk line (AnswersLine s.dialect (names_of names s.remembered) (chars s.line) said) →
+    OnOk line (Remembers (chars s.line) s.remembered t.remembered said) →
+    IfErr line (λ e. (said ≡ Err e) × (t.remembered ≡ s.remembered)) → t.lines ≡ s.lines →
+    AddsLine names s line (result_transpose said) (record t { lines = lines_said said t.lines })
+line_added names s t (Ok u) said (inl refused) remembers fault same =
+    inl (refused_added said t.lines (lines_said said t.lines) refused refl)
+line_added names s t (Ok u) said (inr (outcome, says, is)) remembers fault same =
+    let added = answer_added names s (record t { lines = _ }) (chars s.line) outcome said says is remembers (rw same) in
     inr (outcome, says, added.0, added.1)
-line_added names s t (Err e) text said says remembers fault lines =
-    (ap result_transpose fault.0, fault.1, rw fault.0 at lines)
+line_added names s t (Err e) said says remembers fault same =
+    (ap result_transpose fault.0, fault.1, rw (fault.0, same))

@@ -22,13 +22,13 @@ use Rattle.dotenvy_base.specs.Source.{Ahead}
 use Rattle.dotenvy_lines.specs.Input.{IsTold, Moves, IsFinal, end_reads}
 use Rattle.dotenvy_lines.specs.Lines.{LinesState, whole_lines, IsAtEnd, Counts, GoesOn, no_line}
 use Rattle.dotenvy_lines.specs.inside.NextLine.{TakesNext, CountsLine, IsUndecided, AdvanceIs}
-use Rattle.dotenvy_lines.specs.inside.Splitter.{last_lines}
+use Rattle.dotenvy_lines.specs.inside.Splitter.{SplitterState, last_lines}
 use Rattle.dotenvy_lines.proofs.NumberedLines.{counts_none, counts_more}
 use Rattle.dotenvy_lines.specs.Reading.{HasEntriesLeft}
 use Rattle.dotenvy_items.specs.Iter.{IterState, state_of}
 use Rattle.dotenvy_items.specs.NextItem.{Item, DecideFirst, UsesLines, ItemIs, TakesEntry}
-use Rattle.dotenvy_items.specs.inside.ItemStep.{lines_after, AddsEntries, IsRefused, AddsLine}
-use Rattle.dotenvy_items.specs.inside.ItemStep.{item_lines_then, reading_of}
+use Rattle.dotenvy_items.specs.inside.Reading.{ReadingState}
+use Rattle.dotenvy_items.specs.inside.ItemStep.{lines_after, AddsEntries, IsRefused, AddsLine, item_lines_then}
 use Rattle.dotenvy_items.specs.Remembered.{Remembered}
 use Rattle.dotenvy_lines.proofs.Inputs.{ahead_of, the_bytes, the_fault, moves_none, moves_on, final_before}
 use Rattle.dotenvy_lines.proofs.LineEntries.{left_once, left-none, took, no_lines, decided-next, decided-none}
@@ -130,6 +130,10 @@ used_more {count = count} {a = a} {dialect = dialect} {s = s} {t = t} {v = v} {f
       goes_on = goes_on;
       counts = counts_more s.lines_taken p.lines_used.count t.lines_taken count v.lines_taken p.counts counts;
     }
+
+-- what s is while it goes on, where the logical lines are these
+abbrev pub read_to : IterState → SplitterState → ReadingState
+read_to s m = record { lines = m.lines; line = m.line; remembered = s.remembered; dialect = s.dialect }
 
 -- what one more line leads to: an item that is the next one, or one more line that was passed
 pub record LeadsTo {A : Type 0} (names : Texts) (a : Ahead) (s : IterState) (entries : List Entry)
@@ -240,22 +244,21 @@ module _ {A : Type 0} {names : Texts} {a : Ahead} {s : IterState} {entries : Lis
       }
 
   -- where one more line is answered and adds what it says, an item came or the line was passed
-  pub next_leads : {v : LinesState} {remembered : Remembered} {item : Option (Item A)}
-      (line : Result (Unit {0}) (Error A)) (text : List ℕ) (m : LinesState) →
-      (t.stage ≢ Open → ◌≡◌ {A = Option (Result (Unit {0}) (Error A))} (Some line) None) →
-      ((b : Ahead) → t.stage ≡ Open → IsTold t.input.left b → AdvanceIs b t (Some line) text m) →
-      AddsLine names (reading_of m s.remembered s.dialect) line text item (reading_of v remembered s.dialect) →
-      IsTold s.lines.input.left a → LeadsTo names a s entries item v remembered
-  next_leads {v = v} {remembered = remembered} {item = item} line text m shut next adds told =
+  pub next_leads : {item : Option (Item A)} (line : Result (Unit {0}) (Error A)) (m : SplitterState)
+      (v : ReadingState) → (t.stage ≢ Open → ◌≡◌ {A = Option (Result (Unit {0}) (Error A))} (Some line) None) →
+      ((b : Ahead) → t.stage ≡ Open → IsTold t.input.left b → AdvanceIs b t (Some line) m.line m.lines) →
+      AddsLine names (read_to s m) line item v →
+      IsTold s.lines.input.left a → LeadsTo names a s entries item v.lines v.remembered
+  next_leads {item = item} line m v shut next adds told =
       let is_open : t.stage ≡ Open = elim p.uses.goes_on [
         | inl still ↦ still
         | inr (ended, nothing) ↦ absurd (none-some line (sym (shut (λ h. cc))))
       ] in
       at line adds (next (ahead_of p.uses.left a.fault) is_open (p.uses.moves.is_left, told.1))
     where
-      at : (r : Result (Unit {0}) (Error A)) →
-          AddsLine names (reading_of m s.remembered s.dialect) r text item (reading_of v remembered s.dialect) →
-          AdvanceIs (ahead_of p.uses.left a.fault) t (Some r) text m → LeadsTo names a s entries item v remembered
+      at : (r : Result (Unit {0}) (Error A)) → AddsLine names (read_to s m) r item v →
+          AdvanceIs (ahead_of p.uses.left a.fault) t (Some r) m.line m.lines →
+          LeadsTo names a s entries item v.lines v.remembered
       at (Ok u) (inl refused) is = refused_leads item refused
       at (Ok u) (inr (outcome, says, adds, lines)) (inl (count, inl (empty, k), counts, goes_on)) =
           let none = one_outcome s.dialect [] outcome Nothing (rw (empty, chars-nil) at says) refl in
@@ -263,7 +266,7 @@ module _ {A : Type 0} {names : Texts} {a : Ahead} {s : IterState} {entries : Lis
       at (Ok u) (inr (outcome, says, adds, lines)) (inl (count, inr k, counts, goes_on)) =
           rw lines (added (outcome_entries outcome) item k counts goes_on (outcome, says, refl) adds)
       at (Ok u) (inr (outcome, says, adds, lines)) (inr fails) = absurd fails
-      at (Err e) (is, same, lines) (inr (failed, final)) = rw (is, lines) (final_leads e m failed final)
+      at (Err e) (is, same, lines) (inr (failed, final)) = rw (is, lines) (final_leads e m.lines failed final)
       at (Err (LineParse text index)) (is, same, lines) (inl (count, k, counts, goes_on)) =
           rw (is, lines) (added (Fails (FailsLine (chars (string_bytes text)) index) ∷ [])
           (Some (Err (LineParse text index))) k counts goes_on refl (refl, (refl, refl), λ name. rw same refl))

@@ -23,7 +23,7 @@ use Rattle.dotenvy_format.specs.Items.{LookUp}
 use Rattle.dotenvy_format.specs.Run.{Mode, run}
 use Rattle.dotenvy_format.specs.Loads.{SameLoad}
 use Rattle.dotenvy_format.proofs.loads.LoadRuns.{run-stops}
-use Rattle.dotenvy_lines.specs.declared.lines.Stage.TheVariants.{Open, Ended, Failed}
+use Rattle.dotenvy_lines.specs.declared.lines.Stage.TheVariants.{Ended, Failed}
 use Rattle.dotenvy_lines.specs.Input.{InputState, IsFinal, DropsMark, end_reads}
 use Rattle.dotenvy_lines.specs.Lines.{LinesState, WhereOpen}
 use Rattle.dotenvy_lines.specs.Reading.{IsReading, told_fault}
@@ -38,7 +38,7 @@ use Rattle.dotenvy_items.specs.Iter.{IterState}
 use Rattle.dotenvy_items.specs.LoadsRest.{IsAnswer, Leaves, Rule, LoadsRest}
 use Rattle.dotenvy_items.specs.LoadStops.{DecideLoaded, StopsIn, StopsInLine, Stops, unmarked}
 use Rattle.dotenvy_items.specs.inside.ItemStep.{lines_after}
-use Rattle.dotenvy_items.specs.inside.LoadStep.{LoadsLine, stopped, stopped_if}
+use Rattle.dotenvy_items.specs.inside.LoadStep.{LoadIs, LoadsLine, stopped, stopped_if}
 use Rattle.dotenvy_items.proofs.UsedLines.{uses_more}
 use Rattle.dotenvy_items.proofs.LoadSteps.{Load, runs, same_load, Done, Came, CameTo, left_of, TakesLine, none_done}
 use Rattle.dotenvy_items.proofs.LoadSteps.{GivesNoneShut, GivesLine, line_taken, takes_line, given}
@@ -244,12 +244,6 @@ module _ {A : Type 0} {mode : Mode} {s : IterState} {old names : Texts} {l : Loa
       ends_line {entry = Fails (Io InvalidData)} k (line_taken Broken takes.1 counts goes_on refl)
       (record { values = λ n. refl; is_answer = takes.0 })
   ends_fault m line e k (inl (count, takes, counts, goes_on)) = absurd takes
-
--- a load of an open iterator leaves and answers this, and stops at t
-pub record LoadIs {A : Type 0} (mode : Mode) (s : IterState) (old new : Texts)
-    (answer : Result (Unit {0}) (Error A)) (t : IterState) : Type 0 where
-  pub told : s.lines.stage ≡ Open → LoadsRest (run mode) s old answer new
-  pub stops : s.lines.stage ≡ Open → Stops (run mode) s old answer (stopped_if answer t)
 
 -- a load is what it ends with, whatever is told
 load_is : {A : Type 0} {mode : Mode} {s t : IterState} {old new : Texts} (answer : Result (Unit {0}) (Error A)) →

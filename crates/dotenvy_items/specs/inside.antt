@@ -1,4 +1,5 @@
 pub mod ParsedLine
+pub mod Reading
 pub mod ItemStep
 pub mod FirstPass
 pub mod LoadStep

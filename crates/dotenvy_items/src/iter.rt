@@ -1,6 +1,6 @@
 //! The pairs of an environment file, one at a time, and the two loads.
 
-ghost use Rattle.std.specs.Prelude.{ℕ, ◌≡◌, ◌≢◌, ◌<◌, ◌≤◌, ◌↔◌, ◌⊎◌, Err, IfErr, IfOk, IfSome, IsSome, IsTrue, None, Ok, OnOk, OnErr, chars, string_bytes};
+ghost use Rattle.std.specs.Prelude.{◌≡◌, ◌≢◌, ◌<◌, ◌≤◌, ◌↔◌, Err, IfErr, IfOk, IfSome, IsSome, IsTrue, None, Ok, OnOk, OnErr, chars};
 ghost use Rattle.std.specs.FinMap as fin;
 ghost use Rattle.std.specs.Iterator.{at_most};
 ghost use Rattle.dotenvy_lines.specs.declared.lines.Stage.TheVariants.{Failed, Open};
@@ -10,20 +10,18 @@ ghost use Rattle.dotenvy_items.specs.Iter.{fresh, items_measure, AsksBetween, Dr
 ghost use Rattle.dotenvy_base.specs.Environment.{KeepsNames};
 ghost use Rattle.dotenvy_format.specs.Run.{Keep, Replace, run};
 ghost use Rattle.dotenvy_format.specs.Loads.{load_result, override_result};
-ghost use Rattle.dotenvy_format.specs.Outcome.{Outcome, Says};
 ghost use Rattle.dotenvy_items.specs.Meaning.{names_of};
-ghost use Rattle.dotenvy_items.specs.inside.ParsedLine.{IsLineAnswer, Remembers, HasKey};
+ghost use Rattle.dotenvy_items.specs.inside.ParsedLine.{AnswersLine, Remembers, HasKey};
 ghost use Rattle.dotenvy_lines.specs.Lines.{lines_measure, no_line};
-ghost use Rattle.dotenvy_items.specs.Remembered.{remembered_of};
-ghost use Rattle.dotenvy_items.specs.inside.ItemStep.{AddsLine, item_lines_then, reading_of};
+ghost use Rattle.dotenvy_items.specs.inside.ItemStep.{AddsLine, GivesNext, item_lines_then};
 ghost use Rattle.dotenvy_items.specs.Iter.{state_of};
 ghost use Rattle.dotenvy_items.specs.NextItem.{unnumbered, GivesKey, GivesName, IsNumbered, NextItem};
 ghost use Rattle.dotenvy_items.specs.LoadsRest.{ChangesOnlyKeys, LoadsRest, OnlyAdds};
 ghost use Rattle.dotenvy_items.specs.LoadStops.{Stops};
-ghost use Rattle.dotenvy_items.specs.inside.LoadStep.{mode_of, stopped, stopped_if};
+ghost use Rattle.dotenvy_items.specs.inside.LoadStep.{mode_of, stopped, LoadIs};
 
 use crate::loads::{Mode, load_line};
-use crate::parse::{Pair, ParsedLine, parse_line};
+use crate::parse::{Line, Pair, ParsedLine, parse_line};
 use crate::remembered::Remembered;
 use dotenvy_base::environment::Environment;
 use dotenvy_base::errors::{Error, Result};
@@ -48,24 +46,45 @@ use std::marker::Model;
 /// ```
 #[derive(Drop)]
 pub struct Iter<R: Source, A: Allocator = Global> {
-    lines: Splitter<R, A>,
-    remembered: Remembered<A>,
-    dialect: Dialect,
+    reading: Reading<R, A>,
     // The first and the last physical line of the last item.
     item_lines: (u64, u64),
 }
 
 impl<R: Source, A: Allocator> Model for Iter<R, A> {
     ghost use Rattle.dotenvy_items.specs.Iter.{IterState, iter_code};
-    ghost use Rattle.dotenvy_items.specs.Iter.{state_of};
-    ghost use Rattle.dotenvy_items.specs.Remembered.{remembered_of};
+    ghost use Rattle.dotenvy_items.specs.inside.Reading.{reads_on};
 
     ghost Value = { IterState };
 
     ghost coded = { iter_code };
 
-    ghost view = { λ s. state_of s.lines.lines (remembered_of s.remembered.entries) s.dialect
-        s.item_lines };
+    ghost view = { λ s. reads_on s.reading s.item_lines };
+}
+
+// What an iterator reads, and what it remembers.
+#[derive(Drop)]
+struct Reading<R: Source, A: Allocator = Global> {
+    lines: Splitter<R, A>,
+    remembered: Remembered<A>,
+    dialect: Dialect,
+}
+
+impl<R: Source, A: Allocator> Model for Reading<R, A> {
+    ghost use Rattle.dotenvy_items.specs.inside.Reading.{ReadingState, reading_code};
+    ghost use Rattle.dotenvy_items.specs.Remembered.{remembered_of};
+
+    ghost Value = { ReadingState };
+
+    ghost coded = { reading_code };
+
+    ghost view = { λ s.
+        record {
+          lines = s.lines.lines;
+          line = s.lines.line;
+          remembered = remembered_of s.remembered.entries;
+          dialect = s.dialect;
+        } };
 }
 
 // Whether memory was refused.
@@ -83,10 +102,13 @@ pub fn over_lines<R: Source, A: Allocator>(
 ) -> Iter<R, A>
     ensures { result ≡ state_of lines.lines fin.empty dialect no_line }
 {
-    Iter {
+    let reading = Reading {
         lines,
         remembered: HashMap::new(alloc),
         dialect,
+    };
+    Iter {
+        reading,
         item_lines: (0, 0),
     }
 }
@@ -97,11 +119,14 @@ pub fn into_reader<R: Source, A: Allocator>(file: Iter<R, A>) -> R
     ensures references { (R.told result).references ≡ file.lines.input.references }
 {
     let Iter {
+        reading,
+        item_lines: _,
+    } = file;
+    let Reading {
         lines,
         remembered: _,
         dialect: _,
-        item_lines: _,
-    } = file;
+    } = reading;
     lines.into_reader()
 }
 
@@ -140,8 +165,8 @@ impl<R: Source, A: Allocator + Clone> Iter<R, A> {
         // Which reads it asks for, over every reader that tells its calls.
         ensures asks { AsksBetween self.old self.new }
     {
-        let item = next_of(&mut self.lines, &mut self.remembered, env, self.dialect);
-        self.item_lines = lines_then(&item, &self.lines, self.item_lines);
+        let item = self.reading.next(env);
+        self.item_lines = lines_then(&item, &self.reading.lines, self.item_lines);
         item
     }
 
@@ -186,7 +211,7 @@ impl<R: Source, A: Allocator + Clone> Iter<R, A> {
         ensures falls { items_measure self.new ≤ items_measure self.old }
         ensures asks { AsksBetween self.old self.new }
     {
-        self.lines.drop_mark()
+        self.reading.lines.drop_mark()
     }
 
     /// What `next_item` gives under this one environment, as an iterator.
@@ -229,11 +254,14 @@ pub fn into_lines<R: Source + Drop, A: Allocator>(iter: Iter<R, A>) -> (Splitter
     ensures dialect { result.1 ≡ iter.dialect }
 {
     let Iter {
+        reading,
+        item_lines: _,
+    } = iter;
+    let Reading {
         lines,
         remembered: _,
         dialect,
-        item_lines: _,
-    } = iter;
+    } = reading;
     (lines, dialect)
 }
 
@@ -251,79 +279,68 @@ fn lines_then<R: Source, A: Allocator + Clone>(
     }
 }
 
-// The next item of these logical lines.
-fn next_of<R: Source, A: Allocator + Clone>(
-    lines: &mut Splitter<R, A>,
-    remembered: &mut Remembered<A>,
-    env: &Environment<A>,
-    dialect: Dialect,
-) -> Option<Result<Pair<A>, A>>
-    ensures next { (before : ℕ × ℕ) → NextItem env.now.names
-        (state_of lines.old.lines (remembered_of remembered.old.entries) dialect before) result
-        (state_of lines.new.lines (remembered_of remembered.new.entries) dialect
-        (item_lines_then result lines.new.lines before)) }
-    ensures falls { IsSome result → lines_measure lines.new.lines < lines_measure lines.old.lines }
-    ensures none { result ≡ None → lines.new.lines.stage ≢ Open }
-    ensures memory { IfSome result (λ item. IsMemoryErr item → lines.new.lines.stage ≡ Failed) }
-    ensures key { GivesKey result }
-    ensures asks { AsksReads (lines.new.lines.stage ≡ Open) lines.old.lines.input
-        lines.new.lines.input }
-{
-    'lines: while let Some(outcome) = lines.advance() {
-        let item = item_of(lines, outcome, remembered, env, dialect);
-        if item.is_some() {
-            return item;
+impl<R: Source, A: Allocator + Clone> Reading<R, A> {
+    // The next item of the logical lines that are left.
+    fn next(&mut self, env: &Environment<A>) -> Option<Result<Pair<A>, A>>
+        ensures next { GivesNext env.now.names self.old result self.new }
+        ensures falls { IsSome result →
+            lines_measure self.new.lines < lines_measure self.old.lines }
+        ensures none { result ≡ None → self.new.lines.stage ≢ Open }
+        ensures memory { IfSome result (λ item. IsMemoryErr item → self.new.lines.stage ≡ Failed) }
+        ensures key { GivesKey result }
+        ensures asks { AsksReads (self.new.lines.stage ≡ Open) self.old.lines.input
+            self.new.lines.input }
+        ensures dialect { self.new.dialect ≡ self.old.dialect }
+    {
+        'lines: while let Some(outcome) = self.lines.advance() {
+            let item = self.item_of(outcome, env);
+            if item.is_some() {
+                return item;
+            }
         }
+        None
     }
-    None
-}
 
-// What the last logical line adds to the items, if anything. Refused memory is the last item.
-fn item_of<R: Source, A: Allocator + Clone>(
-    lines: &mut Splitter<R, A>,
-    outcome: Result<(), A>,
-    remembered: &mut Remembered<A>,
-    env: &Environment<A>,
-    dialect: Dialect,
-) -> Option<Result<Pair<A>, A>>
-    ensures adds { AddsLine env.now.names
-        (reading_of lines.old.lines (remembered_of remembered.old.entries) dialect) outcome
-        lines.old.line result
-        (reading_of lines.new.lines (remembered_of remembered.new.entries) dialect) }
-    ensures falls { lines_measure lines.new.lines ≤ lines_measure lines.old.lines }
-    ensures input { lines.new.lines.input ≡ lines.old.lines.input }
-    ensures stage { lines.new.lines.stage ≡ Open → lines.old.lines.stage ≡ Open }
-    ensures memory { IfSome result (λ item. IsMemoryErr item → lines.new.lines.stage ≡ Failed) }
-    ensures key { GivesKey result }
-{
-    let said = said_by(lines, outcome, remembered, env, dialect);
-    if is_refused(&said) {
-        lines.fail();
+    // What the last logical line adds to the items, if anything. Refused memory is the last item.
+    fn item_of(
+        &mut self,
+        outcome: Result<(), A>,
+        env: &Environment<A>,
+    ) -> Option<Result<Pair<A>, A>>
+        ensures adds { AddsLine env.now.names self.old outcome result self.new }
+        ensures falls { lines_measure self.new.lines ≤ lines_measure self.old.lines }
+        ensures input { self.new.lines.input ≡ self.old.lines.input }
+        ensures stage { self.new.lines.stage ≡ Open → self.old.lines.stage ≡ Open }
+        ensures memory { IfSome result (λ item. IsMemoryErr item → self.new.lines.stage ≡ Failed) }
+        ensures key { GivesKey result }
+        ensures dialect { self.new.dialect ≡ self.old.dialect }
+    {
+        let said = self.said_by(outcome, env);
+        if is_refused(&said) {
+            self.lines.fail();
+        }
+        said.transpose()
     }
-    said.transpose()
-}
 
-// What the last logical line says. Its own fault stays as it is.
-fn said_by<R: Source, A: Allocator + Clone>(
-    lines: &Splitter<R, A>,
-    outcome: Result<(), A>,
-    remembered: &mut Remembered<A>,
-    env: &Environment<A>,
-    dialect: Dialect,
-) -> ParsedLine<A>
-    ensures says { OnOk outcome (IsMemoryErr result
-        ⊎ ((said : Outcome) × Says dialect (chars lines.now.line) said × IsLineAnswer (names_of
-        env.now.names (remembered_of remembered.old.entries)) said result)) }
-    ensures remembers { OnOk outcome (Remembers (chars lines.now.line)
-        (remembered_of remembered.old.entries) (remembered_of remembered.new.entries) result) }
-    ensures fault { IfErr outcome (λ e.
-        (result ≡ Err e)
-        × (remembered_of remembered.new.entries ≡ remembered_of remembered.old.entries)) }
-    ensures key { IfOk result HasKey }
-{
-    outcome?;
-    let alloc = lines.allocator().clone()?;
-    parse_line(alloc, lines.line(), remembered, env, dialect)
+    // What the last logical line says. Its own fault stays as it is.
+    fn said_by(&mut self, outcome: Result<(), A>, env: &Environment<A>) -> ParsedLine<A>
+        ensures says { OnOk outcome (AnswersLine self.old.dialect
+            (names_of env.now.names self.old.remembered) (chars self.old.line) result) }
+        ensures remembers { OnOk outcome (Remembers (chars self.old.line) self.old.remembered
+            self.new.remembered result) }
+        ensures fault { IfErr outcome
+            (λ e. (result ≡ Err e) × (self.new.remembered ≡ self.old.remembered)) }
+        ensures key { IfOk result HasKey }
+        ensures same { self.new ≡ record self.old { remembered = self.new.remembered } }
+    {
+        outcome?;
+        let line = Line {
+            text: self.lines.line(),
+            dialect: self.dialect,
+            alloc: self.lines.allocator(),
+        };
+        parse_line(line, &mut self.remembered, env)
+    }
 }
 
 impl<R: Source, A: Allocator + Clone> Iter<R, A> {
@@ -409,9 +426,9 @@ impl<R: Source, A: Allocator + Clone> Iter<R, A> {
         ensures { self.new ≡ stopped error.now self.old }
     {
         if matches!(error, Error::Memory(_)) {
-            self.lines.fail();
+            self.reading.lines.fail();
         }
-        self.item_lines = self.lines.last_lines();
+        self.item_lines = self.reading.lines.last_lines();
     }
 
     // Drops a byte order mark at the present place, then loads line after line. The values that were remembered before
@@ -419,29 +436,24 @@ impl<R: Source, A: Allocator + Clone> Iter<R, A> {
     fn load_each_line(&mut self, mode: Mode, env: &mut Environment<A>) -> Result<(), A>
         ensures shut { ¬ (IsOpen self.old) →
             (result ≡ Ok tt) × (self.new ≡ self.old) × (env.new ≡ env.old) }
-        ensures told { IsOpen self.old →
-            LoadsRest (run (mode_of mode)) self.old env.old.names result env.new.names }
+        ensures loads { LoadIs (mode_of mode) self.old env.old.names env.new.names result self.new }
         ensures keeps { mode_of mode ≡ Keep → KeepsNames env.old.names env.new.names }
         ensures changes { ChangesOnlyKeys env.old env.new }
-        ensures stops { IsOpen self.old →
-            Stops (run (mode_of mode)) self.old env.old.names result
-            (stopped_if result self.new) }
         ensures ok { OnOk result (¬ (IsOpen self.new)) }
         ensures same { self.new ≡ record self.old { lines = self.new.lines } }
         ensures falls { OnErr result (items_measure self.new < items_measure self.old) }
         ensures asks { AsksBetween self.old self.new }
     {
-        self.lines.drop_mark()?;
-        'loading: while let Some(outcome) = self.lines.advance() {
+        let reading = &mut self.reading;
+        reading.lines.drop_mark()?;
+        'loading: while let Some(outcome) = reading.lines.advance() {
             outcome?;
-            load_line(
-                self.lines.allocator(),
-                self.lines.line(),
-                &self.remembered,
-                env,
-                mode,
-                self.dialect,
-            )?;
+            let line = Line {
+                text: reading.lines.line(),
+                dialect: reading.dialect,
+                alloc: reading.lines.allocator(),
+            };
+            load_line(line, &reading.remembered, env, mode)?;
         }
         Ok(())
     }

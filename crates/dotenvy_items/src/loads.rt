@@ -9,11 +9,10 @@ ghost use Rattle.dotenvy_items.specs.LoadsRest.{ChangesOnlyKeys};
 ghost use Rattle.dotenvy_items.specs.inside.LoadStep.{mode_of, LoadsLine};
 
 use crate::meaning::Names;
-use crate::parse::{pair_of, scan_line};
+use crate::parse::{Line, pair_of, scan_line};
 use crate::remembered::Remembered;
 use dotenvy_base::environment::Environment;
 use dotenvy_base::errors::{Result, fault_error};
-use dotenvy_format::dialect::Dialect;
 use std::alloc::Allocator;
 
 /// Whether a load keeps the values of names that are there, or replaces them.
@@ -40,15 +39,14 @@ impl Mode {
 /// Nothing is remembered: a key that a load has met is in the environment, and that is asked first when a name is
 /// looked up. So a name that keeps its value takes no memory, and its value is only read for a fault.
 pub(crate) fn load_line<A: Allocator + Clone>(
-    alloc: &A,
-    line: &str,
+    line: Line<'_, A>,
     remembered: &Remembered<A>,
     env: &mut Environment<A>,
     mode: Mode,
-    dialect: Dialect,
 ) -> Result<(), A>
-    ensures loads { LoadsLine (mode_of mode) dialect (remembered_of remembered.now.entries)
-        (chars line.now) env.old.names result env.new.names }
+    ensures loads { LoadsLine (mode_of mode) line.entry.dialect
+        (remembered_of remembered.now.entries) (chars line.entry.text.now) env.old.names result
+        env.new.names }
     ensures keeps { mode_of mode ≡ Keep →
         KeepsNames env.old.names env.new.names }
     ensures changes { ChangesOnlyKeys env.old env.new }
@@ -57,14 +55,14 @@ pub(crate) fn load_line<A: Allocator + Clone>(
         env: &*env,
         remembered,
     };
-    let declaration = match scan_line(line, &names, dialect) {
+    let declaration = match scan_line(line.text, &names, line.dialect) {
         Ok(Some(declaration)) => declaration,
         Ok(None) => return Ok(()),
-        Err(fault) => return Err(fault_error(alloc.clone()?, fault.text, fault.index)),
+        Err(fault) => return Err(fault_error(line.alloc.clone()?, fault.text, fault.index)),
     };
     if !mode.sets(env, declaration.key) {
         return Ok(());
     }
-    let (key, value) = pair_of(alloc.clone()?, declaration, &names, dialect)?;
+    let (key, value) = pair_of(line.alloc.clone()?, declaration, &names, line.dialect)?;
     env.set(key, value)
 }

@@ -7,6 +7,7 @@ ghost use Rattle.dotenvy_format.specs.inside.NextPiece.{piece_bytes};
 ghost use Rattle.dotenvy_items.specs.Meaning.{look_up_of};
 ghost use Rattle.dotenvy_items.specs.inside.ValuePasses.{saturated, Measures, MeansBytes, HasRoom, Appends};
 
+use crate::parse::Value;
 use crate::remembered::{Remembered, recall};
 use dotenvy_base::environment::Environment;
 use dotenvy_base::errors::Result;
@@ -112,18 +113,18 @@ impl<'a, A: Allocator> Names<'a, A> {
     pub(crate) fn expand(
         &self,
         alloc: A,
-        value: &str,
-        len: usize,
+        value: Value<'_>,
         dialect: Dialect,
     ) -> Result<String<A>, A>
-        requires { MeansBytes dialect (look_up_of self.now) (chars value.now) len }
+        requires { MeansBytes dialect (look_up_of self.now) (chars value.text.now) value.len }
         ensures { MatchResult result
             (λ text.
-            Appends dialect (look_up_of self.now) (chars value.now) [] (string_bytes text))
+            Appends dialect (look_up_of self.now) (chars value.entry.text.now) []
+            (string_bytes text))
             IsMemory }
     {
-        let mut meaning = String::with_capacity(alloc, len)?;
-        self.append_meaning(&mut meaning, value, dialect);
+        let mut meaning = String::with_capacity(alloc, value.len)?;
+        self.append_meaning(&mut meaning, value.text, dialect);
         Ok(meaning)
     }
 }

@@ -1,14 +1,14 @@
 //! What one logical line says.
-ghost use Rattle.std.specs.Prelude.{◌≡◌, ◌⊎◌, ◌<◌, ◌++◌, not, length, List, ℕ, IfOk, IfErr};
+ghost use Rattle.std.specs.Prelude.{◌≡◌, ◌<◌, ◌++◌, length, List, ℕ, IfOk, IfErr};
 ghost use Rattle.std.specs.Str.{chars};
 ghost use Rattle.dotenvy_format.specs.Characters.{byte_len};
-ghost use Rattle.dotenvy_format.specs.Outcome.{Outcome, Says, value_index};
-ghost use Rattle.dotenvy_base.specs.Errors.{IsMemory, IsMemoryErr};
+ghost use Rattle.dotenvy_format.specs.Outcome.{value_index};
+ghost use Rattle.dotenvy_base.specs.Errors.{IsMemory};
 ghost use Rattle.dotenvy_items.specs.Remembered.{remembered_of};
 ghost use Rattle.dotenvy_items.specs.Meaning.{look_up_of, names_of};
 ghost use Rattle.dotenvy_format.specs.Value.{Piece};
-ghost use Rattle.dotenvy_items.specs.inside.FirstPass.{IsAssigned, ScansAssigned, Scans, IsPairOf, AreCopiesOf};
-ghost use Rattle.dotenvy_items.specs.inside.ParsedLine.{IsLineAnswer, Remembers, HasKey};
+ghost use Rattle.dotenvy_items.specs.inside.FirstPass.{IsAssigned, ScansAssigned, Scans, GivesPair, GivesCopies};
+ghost use Rattle.dotenvy_items.specs.inside.ParsedLine.{AnswersLine, Remembers, HasKey};
 
 use crate::meaning::Names;
 use crate::remembered::{Remembered, remember};
@@ -48,6 +48,14 @@ pub struct Fault<'a> {
     pub text: &'a str,
     /// The index of its fault: in bytes or in characters, as docs/GRAMMAR.md says in "Faults and their places".
     pub index: usize,
+}
+
+/// A logical line that is read, and the allocator for what it says.
+#[derive(Drop)]
+pub(crate) struct Line<'a, A: Allocator> {
+    pub(crate) text: &'a str,
+    pub(crate) dialect: Dialect,
+    pub(crate) alloc: &'a A,
 }
 
 // The texts of a declaration: those that are answered, and those that are remembered.
@@ -140,16 +148,14 @@ pub(crate) fn pair_of<A: Allocator + Clone>(
 ) -> Result<Pair<A>, A>
     requires { (rest : List ℕ) × (pieces : List Piece)
         × IsAssigned dialect (look_up_of names.now) rest pieces declaration.value }
-    ensures pair { (rest : List ℕ) (pieces : List Piece) →
-        IsAssigned dialect (look_up_of names.now) rest pieces declaration.entry.value →
-        IfOk result (IsPairOf (look_up_of names.now) declaration.entry pieces) }
+    ensures pair { GivesPair dialect (look_up_of names.now) declaration.entry result }
     ensures refused { IfErr result IsMemory }
 {
     let key = String::from_str(alloc.clone()?, declaration.key)?;
     match declaration.value {
         None => Ok((key, String::new(alloc))),
         Some(written) => {
-            let value = names.expand(alloc, written.text, written.len, dialect)?;
+            let value = names.expand(alloc, written, dialect)?;
             Ok((key, value))
         }
     }
@@ -164,9 +170,7 @@ fn copies_of<A: Allocator + Clone>(
 ) -> Result<Copies<A>, A>
     requires { (rest : List ℕ) × (pieces : List Piece)
         × IsAssigned dialect (look_up_of names.now) rest pieces declaration.value }
-    ensures copies { (rest : List ℕ) (pieces : List Piece) →
-        IsAssigned dialect (look_up_of names.now) rest pieces declaration.entry.value →
-        IfOk result (AreCopiesOf (look_up_of names.now) declaration.entry pieces) }
+    ensures copies { GivesCopies dialect (look_up_of names.now) declaration.entry result }
     ensures refused { IfErr result IsMemory }
 {
     let (key, value) = pair_of(alloc.clone()?, declaration, names, dialect)?;
@@ -185,29 +189,27 @@ fn copies_of<A: Allocator + Clone>(
 
 /// What one logical line says: nothing, a key and its value, or a fault. A pair is remembered.
 pub(crate) fn parse_line<A: Allocator + Clone>(
-    alloc: A,
-    line: &str,
+    line: Line<'_, A>,
     remembered: &mut Remembered<A>,
     env: &Environment<A>,
-    dialect: Dialect,
 ) -> ParsedLine<A>
-    ensures answer { IsMemoryErr result
-        ⊎ ((outcome : Outcome) × Says dialect (chars line.now) outcome × IsLineAnswer (names_of
-        env.now.names (remembered_of remembered.old.entries)) outcome result) }
-    ensures remembers { Remembers (chars line.now) (remembered_of remembered.old.entries)
-        (remembered_of remembered.new.entries) result }
+    ensures answer { AnswersLine line.entry.dialect
+        (names_of env.now.names (remembered_of remembered.old.entries))
+        (chars line.entry.text.now) result }
+    ensures remembers { Remembers (chars line.entry.text.now)
+        (remembered_of remembered.old.entries) (remembered_of remembered.new.entries) result }
     ensures key { IfOk result HasKey }
 {
     let names = Names {
         env,
         remembered: &*remembered,
     };
-    let declaration = match scan_line(line, &names, dialect) {
+    let declaration = match scan_line(line.text, &names, line.dialect) {
         Ok(Some(declaration)) => declaration,
         Ok(None) => return Ok(None),
-        Err(fault) => return Err(fault_error(alloc, fault.text, fault.index)),
+        Err(fault) => return Err(fault_error(line.alloc.clone()?, fault.text, fault.index)),
     };
-    let copies = copies_of(alloc, declaration, &names, dialect)?;
+    let copies = copies_of(line.alloc.clone()?, declaration, &names, line.dialect)?;
     let Copies {
         key,
         value,

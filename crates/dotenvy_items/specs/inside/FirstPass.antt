@@ -1,8 +1,9 @@
 -- What the first pass over a line says, in the words of the format.
 use Rattle.std.specs.Prelude.{ℕ, ◌≡◌, not, List, [], IsTrue, Option, Some, None, is_some}
-use Rattle.std.specs.Prelude.{option_map, Result, Ok, Err, string_bytes, if◌then◌else◌}
+use Rattle.std.specs.Prelude.{option_map, Result, Ok, Err, IfOk, string_bytes, if◌then◌else◌}
 use Rattle.std.specs.Str.{chars, encode_utf8_all}
 use Rattle.std.specs.declared.string.String.{String}
+use Rattle.dotenvy_base.specs.declared.errors.Error.{Error}
 use Rattle.dotenvy_format.specs.declared.dialect.Dialect.{Dialect}
 use Rattle.dotenvy_items.specs.declared.parse.Declaration.{Declaration}
 use Rattle.dotenvy_items.specs.declared.parse.Value.{Value}
@@ -55,6 +56,14 @@ pub record IsPairOf {A : Type 0} (look_up : LookUp) (declaration : Declaration)
   pub key : string_bytes pair.0 ≡ declaration.key.now
   pub value : string_bytes pair.1 ≡ encode_utf8_all (meaning look_up pieces)
 
+-- on Ok the pair says the key, and the meaning of what the declaration's value was read from
+abbrev pub GivesPair : {A : Type 0} → Dialect → LookUp → Declaration →
+    Result (String A × String A) (Error A) → Type 0
+GivesPair dialect look_up declaration answer =
+    (rest : List ℕ) (pieces : List Piece) →
+    IsAssigned dialect look_up rest pieces declaration.value →
+    IfOk answer (IsPairOf look_up declaration pieces)
+
 -- the key, the meaning of the pieces, and the same to be remembered; no value where none is assigned
 pub record AreCopiesOf {A : Type 0} (look_up : LookUp) (declaration : Declaration)
     (pieces : List Piece) (copies : Copies A) : Type 0 where
@@ -64,3 +73,11 @@ pub record AreCopiesOf {A : Type 0} (look_up : LookUp) (declaration : Declaratio
   pub remembered_value :
       option_map string_bytes copies.remembered_value
       ≡ (if is_some declaration.value then Some (string_bytes copies.value) else None)
+
+-- on Ok the copies say the key, and the meaning of what the declaration's value was read from
+abbrev pub GivesCopies : {A : Type 0} → Dialect → LookUp → Declaration →
+    Result (Copies A) (Error A) → Type 0
+GivesCopies dialect look_up declaration answer =
+    (rest : List ℕ) (pieces : List Piece) →
+    IsAssigned dialect look_up rest pieces declaration.value →
+    IfOk answer (AreCopiesOf look_up declaration pieces)

@@ -3,18 +3,17 @@ use Rattle.std.specs.Prelude.{ℕ, ◌≡◌, ◌⊎◌, List, [], ◌∷◌, Op
 use Rattle.std.specs.Str.{chars}
 use Rattle.dotenvy_base.specs.declared.errors.Error.{Error}
 use Rattle.dotenvy_base.specs.declared.errors.Error.TheVariants.{LineParse, Io, EnvVar, Nul, Memory}
-use Rattle.dotenvy_format.specs.declared.dialect.Dialect.{Dialect}
 use Rattle.dotenvy_lines.specs.declared.lines.Stage.TheVariants.{Failed}
 use Rattle.dotenvy_base.specs.Errors.{IsMemoryErr}
 use Rattle.dotenvy_format.specs.Outcome.{Outcome, Says}
-use Rattle.dotenvy_lines.specs.Lines.{LinesState, no_line}
+use Rattle.dotenvy_lines.specs.Lines.{LinesState}
 use Rattle.dotenvy_lines.specs.inside.Splitter.{last_lines}
 use Rattle.dotenvy_format.specs.Entries.{Entry, outcome_entries}
 use Rattle.dotenvy_base.specs.Environment.{Texts}
 use Rattle.dotenvy_items.specs.Remembered.{Remembered}
 use Rattle.dotenvy_items.specs.Meaning.{names_of, recalled_of}
-use Rattle.dotenvy_items.specs.Iter.{IterState, state_of}
-use Rattle.dotenvy_items.specs.NextItem.{Item, SaysItem, entry_item, RemembersEntry}
+use Rattle.dotenvy_items.specs.NextItem.{Item, NextItem, SaysItem, entry_item, RemembersEntry}
+use Rattle.dotenvy_items.specs.inside.Reading.{ReadingState, reads_on}
 
 -- refused memory fails the logical lines, and no other fault does
 abbrev pub lines_after : {A : Type 0} → Error A → LinesState → LinesState
@@ -39,22 +38,25 @@ abbrev pub IsRefused : {A : Type 0} → Option (Item A) → LinesState → Type 
 IsRefused None t = ⊥
 IsRefused (Some item) t = IsMemoryErr item × (t.stage ≡ Failed)
 
--- the state of an iterator, where the lines of the last item do not matter
-abbrev pub reading_of : LinesState → Remembered → Dialect → IterState
-reading_of lines remembered dialect = state_of lines remembered dialect no_line
-
 -- the lines of the last item: those of one that is given, else those that were the last before
 abbrev pub item_lines_then : {T : Type 0} → Option T → LinesState → ℕ × ℕ → ℕ × ℕ
 item_lines_then None lines before = before
 item_lines_then (Some item) lines before = last_lines lines
 
--- a line's text adds what it says, unless memory is refused; a fault in its place adds itself
-abbrev pub AddsLine : {A : Type 0} → Texts → IterState → Result (Unit {0}) (Error A) → List ℕ →
-    Option (Item A) → IterState → Type 0
-AddsLine names s (Ok _) text item t =
+-- the next item of an iterator that reads s, and then reads t, whatever lines its last item is on
+abbrev pub GivesNext : {A : Type 0} → Texts → ReadingState → Option (Item A) →
+    ReadingState → Type 0
+GivesNext names s item t =
+    (before : ℕ × ℕ) →
+    NextItem names (reads_on s before) item (reads_on t (item_lines_then item t.lines before))
+
+-- the last line adds what it says, unless memory is refused; a fault in its place adds itself
+abbrev pub AddsLine : {A : Type 0} → Texts → ReadingState → Result (Unit {0}) (Error A) →
+    Option (Item A) → ReadingState → Type 0
+AddsLine names s (Ok _) item t =
     IsRefused item t.lines
-    ⊎ ((outcome : Outcome) × Says s.dialect (chars text) outcome
+    ⊎ ((outcome : Outcome) × Says s.dialect (chars s.line) outcome
     × AddsEntries names s.remembered (outcome_entries outcome) item t.remembered
     × (t.lines ≡ s.lines))
-AddsLine names s (Err e) text item t =
+AddsLine names s (Err e) item t =
     (item ≡ Some (Err e)) × (t.remembered ≡ s.remembered) × (t.lines ≡ lines_after e s.lines)

@@ -11,9 +11,10 @@ use Rattle.dotenvy_format.specs.Run.{Mode, Keep, Replace, run}
 use Rattle.dotenvy_base.specs.Environment.{Texts}
 use Rattle.dotenvy_items.specs.Remembered.{Remembered}
 use Rattle.dotenvy_items.specs.Meaning.{values_of, recalled_of}
-use Rattle.dotenvy_items.specs.LoadsRest.{Leaves}
+use Rattle.dotenvy_items.specs.LoadsRest.{Leaves, LoadsRest}
+use Rattle.dotenvy_items.specs.LoadStops.{Stops}
 use Rattle.dotenvy_lines.specs.inside.Splitter.{last_lines}
-use Rattle.dotenvy_items.specs.Iter.{IterState}
+use Rattle.dotenvy_items.specs.Iter.{IterState, IsOpen}
 use Rattle.dotenvy_items.specs.inside.ItemStep.{lines_after}
 
 -- the mode that the code names
@@ -42,3 +43,9 @@ stopped e t = record t {
 abbrev pub stopped_if : {A : Type 0} → Result (Unit {0}) (Error A) → IterState → IterState
 stopped_if (Ok _) t = t
 stopped_if (Err e) t = stopped e t
+
+-- a load of an open iterator leaves and answers this, and stops at t with the lines of its error
+pub record LoadIs {A : Type 0} (mode : Mode) (s : IterState) (old new : Texts)
+    (answer : Result (Unit {0}) (Error A)) (t : IterState) : Type 0 where
+  pub told : IsOpen s → LoadsRest (run mode) s old answer new
+  pub stops : IsOpen s → Stops (run mode) s old answer (stopped_if answer t)

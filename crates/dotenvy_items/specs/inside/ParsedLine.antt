@@ -1,14 +1,16 @@
 -- What the code returns for one logical line, and what it remembers.
-use Rattle.std.specs.Prelude.{ℕ, ◌≡◌, List, [], ◌∷◌, map, Option, Some, None, Result, Ok, Err}
+use Rattle.std.specs.Prelude.{ℕ, ◌≡◌, ◌⊎◌, List, [], ◌∷◌, map, Option, Some, None, Result, Ok, Err}
 use Rattle.std.specs.Prelude.{string_bytes, IsTrue, if◌then◌else◌}
 use Rattle.std.specs.Str.{chars}
 use Rattle.std.specs.FinMap as fin
 use Rattle.std.specs.declared.string.String.{String}
 use Rattle.dotenvy_base.specs.declared.errors.Error.{Error}
+use Rattle.dotenvy_base.specs.Errors.{IsMemoryErr}
+use Rattle.dotenvy_format.specs.declared.dialect.Dialect.{Dialect}
 use Rattle.dotenvy_format.specs.Characters.{is_empty_or_comment}
 use Rattle.dotenvy_format.specs.Statement.{IsStatement}
 use Rattle.dotenvy_format.specs.Keys.{is_key}
-use Rattle.dotenvy_format.specs.Outcome.{Outcome, trimmed}
+use Rattle.dotenvy_format.specs.Outcome.{Outcome, Says, trimmed}
 use Rattle.dotenvy_format.specs.Items.{LookUp}
 use Rattle.dotenvy_format.specs.Entries.{outcome_entries}
 use Rattle.dotenvy_items.specs.NextItem.{Item, entry_item}
@@ -27,6 +29,13 @@ abbrev pub IsLineAnswer : {A : Type 0} → LookUp → Outcome →
     Result (Option (String A × String A)) (Error A) → Type 0
 IsLineAnswer look_up outcome answer =
     SayItems (given_items answer) (map (entry_item look_up) (outcome_entries outcome))
+
+-- memory was refused, or the result gives what the line says, where names stand for these texts
+abbrev pub AnswersLine : {A : Type 0} → Dialect → LookUp → List ℕ →
+    Result (Option (String A × String A)) (Error A) → Type 0
+AnswersLine dialect look_up line answer =
+    IsMemoryErr answer
+    ⊎ ((outcome : Outcome) × Says dialect line outcome × IsLineAnswer look_up outcome answer)
 
 -- a pair is remembered, without a value where nothing or a comment is assigned; else all stays
 abbrev pub Remembers : {A : Type 0} → List ℕ → Remembered → Remembered →

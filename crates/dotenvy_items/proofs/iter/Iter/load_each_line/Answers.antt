@@ -1,21 +1,16 @@
-use Rattle.std.proofs.Common.{rules, arith, refl}
+use Rattle.std.proofs.Common.{◌≡◌, rules, arith, refl}
 use Rattle.std.proofs.lemmas.Grind.{common_steps}
 use Rattle.dotenvy_items.proofs.LoadSteps.{came_start, came_line, asks_next}
 use Rattle.dotenvy_items.proofs.StoppedLoads.{line_stops, fault_stops, none_stops, mark_stops}
 use Rattle.dotenvy_items.proofs.iter.Iter.load_each_line.Goals as goal
 
-pub returns-in_err-drop_mark-clause-told : goal.returns-in_err-drop_mark-clause-told
-returns-in_err-drop_mark-clause-told g c =
-    (mark_stops c.drop_mark.new.self.lines c.in_err-drop_mark.field-0.0 c.self.view_is c.in_err-drop_mark.ensures.told
-    c.in_err-drop_mark.ensures.err c.from_residual.ensures.1).told
-
-pub returns-in_err-drop_mark-clause-stops : goal.returns-in_err-drop_mark-clause-stops
-returns-in_err-drop_mark-clause-stops g c =
-    (mark_stops c.drop_mark.new.self.lines c.in_err-drop_mark.field-0.0 c.self.view_is c.in_err-drop_mark.ensures.told
-    c.in_err-drop_mark.ensures.err c.from_residual.ensures.1).stops
+pub returns-in_err-drop_mark-clause-loads : goal.returns-in_err-drop_mark-clause-loads
+returns-in_err-drop_mark-clause-loads g c =
+    mark_stops c.drop_mark.new.self.lines c.in_err-drop_mark.field-0.0 (rw (← c.reading.view_is) at c.self.view_is)
+    c.in_err-drop_mark.ensures.told c.in_err-drop_mark.ensures.err c.from_residual.ensures.1
 
 pub loading-init : goal.loading-init
-loading-init g c = rw (← c.self.view_is) (record {
+loading-init g c = rw (← c.self.view_is, ← c.reading.view_is) (record {
   shut = λ shut. search rules;
   came =
       came_start g.row.A.Denot c.in_ok-drop_mark.ensures.ok c.in_ok-drop_mark.ensures.counts.0
@@ -40,43 +35,31 @@ loading-preserved g c = record {
   asks = asks_next c.loading.invariant.asks c.in-Some.ensures.shut c.in-Some.ensures.asks;
 }
 
-pub returns-in_err-outcome-clause-told : goal.returns-in_err-outcome-clause-told
-returns-in_err-outcome-clause-told g c =
-    (fault_stops c.loading.invariant.came c.in-Some.ensures.shut c.in-Some.ensures.told c.in_err-outcome.was
-    c.loading.invariant.same c.from_residual-in_err-outcome.ensures.1).told
+pub returns-in_err-outcome-clause-loads : goal.returns-in_err-outcome-clause-loads
+returns-in_err-outcome-clause-loads g c =
+    let item_lines : c.self.inside.item_lines ≡ c.args.self.now.item_lines = cc in
+    rw item_lines (fault_stops c.loading.invariant.came c.in-Some.ensures.shut c.in-Some.ensures.told
+    c.in_err-outcome.was c.loading.invariant.same c.from_residual-in_err-outcome.ensures.1)
 
-pub returns-in_err-outcome-clause-stops : goal.returns-in_err-outcome-clause-stops
-returns-in_err-outcome-clause-stops g c =
-    (fault_stops c.loading.invariant.came c.in-Some.ensures.shut c.in-Some.ensures.told c.in_err-outcome.was
-    c.loading.invariant.same c.from_residual-in_err-outcome.ensures.1).stops
+pub returns-in_err-load_line-clause-loads : goal.returns-in_err-load_line-clause-loads
+returns-in_err-load_line-clause-loads g c =
+    let item_lines : c.self.inside.item_lines ≡ c.args.self.now.item_lines = cc in
+    rw item_lines (line_stops c.loading.invariant.came c.in-Some.ensures.shut c.in-Some.ensures.told
+    c.in_ok-outcome.was c.loading.invariant.same (rw c.line.ensures at c.in_err-load_line.ensures.loads)
+    c.from_residual-in_err-load_line.ensures.1)
 
-pub returns-in_err-load_line-clause-told : goal.returns-in_err-load_line-clause-told
-returns-in_err-load_line-clause-told g c =
-    (line_stops c.loading.invariant.came c.in-Some.ensures.shut c.in-Some.ensures.told c.in_ok-outcome.was
-    c.loading.invariant.same (rw c.line.ensures at c.in_err-load_line.ensures.loads)
-    c.from_residual-in_err-load_line.ensures.1).told
-
-pub returns-in_err-load_line-clause-stops : goal.returns-in_err-load_line-clause-stops
-returns-in_err-load_line-clause-stops g c =
-    (line_stops c.loading.invariant.came c.in-Some.ensures.shut c.in-Some.ensures.told c.in_ok-outcome.was
-    c.loading.invariant.same (rw c.line.ensures at c.in_err-load_line.ensures.loads)
-    c.from_residual-in_err-load_line.ensures.1).stops
-
-pub returns-clause-told : goal.returns-clause-told
-returns-clause-told g c =
-    (none_stops c.loading.invariant.came c.in_default.ensures.shut c.in_default.ensures.told
-    c.loading.invariant.same).told
-
-pub returns-clause-stops : goal.returns-clause-stops
-returns-clause-stops g c =
-    (none_stops c.loading.invariant.came c.in_default.ensures.shut c.in_default.ensures.told
-    c.loading.invariant.same).stops
+pub returns-clause-loads : goal.returns-clause-loads
+returns-clause-loads g c =
+    let item_lines : c.self.inside.item_lines ≡ c.args.self.now.item_lines = cc in
+    rw item_lines (none_stops c.loading.invariant.came c.in_default.ensures.shut c.in_default.ensures.told
+    c.loading.invariant.same)
 
 pub returns-clause-shut : goal.returns-clause-shut
 returns-clause-shut g c = λ shut.
     let was = c.loading.invariant.shut shut in
     let after = (c.in_default.ensures.shut (λ is_open. shut (rw was.0 at is_open))).1 in
-    (refl, rw (after, was.0) (rw was.0 at c.loading.invariant.same), was.1)
+    let item_lines : c.self.inside.item_lines ≡ c.args.self.now.item_lines = cc in
+    (refl, rw (after, was.0, item_lines) (rw was.0 at c.loading.invariant.same), was.1)
 
 pub returns-in_err-outcome-clause-asks : goal.returns-in_err-outcome-clause-asks
 returns-in_err-outcome-clause-asks g c =

@@ -14,8 +14,8 @@ use Rattle.dotenvy_items.proofs.iter.Iter.load_each_line.Given as goal
 abbrev pub invariant-loading : goal.invariant-loading
 invariant-loading g l =
     let now =
-    state_of l.self-inside.lines.lines (remembered_of l.self-inside.remembered.entries)
-    l.self-inside.dialect l.self-inside.item_lines in
+    state_of l.reading-inside.lines.lines (remembered_of l.reading-inside.remembered.entries)
+    l.reading-inside.dialect l.fn.self.item_lines in
     record {
       shut : l.fn.self.lines.stage ≢ Open → (now.lines ≡ l.fn.self.lines) × (l.env ≡ l.fn.env);
       came : CameTo (mode_of l.mode) l.fn.self l.fn.env.names l.env.names now.lines;
@@ -27,4 +27,4 @@ invariant-loading g l =
     }
 
 abbrev pub decreases-loading : goal.decreases-loading
-decreases-loading g l = lines_measure l.self-inside.lines.lines
+decreases-loading g l = lines_measure l.reading-inside.lines.lines
