@@ -21,7 +21,7 @@ use Rattle.std.specs.contracts.cell.Cell as CE
 use Rattle.rationed.specs.contracts.refuses as TK
 
 -- the type of the count of requests that may still be made: a cell with a `u64`
-abbrev Calls : RattleType
+abbrev pub Calls : RattleType
 Calls = CE.the_row u64
 
 module _ {M : Type 1} {𝓤 : Ura M} (𝓛 : Logic 𝓤) (at_mem : Memory → SProp 𝓤) (run : Routine → Fun 𝓤) where

@@ -1,13 +1,13 @@
 -- It refuses the request if `refuses` says so, and else answers what the inner allocator answers. Assumes `Logic`.
-use Rattle.std.proofs.Common.{◌≡◌, ℕ, ◌+◌, ◌^◌, ◌<◌, true, false, List, [], ◌∷◌, Ok, Err, refl, w64, Bor}
+use Rattle.std.proofs.Common.{◌≡◌, ℕ, ◌^◌, ◌<◌, true, false, List, [], ◌∷◌, Ok, Err, refl, w64, Bor}
 use seplogic.Ra.Ura.{Ura}
-use mir.Syntax.{Ty, Args, Fn, a_type, dnil, dcons}
+use mir.Syntax.{Ty, Fn}
 use mathlib.Core.Bool.{Bool}
 use mir.Val.{Val, vbool, vint, vptr}
 use mir.MapTy.{inst_fn}
-use base.Logic.{SProp, ent, id⊢}
+use base.Logic.{SProp, ent}
 use base.Fml.{Lft, Share, ftrue, flft}
-use prog.Memory.{Memory, size, align, capped, up}
+use prog.Memory.{Memory, size, align, capped}
 use prog.Routine.{Routine}
 use prog.Wp.{Env, WpFn, Tables}
 use types.Logic.{Logic}
@@ -18,28 +18,25 @@ use sound.WpLaws.{fm_of, WpFn-mono}
 use types.Run.{stop, fld, addr, lit, no_more, and_then, first, branches, skips, exec, returns, returns_within, enter}
 use types.Part.{agg}
 use Rattle.rationed.proofs.Bodies.{after}
-use denote.Exit.{yes}
 use denote.RattleType.{owns}
 use denote.Ref.{shr_vals}
-use denote.Opens.{unhide}
-use denote.Param.{bounded, param}
 use denote.Plain.{uint_vals, uint_Tells}
-use denote.Signature.{Slot, plain, types_at}
+use denote.Signature.{types_at}
 use denote.Steps.{heard, nothing}
 use denote.Triple.Clauses.{Ended, Clauses}
 use denote.Triple.Spec.{triple_of}
 use denote.Triple.Statement.{Triple}
 use denote.Triple.Table.{entered, cited}
-use denote.Triple.Walked.{Stays, stay_dropped, walk_of, ends_at, walked, Goes-dropped, walk_Meets}
+use denote.Triple.Walked.{walked}
 use types.Kit.{‵, raw, ◌⊛◌, some, later, given, at_ret, learn, ◌$◌, ◌∵◌, !, qed, move, keep, use0}
 use types.Kit.{use1, use2, split, pick, join, fsplit, fjoin, suffices, await, done}
 use types.ByLocal.{alloc_all, pass_all, free_all, look_at, get, through, sets, lands_as, env}
 use denote.RawPtr.{block_ptr}
-use denote.Builtin.{usize, RefOf}
 use denote.Triple.Call.{calls_at}
-use Rattle.std.proofs.alloc.Calls.{Al, α, seen, Answer, answer_val, Answer-typed, Answer-Ok}
+use Rattle.std.proofs.alloc.Calls.{Al, seen, Answer, answer_val, Answer-typed, Answer-Ok}
 use Rattle.std.proofs.alloc.Calls.{Answer-err, takes_key, Takes, at_takes, Answered, Takes-goes}
 use Rattle.std.proofs.alloc.Calls.{Takes-gives, answers}
+use Rattle.rationed.proofs.Methods.{args, inner_at, count_at, counted, opened, Walk, dropped, ends, meets}
 use Rattle.rationed.proofs.Asks.{Asks, at_asks, Asks-goes, Asks-gives}
 use Rattle.rationed.proofs.refuses.Symbol as c_sym
 use Rattle.rationed.proofs.refuses.Met as c_met
@@ -50,20 +47,11 @@ use Rattle.rationed.proofs.RationedAllocator.allocate.Statement as stated
 use Rattle.rationed.proofs.RationedAllocator.allocate.Code as code
 
 module _ (Z : Al) where
-  abbrev args : Args
-  args = bounded (a_type ∷ []) (Z.row, tt) (dcons Z.d (dcons Z.drops dnil))
-
   abbrev here : Fn
-  here = inst_fn args code.function
-
-  abbrev self : Slot 2
-  self = RefOf (0 ∷ []) tt (plain (λ _. wrapper.the_row (param 0 Z.row))) (λ _. tt)
+  here = inst_fn (args Z) code.function
 
   abbrev ended : Ended
   ended = F.ended Z.row Z.g Z.d Z.drops
-
-  abbrev stayed : Stays ended.signature.params ended.kept
-  stayed = (stay_dropped self yes, (stay_dropped (plain (λ _. usize)) yes, (stay_dropped (plain (λ _. usize)) yes, tt)))
 
 module _ (Z : Al) {M : Type 1} {𝓤 : Ura M} (𝓛 : Logic 𝓤) (at_mem : Memory → SProp 𝓤) (run : Routine → Fun 𝓤)
     (𝓣 : Tables 𝓤 𝓛.H) (tk : Triple 𝓤 (𝓣.C (takes_key Z)) (Takes Z 𝓛 at_mem run))
@@ -75,7 +63,7 @@ module _ (Z : Al) {M : Type 1} {𝓤 : Ura M} (𝓛 : Logic 𝓤) (at_mem : Memo
 
   module _ (κ₁ κ₂ : Lft) (q₁ q₂ : Share) (inn : κ₁ ⊑ κ₂) (r : Bor (wrapper.the_row Z.row).Denot) (n a : ℕ) (τ : Ty)
     where
-      abbrev bound : (walk_of 𝓛 (ended Z) (stayed Z) held).Ghost
+      abbrev bound : (Walk 𝓛 (ended Z) held).Ghost
       bound = (
         (
           (κ₁, (κ₂, tt)),
@@ -94,14 +82,14 @@ module _ (Z : Al) {M : Type 1} {𝓤 : Ura M} (𝓛 : Logic 𝓤) (at_mem : Memo
       vs = vptr r.ref_ptr.0 r.ref_ptr.1 ∷ vint w64 n ∷ vint w64 a ∷ []
 
       abbrev Post : Val → SProp 𝓤
-      Post = (walk_of 𝓛 (ended Z) (stayed Z) held).post bound
+      Post = (Walk 𝓛 (ended Z) held).post bound
 
       walk : n < 2 ^ 64 → a < 2 ^ 64 →
-          ent 𝓤 ((walk_of 𝓛 (ended Z) (stayed Z) held).pre bound) (WpFn 𝓤 H 𝓣.C 𝓣.Λ (here Z) vs Post)
+          ent 𝓤 ((Walk 𝓛 (ended Z) held).pre bound) (WpFn 𝓤 H 𝓣.C 𝓣.Λ (here Z) vs Post)
       walk fn fa =
           let h : Z.row.Denot = r.now.inner in
-          let p : ℕ × ℕ = (r.ref_ptr.0, r.ref_ptr.1 + up (align (α Z)) 0) in
-          let c : ℕ × ℕ = (r.ref_ptr.0, r.ref_ptr.1 + up 8 (up (align (α Z)) 0 + size (α Z))) in
+          let p : ℕ × ℕ = inner_at Z r in
+          let c : ℕ × ℕ = count_at Z r in
           let y : (Takes Z 𝓛 at_mem run).Ghost = at_takes Z 𝓛 at_mem run κ₁ q₁ p h n a τ in
           let Said : Type 0 = (capped (size τ) ≡ n) × (capped (align τ) ≡ a) in
           qed 𝓛
@@ -112,15 +100,10 @@ module _ (Z : Al) {M : Type 1} {𝓤 : Ura M} (𝓛 : Logic 𝓤) (at_mem : Memo
           $ split !
           $ move ! (2 ∷ [])
           $ fsplit !
-          $ fsplit !
-          $ move ! (1 ∷ [])
-          $ unhide !
-          $ fsplit !
-          $ fsplit !
-          $ use1 𝓛 (‵ (seen Z κ₁ p h)) (id⊢ 𝓤 _)
-          $ move ! (1 ∷ [])
-          $ fsplit !
-          $ keep ! (0 ∷ 6 ∷ 2 ∷ 7 ∷ [])
+          $
+          use1 𝓛 (‵ (seen Z κ₁ p h) ⊛ ‵ (counted Z κ₁ r)) (opened Z 𝓛 (κ₁, (κ₂, tt)) r) $
+          split !
+          $ keep ! (1 ∷ 3 ∷ 0 ∷ 4 ∷ [])
           $
           enter ! 𝓣.C 𝓣.Λ (here Z) vs _
           $ alloc_all !
@@ -138,19 +121,12 @@ module _ (Z : Al) {M : Type 1} {𝓤 : Ura M} (𝓛 : Logic 𝓤) (at_mem : Memo
           (λ t₁. sets ! (agg ! (no_more !)) refl (tt, tt) $
           sets ! (agg ! (and_then ! (lit ! tt) (and_then ! (get ! refl) (no_more !)))) refl (Answer-typed false 0 0) $
           returns_within ! Post refl (look_at ! 0 refl) $ free_all ! refl $ keep ! (0 ∷ 2 ∷ []) $ nothing ! $
-          suffices ! _ (ends_at 𝓛 (ended Z) (stayed Z) held bound (answer_val false 0 0) (Err (record {}))
-          (tt, (tt, (tt, tt))) (tt, (tt, (tt, tt)))) $
+          suffices ! _ (ends 𝓛 (ended Z) held bound (answer_val false 0 0) (Err (record {})) (tt, (tt, (tt, tt)))) $
           use0 𝓛 (‵ (Answer.own_val (Err (record {})) (answer_val false 0 0 ∷ []))) (Answer-err 𝓛)
-          $ nothing !
-          $ nothing !
-          $ fjoin !
-          $ nothing !
-          $ fjoin !
-          $ nothing !
-          $ fjoin !
+          $ move ! (2 ∷ 3 ∷ [])
           $ join !
           $
-          move ! (2 ∷ 3 ∷ []) $ join ! $ join ! $ done !)
+          done !)
           (λ t₁. skips ! $ exec ! 𝓣.C 𝓣.Λ En (after 3 (here Z).body) (at_ret En Post) $ move ! (1 ∷ []) $
           sets ! (addr ! (through ! refl (fld ! refl (stop !)))) refl (tt, tt) $
           use2 𝓛 (raw ((Takes Z 𝓛 at_mem run).pre y))
@@ -165,34 +141,20 @@ module _ (Z : Al) {M : Type 1} {𝓤 : Ura M} (𝓛 : Logic 𝓤) (at_mem : Memo
           answers Z ! at_mem run h τ v
           (λ b o e. fjoin ! $ lands_as ! e refl (Answer-typed true b o) $ returns ! (look_at ! 0 refl) $
           free_all ! refl $
-          suffices ! _ (ends_at 𝓛 (ended Z) (stayed Z) held bound (answer_val true b o) (Ok (block_ptr b o))
-          (tt, (tt, (tt, tt))) (tt, (tt, (tt, tt)))) $
+          suffices ! _ (ends 𝓛 (ended Z) held bound (answer_val true b o) (Ok (block_ptr b o)) (tt, (tt, (tt, tt)))) $
           use0 𝓛 (‵ (Answer.own_val (Ok (block_ptr b o)) (answer_val true b o ∷ []))) (Answer-Ok 𝓛 b o)
-          $ nothing !
-          $ nothing !
-          $ fjoin !
-          $ nothing !
-          $ fjoin !
-          $ nothing !
-          $ fjoin !
+          $ move ! (2 ∷ 3 ∷ [])
           $ join !
           $
-          move ! (2 ∷ 3 ∷ []) $ join ! $ join ! $ done !)
+          done !)
           (λ e. nothing ! $ lands_as ! e refl (Answer-typed false 0 0) $ returns ! (look_at ! 0 refl) $
           free_all ! refl $
-          suffices ! _ (ends_at 𝓛 (ended Z) (stayed Z) held bound (answer_val false 0 0) (Err (record {}))
-          (tt, (tt, (tt, tt))) (tt, (tt, (tt, tt)))) $
+          suffices ! _ (ends 𝓛 (ended Z) held bound (answer_val false 0 0) (Err (record {})) (tt, (tt, (tt, tt)))) $
           use0 𝓛 (‵ (Answer.own_val (Err (record {})) (answer_val false 0 0 ∷ []))) (Answer-err 𝓛)
-          $ nothing !
-          $ nothing !
-          $ fjoin !
-          $ nothing !
-          $ fjoin !
-          $ nothing !
-          $ fjoin !
+          $ move ! (2 ∷ 3 ∷ [])
           $ join !
           $
-          move ! (2 ∷ 3 ∷ []) $ join ! $ join ! $ done !)))))))))
+          done !)))))))))
 
 -- where the inner allocator keeps its contract of `allocate`, so does the rationed one
 pub allocate_spec : {M : Type 1} → stated.statement M
@@ -204,15 +166,9 @@ allocate_spec 𝓤 𝓛 𝓜 𝓡 wired Y L g d d' met _ =
     let c = F.clauses Y g d d' 𝓛 𝓜.mem 𝓡.returns in
     entered 𝓤 𝓛.H (triple_of 𝓛 (F.signature Y) (F.spec Y g d d' 𝓛 𝓜.mem 𝓡.returns)) 𝓣.C 𝓣.Λ (key.name (args Z))
     (here Z) (code.unfolded 𝓤 𝓛.H 𝓜 𝓡 wired (Y, tt) d d')
-    (walk_Meets 𝓛 (ended Z) (stayed Z) (
-      Goes-dropped 𝓛 2 (self Z) yes (λ κs x f. refl),
-      (
-        Goes-dropped 𝓛 2 (plain (λ _. usize)) yes (λ κs x f. refl),
-        (Goes-dropped 𝓛 2 (plain (λ _. usize)) yes (λ κs x f. refl), tt),
-      ),
-    ) c (WpFn 𝓤 𝓛.H 𝓣.C 𝓣.Λ (here Z))
+    (meets 𝓛 (ended Z) c ((λ κs x f. refl), ((λ κs x f. refl), ((λ κs x f. refl), tt))) (WpFn 𝓤 𝓛.H 𝓣.C 𝓣.Λ (here Z))
     (WpFn-mono 𝓤 𝓛.H 𝓛.laws 𝓣 (here Z))
-    (walked 𝓛 (ended Z) (stayed Z) c (WpFn 𝓤 𝓛.H 𝓣.C 𝓣.Λ (here Z))
+    (walked 𝓛 (ended Z) (dropped (ended Z)) c (WpFn 𝓤 𝓛.H 𝓣.C 𝓣.Λ (here Z))
     (λ κs. (shr_vals, (uint_vals w64, (uint_vals w64, tt))))
     (λ κs. ((λ r vs s. s.0), (uint_Tells w64, (uint_Tells w64, tt))))
     (λ κs qs bounds a τ are.

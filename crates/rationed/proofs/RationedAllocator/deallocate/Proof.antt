@@ -1,12 +1,12 @@
 -- It gives the block back to the inner allocator. Assumes `Logic`.
-use Rattle.std.proofs.Common.{◌≡◌, ℕ, ◌+◌, ◌^◌, ◌<◌, List, [], ◌∷◌, refl, w64, Bor}
+use Rattle.std.proofs.Common.{◌≡◌, ℕ, ◌^◌, ◌<◌, List, [], ◌∷◌, refl, w64, Bor}
 use seplogic.Ra.Ura.{Ura}
-use mir.Syntax.{Ty, Args, Fn, a_type, dnil, dcons}
+use mir.Syntax.{Ty, Fn}
 use mir.Val.{Val, vint, vptr}
 use mir.MapTy.{inst_fn}
-use base.Logic.{SProp, ent, id⊢}
+use base.Logic.{SProp, ent}
 use base.Fml.{Lft, Share, ftrue, flft}
-use prog.Memory.{Memory, size, align, capped, up}
+use prog.Memory.{Memory, size, align, capped}
 use prog.Routine.{Routine}
 use prog.Wp.{WpFn, Tables}
 use types.Logic.{Logic}
@@ -15,30 +15,27 @@ use contract.Monad.{Fun, fact}
 use contract.Running.{tables, tables_of}
 use sound.WpLaws.{fm_of, WpFn-mono}
 use types.Run.{stop, fld, addr, no_more, and_then, of_opd, returns, enter}
-use denote.Exit.{yes}
 use denote.RattleType.{owns}
 use denote.Ref.{shr_vals}
-use denote.Opens.{unhide}
-use denote.Param.{bounded, param}
 use denote.Plain.{uint_vals, uint_Tells}
-use denote.Signature.{Slot, plain, types_at}
+use denote.Signature.{types_at}
 use denote.Steps.{heard, nothing}
 use denote.Triple.Clauses.{Ended, Clauses}
 use denote.Triple.Spec.{triple_of}
 use denote.Triple.Statement.{Triple}
 use denote.Triple.Table.{entered}
-use denote.Triple.Walked.{Stays, stay_dropped, walk_of, ends_at, walked, Goes-dropped, walk_Meets}
+use denote.Triple.Walked.{walked}
 use mir.Val.{vunit}
 use base.Logic.{never_e}
 use base.Fml.{ffalse, fsep, froom}
 use types.Kit.{Item, ‵, raw, ◌⊛◌, later, given, ◌$◌, ◌∵◌, !, qed, by, move, keep, use1, split}
-use types.Kit.{split3, join, learn, fsplit, fjoin, feq_i, suffices, await, done}
+use types.Kit.{split3, join, learn, fsplit, feq_i, suffices, await, done}
 use types.Run.{unit_lit}
 use types.ByLocal.{alloc_all, pass_all, free_all, look_at, get, through, sets, lands_as}
 use denote.RawPtr.{Ptr, block_ptr, null_ptr, ptr_val, rawptr_vals, rawptr_Tells}
-use denote.Builtin.{usize, RawPtr, RefOf}
 use denote.Triple.Call.{calls_at}
-use Rattle.std.proofs.alloc.Calls.{Al, α, seen, token, gives_key, Gives, at_gives, Gives-goes, Gives-Gives}
+use Rattle.std.proofs.alloc.Calls.{Al, seen, token, gives_key, Gives, at_gives, Gives-goes, Gives-Gives}
+use Rattle.rationed.proofs.Methods.{args, inner_at, counted, opened, Walk, dropped, ends, meets}
 use Rattle.rationed.specs.contracts.Rationed as wrapper
 use Rattle.rationed.specs.contracts.RationedAllocator.deallocate as F
 use Rattle.rationed.specs.contracts.RationedAllocator.deallocate.Key as key
@@ -46,26 +43,11 @@ use Rattle.rationed.proofs.RationedAllocator.deallocate.Statement as stated
 use Rattle.rationed.proofs.RationedAllocator.deallocate.Code as code
 
 module _ (Z : Al) where
-  abbrev args : Args
-  args = bounded (a_type ∷ []) (Z.row, tt) (dcons Z.d (dcons Z.drops dnil))
-
   abbrev here : Fn
-  here = inst_fn args code.function
-
-  abbrev self : Slot 2
-  self = RefOf (0 ∷ []) tt (plain (λ _. wrapper.the_row (param 0 Z.row))) (λ _. tt)
+  here = inst_fn (args Z) code.function
 
   abbrev ended : Ended
   ended = F.ended Z.row Z.g Z.d Z.drops
-
-  abbrev stayed : Stays ended.signature.params ended.kept
-  stayed = (
-    stay_dropped self yes,
-    (
-      stay_dropped (plain (λ _. RawPtr)) yes,
-      (stay_dropped (plain (λ _. usize)) yes, (stay_dropped (plain (λ _. usize)) yes, tt)),
-    ),
-  )
 
 module _ (Z : Al) {M : Type 1} {𝓤 : Ura M} (𝓛 : Logic 𝓤) (at_mem : Memory → SProp 𝓤) (run : Routine → Fun 𝓤)
     (𝓣 : Tables 𝓤 𝓛.H) (de : Triple 𝓤 (𝓣.C (gives_key Z)) (Gives Z 𝓛 at_mem run)) where
@@ -76,7 +58,7 @@ module _ (Z : Al) {M : Type 1} {𝓤 : Ura M} (𝓛 : Logic 𝓤) (at_mem : Memo
 
   module _ (κ₁ κ₂ : Lft) (q₁ q₂ : Share) (inn : κ₁ ⊑ κ₂) (r : Bor (wrapper.the_row Z.row).Denot) (n a : ℕ) (τ : Ty)
     where
-      abbrev bound : Ptr → (walk_of 𝓛 (ended Z) (stayed Z) held).Ghost
+      abbrev bound : Ptr → (Walk 𝓛 (ended Z) held).Ghost
       bound x = (
         (
           (κ₁, (κ₂, tt)),
@@ -95,7 +77,7 @@ module _ (Z : Al) {M : Type 1} {𝓤 : Ura M} (𝓛 : Logic 𝓤) (at_mem : Memo
       vs x = vptr r.ref_ptr.0 r.ref_ptr.1 ∷ ptr_val x ∷ vint w64 n ∷ vint w64 a ∷ []
 
       abbrev Post : Ptr → Val → SProp 𝓤
-      Post x = (walk_of 𝓛 (ended Z) (stayed Z) held).post (bound x)
+      Post x = (Walk 𝓛 (ended Z) held).post (bound x)
 
       abbrev entry : Ptr → Item 𝓤
       entry x =
@@ -106,7 +88,7 @@ module _ (Z : Al) {M : Type 1} {𝓤 : Ura M} (𝓛 : Logic 𝓤) (at_mem : Memo
       Said = (capped (size τ) ≡ n) × (capped (align τ) ≡ a)
 
       walk : n < 2 ^ 64 → a < 2 ^ 64 → (x : Ptr) →
-          ent 𝓤 ((walk_of 𝓛 (ended Z) (stayed Z) held).pre (bound x)) (WpFn 𝓤 H 𝓣.C 𝓣.Λ (here Z) (vs x) (Post x))
+          ent 𝓤 ((Walk 𝓛 (ended Z) held).pre (bound x)) (WpFn 𝓤 H 𝓣.C 𝓣.Λ (here Z) (vs x) (Post x))
       walk fn fa null_ptr =
           qed 𝓛
           (entry null_ptr
@@ -115,8 +97,7 @@ module _ (Z : Al) {M : Type 1} {𝓤 : Ura M} (𝓛 : Logic 𝓤) (at_mem : Memo
           move ! (1 ∷ []) $ split3 ! $ move ! (2 ∷ []) $ fsplit ! $ keep ! (0 ∷ []) $ by ! (never_e 𝓤 _)
       walk fn fa (block_ptr b o) =
           let h : Z.row.Denot = r.now.inner in
-          let p : ℕ × ℕ = (r.ref_ptr.0, r.ref_ptr.1 + up (align (α Z)) 0) in
-          let c : ℕ × ℕ = (r.ref_ptr.0, r.ref_ptr.1 + up 8 (up (align (α Z)) 0 + size (α Z))) in
+          let p : ℕ × ℕ = inner_at Z r in
           let x : Ptr = block_ptr b o in
           let y : (Gives Z 𝓛 at_mem run).Ghost = at_gives Z 𝓛 at_mem run κ₁ q₁ p h b o n a τ in
           qed 𝓛
@@ -128,15 +109,10 @@ module _ (Z : Al) {M : Type 1} {𝓤 : Ura M} (𝓛 : Logic 𝓤) (at_mem : Memo
           $ split !
           $ move ! (2 ∷ [])
           $ fsplit !
-          $ fsplit !
-          $ move ! (1 ∷ [])
-          $ unhide !
-          $ fsplit !
-          $ fsplit !
-          $ use1 𝓛 (‵ (seen Z κ₁ p h)) (id⊢ 𝓤 _)
-          $ move ! (1 ∷ [])
-          $ fsplit !
-          $ keep ! (2 ∷ 6 ∷ 7 ∷ 8 ∷ [])
+          $
+          use1 𝓛 (‵ (seen Z κ₁ p h) ⊛ ‵ (counted Z κ₁ r)) (opened Z 𝓛 (κ₁, (κ₂, tt)) r) $
+          split !
+          $ keep ! (0 ∷ 3 ∷ 4 ∷ 5 ∷ [])
           $
           enter ! 𝓣.C 𝓣.Λ (here Z) (vs x) _
           $ alloc_all ! (λ l.
@@ -158,22 +134,13 @@ module _ (Z : Al) {M : Type 1} {𝓤 : Ura M} (𝓛 : Logic 𝓤) (at_mem : Memo
           $ returns ! (look_at ! 0 refl)
           $ free_all ! refl
           $
-          suffices ! _ (ends_at 𝓛 (ended Z) (stayed Z) held (bound x) vunit tt (tt, (tt, (tt, (tt, tt))))
-          (tt, (tt, (tt, (tt, tt))))) $
+          suffices ! _ (ends 𝓛 (ended Z) held (bound x) vunit tt (tt, (tt, (tt, (tt, tt))))) $
           nothing !
           $ feq_i ! (List Val) (vunit ∷ []) (vunit ∷ []) refl
-          $ nothing !
-          $ nothing !
-          $ fjoin !
-          $ nothing !
-          $ fjoin !
-          $ nothing !
-          $ fjoin !
-          $ nothing !
-          $ fjoin !
+          $ move ! (2 ∷ 3 ∷ [])
           $ join !
           $
-          move ! (2 ∷ 3 ∷ []) $ join ! $ join ! $ done !)))))
+          done !)))))
 
 -- where the inner allocator keeps its contract of `deallocate`, so does the rationed one
 pub deallocate_spec : {M : Type 1} → stated.statement M
@@ -185,18 +152,10 @@ deallocate_spec 𝓤 𝓛 𝓜 𝓡 wired Y L g d d' met _ =
     let c = F.clauses Y g d d' 𝓛 𝓜.mem 𝓡.returns in
     entered 𝓤 𝓛.H (triple_of 𝓛 (F.signature Y) (F.spec Y g d d' 𝓛 𝓜.mem 𝓡.returns)) 𝓣.C 𝓣.Λ (key.name (args Z))
     (here Z) (code.unfolded 𝓤 𝓛.H 𝓜 𝓡 wired (Y, tt) d d')
-    (walk_Meets 𝓛 (ended Z) (stayed Z) (
-      Goes-dropped 𝓛 2 (self Z) yes (λ κs x f. refl),
-      (
-        Goes-dropped 𝓛 2 (plain (λ _. RawPtr)) yes (λ κs x f. refl),
-        (
-          Goes-dropped 𝓛 2 (plain (λ _. usize)) yes (λ κs x f. refl),
-          (Goes-dropped 𝓛 2 (plain (λ _. usize)) yes (λ κs x f. refl), tt),
-        ),
-      ),
-    ) c (WpFn 𝓤 𝓛.H 𝓣.C 𝓣.Λ (here Z))
+    (meets 𝓛 (ended Z) c ((λ κs x f. refl), ((λ κs x f. refl), ((λ κs x f. refl), ((λ κs x f. refl), tt))))
+    (WpFn 𝓤 𝓛.H 𝓣.C 𝓣.Λ (here Z))
     (WpFn-mono 𝓤 𝓛.H 𝓛.laws 𝓣 (here Z))
-    (walked 𝓛 (ended Z) (stayed Z) c (WpFn 𝓤 𝓛.H 𝓣.C 𝓣.Λ (here Z))
+    (walked 𝓛 (ended Z) (dropped (ended Z)) c (WpFn 𝓤 𝓛.H 𝓣.C 𝓣.Λ (here Z))
     (λ κs. (shr_vals, (rawptr_vals, (uint_vals w64, (uint_vals w64, tt)))))
     (λ κs. ((λ r vs s. s.0), (rawptr_Tells, (uint_Tells w64, (uint_Tells w64, tt)))))
     (λ κs qs bounds a τ are.
