@@ -16,8 +16,8 @@ use Rattle.dotenvy_format.specs.Outcome.{Nothing}
 use Rattle.dotenvy_format.specs.Entries.{Entry, outcome_entries}
 use Rattle.dotenvy_format.proofs.statements.Outcomes.{one_outcome}
 use Rattle.dotenvy_lines.specs.declared.lines.Stage.TheVariants.{Open, Failed}
-use Rattle.dotenvy_lines.specs.Input.{InputState, IsTold, IsFinal, DropsMark, begins_mark}
-use Rattle.dotenvy_lines.specs.Lines.{LinesState}
+use Rattle.dotenvy_lines.specs.Input.{InputState, IsFinal, DropsMark, begins_mark}
+use Rattle.dotenvy_lines.specs.Lines.{LinesState, WhereOpen}
 use Rattle.dotenvy_lines.specs.inside.NextLine.{AdvanceIs}
 use Rattle.dotenvy_lines.specs.inside.Splitter.{SplitterState, last_lines}
 use Rattle.dotenvy_lines.proofs.Inputs.{ahead_of, final_before, the_bytes, the_fault}
@@ -26,11 +26,10 @@ use Rattle.dotenvy_checker.specs.declared.lines.Checker.{Checker}
 use Rattle.dotenvy_checker.specs.Numbered.{at_line}
 use Rattle.dotenvy_checker.specs.declared.report.Report.{Report}
 use Rattle.dotenvy_checker.specs.Checks.{names_in, found_in, FewLines, ReadsEntries}
-use Rattle.dotenvy_checker.specs.Findings.{Names, no_names, findings}
+use Rattle.dotenvy_checker.specs.Findings.{Names, findings}
 use Rattle.dotenvy_checker.specs.Report.{report}
-use Rattle.dotenvy_checker.specs.inside.Reports.{nothing_found}
-use Rattle.dotenvy_checker.specs.inside.CheckedLines.{declared_of, ChecksEntries, ChecksOutcome}
-use Rattle.dotenvy_checker.specs.inside.CheckedLines.{ChecksRead, ChecksUpTo}
+use Rattle.dotenvy_checker.specs.inside.CheckedLines.{IsNew, ChecksEntries, ChecksOutcome}
+use Rattle.dotenvy_checker.specs.inside.CheckedLines.{ChecksRead, ChecksUpTo, WhereFew}
 use Rattle.dotenvy_checker.proofs.Found.{checks_none, checks_more}
 use Rattle.dotenvy_checker.proofs.ReadLines.{Reading, Takes, DecidedBefore, reading_more, reads_all, reads_before}
 
@@ -42,13 +41,13 @@ pub record CheckedTo {A : Type 0} (a : Ahead) (s t : LinesState) (old new : Chec
 
 -- the same, whatever is told
 pub record CheckedSoFar {A : Type 0} (s t : LinesState) (old new : Checker A) : Type 0 where
-  pub told : s.stage ≡ Open → (a : Ahead) → IsTold s.input.left a → FewLines s a → CheckedTo a s t old new
+  pub told : WhereFew s (λ a. CheckedTo a s t old new)
 
 -- the splitter at t answers so, and leaves this text and u
 pub record Answers {A : Type 0} (t : LinesState) (answer : Option (Result (Unit {0}) (Error A))) (text : List ℕ)
     (u : LinesState) : Type 0 where
   pub shut : t.stage ≢ Open → answer ≡ None
-  pub told : (a : Ahead) → t.stage ≡ Open → IsTold t.input.left a → AdvanceIs a t answer text u
+  pub told : WhereOpen t (λ a. AdvanceIs a t answer text u)
 
 -- where some lines were checked, a line that is given is the next of those that are left
 next_line : {A : Type 0} {a : Ahead} {s t u : LinesState} {old now : Checker A} {outcome : Result (Unit {0}) (Error A)}
@@ -100,16 +99,16 @@ pub checked_more : {A : Type 0} {s t : LinesState} {old now new : Checker A} (u 
     (outcome : Result (Unit {0}) (Error A)) → CheckedSoFar s t old now → Answers t (Some outcome) u.line u.lines →
     ChecksOutcome u outcome now new → CheckedSoFar s u.lines old new
 checked_more u outcome came answers checks = record {
-  told = λ opened a told few.
-      let k = came.told opened a told few in outcome_checked u outcome few k (next_line k answers) checks;
+  told = λ a opened told few.
+      let k = came.told a opened told few in outcome_checked u outcome few k (next_line k answers) checks;
 }
 
 -- where no line is left, all entries were checked
 pub checked_all : {A : Type 0} {s t : LinesState} {old new : Checker A} (u : LinesState) (text : List ℕ) →
-    CheckedSoFar s t old new → Answers {A = A} t None text u → s.stage ≡ Open → (a : Ahead) → IsTold s.input.left a →
-    FewLines s a → ChecksRead {A = A} old.dialect s a (Ok tt) old new
-checked_all u text came answers opened a told few =
-    let k = came.told opened a told few in
+    CheckedSoFar s t old new → Answers {A = A} t None text u →
+    WhereFew s (λ a. ChecksRead {A = A} s a (Ok tt) old new)
+checked_all u text came answers a opened told few =
+    let k = came.told a opened told few in
     let left = ahead_of k.reading.left a.fault in
     let rest : (k.reading.left ≡ []) × (a.fault ≡ None) = elim k.reading.goes_on [
       | inl is_open ↦
@@ -123,7 +122,7 @@ checked_all u text came answers opened a told few =
 -- a final fault, before which the entries that were checked are decided, ends a check
 check_ends : {A : Type 0} {numbered : List (ℕ × Entry)} {old new : Checker A} (a : Ahead) (s : LinesState)
     (m : InputState) (e : Error A) → IsFinal a s.input (DecidedBefore old.dialect s numbered) e m →
-    ChecksEntries numbered old new → ChecksRead old.dialect s a (Err e) old new
+    ChecksEntries numbered old new → ChecksRead s a (Err e) old new
 check_ends {numbered = numbered} a s m e (inl memory) checks = inl memory
 check_ends {numbered = numbered} a s m e (inr io) checks = inr (numbered, (m, io), checks)
 
@@ -131,10 +130,10 @@ check_ends {numbered = numbered} a s m e (inr io) checks = inr (numbered, (m, io
 pub checked_before : {A : Type 0} {s t u : LinesState} {text : List ℕ} {old now new : Checker A}
     {outcome : Result (Unit {0}) (Error A)} (e : Error A) → CheckedSoFar s t old now →
     Answers t (Some outcome) text u → IsMemory e ⊎ ((outcome ≡ Err e) × (u.stage ≡ Failed) × (new ≡ now)) →
-    s.stage ≡ Open → (a : Ahead) → IsTold s.input.left a → FewLines s a → ChecksRead old.dialect s a (Err e) old new
-checked_before e came answers (inl refused) opened a told few = inl refused
-checked_before {s = s} {u = u} e came answers (inr (is, failed, same)) opened a told few =
-    let k = came.told opened a told few in
+    WhereFew s (λ a. ChecksRead s a (Err e) old new)
+checked_before e came answers (inl refused) a opened told few = inl refused
+checked_before {s = s} {u = u} e came answers (inr (is, failed, same)) a opened told few =
+    let k = came.told a opened told few in
     rw same (elim (rw is at (next_line k answers)) [
       | inl (count, takes, counts, inl is_open) ↦ cc
       | inl (count, takes, counts, inr (ended, nothing)) ↦ cc
@@ -143,7 +142,7 @@ checked_before {s = s} {u = u} e came answers (inr (is, failed, same)) opened a 
 
 -- a fault before a byte order mark is decided ends a check of nothing
 pub checked_mark : {A : Type 0} (a : Ahead) (s m : LinesState) (old : Checker A) (e : Error A) →
-    DropsMark a s.input (Err e) m.input → ChecksRead old.dialect s a (Err e) old old
+    DropsMark a s.input (Err e) m.input → ChecksRead s a (Err e) old old
 checked_mark a s m old e drops =
     check_ends a s m.input e (final_before a s.input s.input m.input (λ bytes. begins_mark bytes ≡ true)
     (DecidedBefore old.dialect s []) [] a.bytes e refl (omega arith)
@@ -154,10 +153,9 @@ checked_mark a s m old e drops =
 -- a checker that read no line yet has come to where the mark is dropped
 pub checked_none : {A : Type 0} (s t : LinesState) (old : Checker A) → (s.stage ≡ Open → t.stage ≡ s.stage) →
     t.lines_taken ≡ s.lines_taken →
-    ((a : Ahead) → s.stage ≡ Open → IsTold s.input.left a → DropsMark {A = A} a s.input (Ok tt) t.input) →
-    CheckedSoFar s t old old
+    WhereOpen s (λ a. DropsMark {A = A} a s.input (Ok tt) t.input) → CheckedSoFar s t old old
 checked_none s t old stage taken drops = record {
-  told = λ opened a told few.
+  told = λ a opened told few.
       let m = marked a.bytes in
       let dropped = drops a opened told in record {
         numbered = [];
@@ -188,18 +186,15 @@ pub record IsReported {A : Type 0} (env : Names) (file : List ℕ) (dialect : Di
   pub found : report_of.found ≡ found_in (findings env numbered)
 
 -- a checker of which nothing was read reports what it then reads of the lines that were handed over
-pub is_reported : {A : Type 0} {env : Env} {file : List ℕ} {dialect : Dialect} {s t : LinesState} {a : Ahead}
-    {fault is : Option (Error A)} (old new : Checker A) → fault ≡ is → old.env.now ≡ env → declared_of old ≡ no_names →
-    old.dialect ≡ dialect →
-    (string_bytes old.report.text ≡ []) × (old.report.file.now ≡ file) × (old.report.found ≡ nothing_found) → t ≡ s →
-    (t.stage ≡ Open → (b : Ahead) → IsTold t.input.left b → FewLines t b → ChecksUpTo old.dialect t b fault old new) →
-    s.stage ≡ Open → IsTold s.input.left a → FewLines s a →
-    IsReported (names_in env.names) (chars file) dialect s a is new.report
-is_reported {a = a} old new fault env declared dialect (text, file, found) same told opened is_told few =
-    let (numbered, reads, checks) = (rw same at told) opened a is_told few in
-    let adds = rw (env, declared) at checks.report in record {
+pub is_reported : {A : Type 0} {env : Env} {file : List ℕ} {dialect given : Dialect} {s t : LinesState}
+    {fault is : Option (Error A)} {old : Checker A} (new : Checker A) → IsNew file env given old → given ≡ dialect →
+    t ≡ s → WhereFew t (λ a. ChecksUpTo t a fault old new) → fault ≡ is →
+    WhereFew s (λ a. IsReported (names_in env.names) (chars file) dialect s a is new.report)
+is_reported new made dialect same told fault a opened is_told few =
+    let (numbered, reads, checks) = (rw same at told) a opened is_told few in
+    let adds = rw (made.environment, made.declared) at checks.report in record {
       numbered = numbered;
-      reads = rw (dialect, fault) at reads;
-      text = rw (adds.text, text, file);
-      found = rw (adds.found, found);
+      reads = rw (made.in_dialect, dialect, fault) at reads;
+      text = rw (adds.text, made.text, made.file);
+      found = rw (adds.found, made.found);
     }

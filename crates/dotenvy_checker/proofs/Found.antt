@@ -21,10 +21,11 @@ use Rattle.dotenvy_format.specs.inside.NextPiece.{without_texts, named_piece, Is
 use Rattle.dotenvy_format.proofs.values.Values.{read-value}
 use Rattle.dotenvy_items.proofs.Meanings.{all_read}
 use Rattle.dotenvy_checker.specs.Findings.{Finding, DeclaredTwice, Names, with_name, only_if}
-use Rattle.dotenvy_checker.specs.Findings.{has_value, piece_findings, declared_after, entry_findings, findings_from}
+use Rattle.dotenvy_checker.specs.Findings.{piece_findings, declared_after, entry_findings, findings_from}
 use Rattle.dotenvy_checker.specs.Numbered.{at_line}
 use Rattle.dotenvy_checker.specs.inside.Reports.{Adds}
-use Rattle.dotenvy_checker.specs.inside.CheckedLines.{env_of, declared_of, declared_by, Finds, ChecksEntries}
+use Rattle.dotenvy_checker.specs.inside.CheckedLines.{env_of, declared_of, known_of, declared_by}
+use Rattle.dotenvy_checker.specs.inside.CheckedLines.{Finds, FindsPieces, ChecksEntry, ChecksEntries}
 
 -- no finding is added to a report that stays as it is
 pub adds_none : {A : Type 0} (r : Report A) → Adds [] r r
@@ -84,7 +85,7 @@ same_dialect h = rw h.same
 
 -- findings that are added change no name that has a value
 same_known : {A : Type 0} {fs : List (ℕ × Finding)} {a b : Checker A} → Finds fs a b →
-    has_value (env_of b) (declared_of b) ≡ has_value (env_of a) (declared_of a)
+    known_of b ≡ known_of a
 same_known h = rw h.same
 
 -- pieces have the findings of those that are no text
@@ -97,12 +98,10 @@ without_texts-finds names (lone_backslash ∷ pieces) = rw (without_texts-finds 
 
 -- with the findings of one more of the code's pieces, those of all pieces so far are found
 pub finds_pieces : {A : Type 0} (number : ℕ) (pieces more : List Piece) (piece : CodePiece) {a b c : Checker A} →
-    Finds (at_line number (flat_map (piece_findings (has_value (env_of a) (declared_of a))) pieces)) a b →
-    without_texts more ≡ named_piece piece →
-    Finds (at_line number (flat_map (piece_findings (has_value (env_of b) (declared_of b))) (named_piece piece))) b c →
-    Finds (at_line number (flat_map (piece_findings (has_value (env_of a) (declared_of a))) (pieces ++ more))) a c
+    FindsPieces number pieces a b → without_texts more ≡ named_piece piece →
+    FindsPieces number (named_piece piece) b c → FindsPieces number (pieces ++ more) a c
 finds_pieces number pieces more piece {a = a} h e k =
-    rw (flat_map-append, ← without_texts-finds (has_value (env_of a) (declared_of a)) more, e)
+    rw (flat_map-append, ← without_texts-finds (known_of a) more, e)
     (finds_on_line number _ _ h (rw (same_known h) at k))
 
 -- where no piece comes next in a value, the pieces so far are all of its pieces
@@ -122,8 +121,7 @@ pub finds_at_end : {A : Type 0} (number : ℕ) {dialect : Dialect} {m : ValueMod
     {pieces others : List Piece} {result : NextPiece} {a b : Checker A} →
     IsReadTo dialect (base Unquoted) text pieces m rest → NextPieceIs dialect m rest result →
     ((next : Given) → result ≡ GivesNext next → ⊥) → IsValue dialect text others →
-    Finds (at_line number (flat_map (piece_findings (has_value (env_of a) (declared_of a))) pieces)) a b →
-    Finds (at_line number (flat_map (piece_findings (has_value (env_of a) (declared_of a))) others)) a b
+    FindsPieces number pieces a b → FindsPieces number others a b
 finds_at_end number {result = result} read next none_comes is h =
     rw (← all_pieces result read next none_comes is) h
 
@@ -131,9 +129,9 @@ finds_at_end number {result = result} read next none_comes is h =
 pub checks_declared : {A : Type 0} {twice : Bool} (number : ℕ) (key : List ℕ) (pieces : List Piece)
     {a b c d : Checker A} → declared_of a key ≡ twice →
     Finds (at_line number (only_if twice (DeclaredTwice key))) a b →
-    Finds (at_line number (flat_map (piece_findings (has_value (env_of b) (declared_of b))) pieces)) b c →
+    FindsPieces number pieces b c →
     declared_of d ≡ with_name (declared_of c) key → d ≡ record c { declared = d.declared } →
-    ChecksEntries ((number, Declares key pieces) ∷ []) a d
+    ChecksEntry number (Declares key pieces) a d
 checks_declared number key pieces {a = a} {c = c} e h k declared same =
     let all : Finds (at_line number (entry_findings (env_of a) (declared_of a) (Declares key pieces))) a c =
     finds_on_line number _ _ (rw e h) (rw (same_known h) at k) in record {

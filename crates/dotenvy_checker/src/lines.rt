@@ -1,28 +1,21 @@
 //! Reads the lines of a file, and reports what is found on each.
 
-ghost use Rattle.std.specs.Prelude.{◌≡◌, ◌≢◌, ◌⊎◌, ℕ, [], ◌∷◌, Err, None, Ok, IfErr, IfOk, List, OnOk, IsTrue};
-ghost use Rattle.std.specs.Prelude.{string_bytes};
-ghost use Rattle.std.specs.List.{flat_map};
+ghost use Rattle.std.specs.Prelude.{◌≡◌, ◌≢◌, ◌⊎◌, Err, None, Ok, IfErr, IfOk, List, OnOk, IsTrue};
 ghost use Rattle.std.specs.Str.{chars};
 ghost use Rattle.dotenvy_base.specs.Environment.{name_ok};
 ghost use Rattle.dotenvy_base.specs.Errors.{IsMemory, IsMemoryErr};
-ghost use Rattle.dotenvy_base.specs.Source.{Ahead};
 ghost use Rattle.dotenvy_lines.specs.declared.lines.Stage.TheVariants.{Open, Failed};
-ghost use Rattle.dotenvy_lines.specs.Input.{IsTold};
-ghost use Rattle.dotenvy_checker.specs.Checks.{FewLines};
 ghost use Rattle.dotenvy_format.specs.Characters.{underscore, begins_with};
-ghost use Rattle.dotenvy_format.specs.Entries.{Declares, Fails, outcome_entries};
-ghost use Rattle.dotenvy_format.specs.Items.{LookUp};
+ghost use Rattle.dotenvy_format.specs.Entries.{Declares, Fails};
 ghost use Rattle.dotenvy_format.specs.Keys.{is_key};
-ghost use Rattle.dotenvy_format.specs.Outcome.{Outcome, Says};
 ghost use Rattle.dotenvy_format.specs.Value.{IsValue, Name, Piece as FormatPiece};
 ghost use Rattle.dotenvy_format.specs.inside.NextPiece.{named_piece};
-ghost use Rattle.dotenvy_items.specs.inside.FirstPass.{IsAssigned};
-ghost use Rattle.dotenvy_checker.specs.Findings.{has_value, no_names, only_if, piece_findings, with_name};
+ghost use Rattle.dotenvy_checker.specs.Findings.{only_if, piece_findings, with_name};
 ghost use Rattle.dotenvy_checker.specs.Numbered.{at_line};
-ghost use Rattle.dotenvy_checker.specs.inside.Reports.{finding_of, nothing_found};
-ghost use Rattle.dotenvy_checker.specs.inside.CheckedLines.{declared_of, env_of, failure_of, ChecksEntries};
-ghost use Rattle.dotenvy_checker.specs.inside.CheckedLines.{ChecksOutcome, ChecksRead, ChecksUpTo, Finds};
+ghost use Rattle.dotenvy_checker.specs.inside.Reports.{finding_of};
+ghost use Rattle.dotenvy_checker.specs.inside.CheckedLines.{declared_of, failure_of, known_of, AssignsPieces};
+ghost use Rattle.dotenvy_checker.specs.inside.CheckedLines.{ChecksEntry, ChecksOutcome, ChecksRead, ChecksText};
+ghost use Rattle.dotenvy_checker.specs.inside.CheckedLines.{ChecksUpTo, Finds, FindsPieces, IsNew, WhereFew};
 
 use crate::report::{Finding, Report};
 use dotenvy_base::environment::Environment;
@@ -58,11 +51,7 @@ impl<'a, A: Allocator + Clone> Checker<'a, A> {
         env: &'a Environment<A>,
         dialect: Dialect,
     ) -> std::result::Result<Checker<'a, A>, AllocError>
-        ensures env { IfOk result (λ checker. checker.env.now ≡ env.now) }
-        ensures declared { IfOk result (λ checker. declared_of checker ≡ no_names) }
-        ensures dialect { IfOk result (λ checker. checker.dialect ≡ dialect) }
-        ensures report { IfOk result (λ checker. (string_bytes checker.report.text ≡ [])
-            × (checker.report.file.now ≡ file.now) × (checker.report.found ≡ nothing_found)) }
+        ensures { IfOk result (IsNew file.now env.now dialect) }
     {
         Ok(Checker {
             env,
@@ -78,9 +67,8 @@ impl<'a, A: Allocator + Clone> Checker<'a, A> {
         &mut self,
         lines: &mut Splitter<R, A>,
     ) -> std::result::Result<Option<Error<A>>, AllocError>
-        ensures told { lines.old.lines.stage ≡ Open → (a : Ahead) →
-            IsTold lines.old.lines.input.left a → FewLines lines.old.lines a → IfOk result
-            (λ fault. ChecksUpTo self.old.dialect lines.old.lines a fault self.old self.new) }
+        ensures told { WhereFew lines.old.lines (λ a. IfOk result
+            (λ fault. ChecksUpTo lines.old.lines a fault self.old self.new)) }
         ensures shut { lines.old.lines.stage ≢ Open →
             (result ≡ Ok None) × (self.new ≡ self.old) }
     {
@@ -93,9 +81,8 @@ impl<'a, A: Allocator + Clone> Checker<'a, A> {
 
     // Reads all lines. The error is the fault that ended reading, or `Memory`.
     fn check_lines<R: Source>(&mut self, lines: &mut Splitter<R, A>) -> Result<(), A>
-        ensures told { lines.old.lines.stage ≡ Open → (a : Ahead) →
-            IsTold lines.old.lines.input.left a → FewLines lines.old.lines a →
-            ChecksRead self.old.dialect lines.old.lines a result self.old self.new }
+        ensures told { WhereFew lines.old.lines
+            (λ a. ChecksRead lines.old.lines a result self.old self.new) }
         ensures shut { lines.old.lines.stage ≢ Open → (result ≡ Ok tt) × (self.new ≡ self.old) }
     {
         lines.drop_mark()?;
@@ -132,7 +119,7 @@ impl<'a, A: Allocator + Clone> Checker<'a, A> {
     // Reports the fault of a line that is no text, or that stays open.
     fn check_fault(&mut self, line: u64, error: &Error<A>) -> Result<(), A>
         ensures checks { OnOk result
-            (ChecksEntries ((line, Fails (failure_of error.now)) ∷ []) self.old self.new) }
+            (ChecksEntry line (Fails (failure_of error.now)) self.old self.new) }
         ensures memory { IfErr result IsMemory }
     {
         match error {
@@ -147,9 +134,7 @@ impl<'a, A: Allocator + Clone> Checker<'a, A> {
 
     // Reports what is found in the text of a line.
     fn check_line(&mut self, line: u64, text: &str) -> Result<(), A>
-        ensures checks { OnOk result ((outcome : Outcome)
-            × Says self.old.dialect (chars text.now) outcome
-            × ChecksEntries (at_line line (outcome_entries outcome)) self.old self.new) }
+        ensures checks { OnOk result (ChecksText line (chars text.now) self.old self.new) }
         ensures memory { IfErr result IsMemory }
     {
         let names = Names {
@@ -172,12 +157,11 @@ impl<'a, A: Allocator + Clone> Checker<'a, A> {
     // Reports what is found in a declaration, and remembers its key.
     fn check_declaration(&mut self, line: u64, key: &str, value: Option<Value<'_>>) -> Result<(), A>
         requires key { IsTrue (is_key (chars key.now)) }
-        requires assigned { (look_up : LookUp) × (rest : List ℕ) × (pieces : List FormatPiece)
-            × IsAssigned self.old.dialect look_up rest pieces value }
-        ensures checks { (look_up : LookUp) (rest : List ℕ) (pieces : List FormatPiece) →
-            IsAssigned self.old.dialect look_up rest pieces value.entry →
-            OnOk result (ChecksEntries ((line, Declares (chars key.now) pieces) ∷ [])
-            self.old self.new) }
+        requires assigned { (pieces : List FormatPiece)
+            × AssignsPieces self.old.dialect value pieces }
+        ensures checks { (pieces : List FormatPiece) →
+            AssignsPieces self.old.dialect value.entry pieces → OnOk result
+            (ChecksEntry line (Declares (chars key.now) pieces) self.old self.new) }
         ensures memory { IfErr result IsMemory }
     {
         let is_declared = self.declared.contains(key);
@@ -188,12 +172,10 @@ impl<'a, A: Allocator + Clone> Checker<'a, A> {
 
     // Reports what is found in the value of a declaration, if it has one.
     fn check_assigned(&mut self, line: u64, value: Option<Value<'_>>) -> Result<(), A>
-        requires { (look_up : LookUp) × (rest : List ℕ) × (pieces : List FormatPiece)
-            × IsAssigned self.old.dialect look_up rest pieces value }
-        ensures finds { (look_up : LookUp) (rest : List ℕ) (pieces : List FormatPiece) →
-            IsAssigned self.old.dialect look_up rest pieces value.entry →
-            OnOk result (Finds (at_line line (flat_map (piece_findings
-            (has_value (env_of self.old) (declared_of self.old))) pieces)) self.old self.new) }
+        requires { (pieces : List FormatPiece) × AssignsPieces self.old.dialect value pieces }
+        ensures finds { (pieces : List FormatPiece) →
+            AssignsPieces self.old.dialect value.entry pieces →
+            OnOk result (FindsPieces line pieces self.old self.new) }
         ensures memory { IfErr result IsMemory }
     {
         match value {
@@ -220,8 +202,7 @@ impl<'a, A: Allocator + Clone> Checker<'a, A> {
         requires { (pieces : List FormatPiece) × IsValue self.old.dialect (chars value.now) pieces }
         ensures finds { (pieces : List FormatPiece) →
             IsValue self.old.dialect (chars value.now) pieces →
-            OnOk result (Finds (at_line line (flat_map (piece_findings
-            (has_value (env_of self.old) (declared_of self.old))) pieces)) self.old self.new) }
+            OnOk result (FindsPieces line pieces self.old self.new) }
         ensures memory { IfErr result IsMemory }
     {
         let mut rest = value;
@@ -236,9 +217,8 @@ impl<'a, A: Allocator + Clone> Checker<'a, A> {
 
     // Reports what is found in a piece of a value.
     fn check_piece(&mut self, line: u64, piece: Piece<'_>) -> Result<(), A>
-        ensures finds { OnOk result (Finds (at_line line (flat_map (piece_findings
-            (has_value (env_of self.old) (declared_of self.old))) (named_piece piece.entry)))
-            self.old self.new) }
+        ensures finds { OnOk result
+            (FindsPieces line (named_piece piece.entry) self.old self.new) }
         ensures memory { IfErr result IsMemory }
     {
         match piece {
@@ -250,8 +230,7 @@ impl<'a, A: Allocator + Clone> Checker<'a, A> {
 
     // Reports what is found in a name that a value mentions, before this text.
     fn check_name(&mut self, line: u64, name: &str, after: &str) -> Result<(), A>
-        ensures finds { OnOk result (Finds (at_line line (piece_findings
-            (has_value (env_of self.old) (declared_of self.old))
+        ensures finds { OnOk result (Finds (at_line line (piece_findings (known_of self.old)
             (Name (chars name.now) (chars after.now)))) self.old self.new) }
         ensures memory { IfErr result IsMemory }
     {
@@ -265,7 +244,7 @@ impl<'a, A: Allocator + Clone> Checker<'a, A> {
 
     // Whether a name has a value: the process has it, or the file declared it before.
     fn is_known(&self, name: &str) -> bool
-        ensures { result ≡ has_value (env_of self.now) (declared_of self.now) (chars name.now) }
+        ensures { result ≡ known_of self.now (chars name.now) }
     {
         self.env.contains(name) || self.declared.contains(name)
     }

@@ -1,23 +1,30 @@
 -- What the code finds on lines, and what it then knows.
 use Rattle.std.specs.Prelude.{ℕ, ◌≡◌, ◌≢◌, ◌⊎◌, List, [], ◌∷◌, Option, Some, None, Result, Ok, Err}
 use Rattle.std.specs.Prelude.{string_bytes}
+use Rattle.std.specs.List.{flat_map}
 use Rattle.std.specs.Str.{chars}
 use Rattle.std.specs.declared.io.ErrorKind.TheVariants.{InvalidData}
 use Rattle.dotenvy_base.specs.declared.errors.Error.{Error}
 use Rattle.dotenvy_base.specs.declared.errors.Error.TheVariants as error
+use Rattle.dotenvy_base.specs.Environment.{Env}
 use Rattle.dotenvy_base.specs.Errors.{IsMemory}
 use Rattle.dotenvy_base.specs.Source.{Ahead}
 use Rattle.dotenvy_format.specs.declared.dialect.Dialect.{Dialect}
 use Rattle.dotenvy_format.specs.Entries.{Failure, LineParse, Io, Entry, Fails, outcome_entries}
+use Rattle.dotenvy_format.specs.Items.{LookUp}
 use Rattle.dotenvy_format.specs.Outcome.{Outcome, Says}
+use Rattle.dotenvy_format.specs.Value.{Piece}
+use Rattle.dotenvy_items.specs.declared.parse.Value.{Value}
+use Rattle.dotenvy_items.specs.inside.FirstPass.{IsAssigned}
 use Rattle.dotenvy_lines.specs.declared.lines.Stage.TheVariants.{Failed}
-use Rattle.dotenvy_lines.specs.Lines.{LinesState}
+use Rattle.dotenvy_lines.specs.Lines.{LinesState, WhereOpen}
 use Rattle.dotenvy_lines.specs.inside.Splitter.{SplitterState, last_lines}
 use Rattle.dotenvy_checker.specs.Numbered.{at_line}
 use Rattle.dotenvy_checker.specs.declared.lines.Checker.{Checker}
-use Rattle.dotenvy_checker.specs.Findings.{Finding, Names, declared_after, findings_from}
-use Rattle.dotenvy_checker.specs.Checks.{names_in, ReadsEntries}
-use Rattle.dotenvy_checker.specs.inside.Reports.{Adds}
+use Rattle.dotenvy_checker.specs.Findings.{Finding, Names, no_names, has_value, piece_findings}
+use Rattle.dotenvy_checker.specs.Findings.{declared_after, findings_from}
+use Rattle.dotenvy_checker.specs.Checks.{names_in, FewLines, ReadsEntries}
+use Rattle.dotenvy_checker.specs.inside.Reports.{Adds, nothing_found}
 
 -- the names that the process has
 abbrev pub env_of : {A : Type 0} → Checker A → Names
@@ -27,10 +34,34 @@ env_of checker = names_in checker.env.now.names
 abbrev pub declared_of : {A : Type 0} → Checker A → Names
 declared_of checker = names_in checker.declared.names
 
+-- the names that have a value so far: the process has them, or the file declared them
+abbrev pub known_of : {A : Type 0} → Checker A → Names
+known_of checker = has_value (env_of checker) (declared_of checker)
+
+-- a checker of this file, of which nothing was read, under this environment and in this dialect
+pub record IsNew {A : Type 0} (name : List ℕ) (env : Env) (dialect : Dialect) (checker : Checker A)
+    : Type 0 where
+  pub environment : checker.env.now ≡ env
+  pub declared : declared_of checker ≡ no_names
+  pub in_dialect : checker.dialect ≡ dialect
+  pub file : checker.report.file.now ≡ name
+  pub text : string_bytes checker.report.text ≡ []
+  pub found : checker.report.found ≡ nothing_found
+
 -- these findings are added to the report, and nothing else changes
 pub record Finds {A : Type 0} (findings : List (ℕ × Finding)) (old new : Checker A) : Type 0 where
   pub same : new ≡ record old { report = new.report }
   pub report : Adds findings old.report new.report
+
+-- the findings of these pieces of a value are added, on this line, and nothing else changes
+abbrev pub FindsPieces : {A : Type 0} → ℕ → List Piece → Checker A → Checker A → Type 0
+FindsPieces number pieces old new =
+    Finds (at_line number (flat_map (piece_findings (known_of old)) pieces)) old new
+
+-- what a declaration assigns has these pieces, for some meaning of its names
+abbrev pub AssignsPieces : Dialect → Option Value → List Piece → Type 0
+AssignsPieces dialect value pieces =
+    (look_up : LookUp) × (rest : List ℕ) × IsAssigned dialect look_up rest pieces value
 
 -- the names that are declared after entries
 abbrev pub declared_by : Names → List (ℕ × Entry) → Names
@@ -47,6 +78,10 @@ pub record ChecksEntries {A : Type 0} (numbered : List (ℕ × Entry)) (old new 
   pub env : env_of new ≡ env_of old
   pub dialect : new.dialect ≡ old.dialect
 
+-- this entry, which is on this line, is checked
+abbrev pub ChecksEntry : {A : Type 0} → ℕ → Entry → Checker A → Checker A → Type 0
+ChecksEntry number entry old new = ChecksEntries ((number, entry) ∷ []) old new
+
 -- the fault of a line that stays open, or that is no text
 abbrev pub failure_of : {A : Type 0} → Error A → Failure
 failure_of (error.LineParse text index) = LineParse (chars (string_bytes text)) index
@@ -55,30 +90,34 @@ failure_of (error.EnvVar e) = Io InvalidData
 failure_of (error.Nul key) = Io InvalidData
 failure_of (error.Memory e) = Io InvalidData
 
+-- what the text of a line says is checked, under the line's number
+abbrev pub ChecksText : {A : Type 0} → ℕ → List ℕ → Checker A → Checker A → Type 0
+ChecksText number text old new =
+    (outcome : Outcome) × Says old.dialect text outcome
+    × ChecksEntries (at_line number (outcome_entries outcome)) old new
+
 -- the outcome of a line is checked: what its text says, or the fault that it is; but no final fault
 abbrev pub ChecksOutcome : {A : Type 0} → SplitterState → Result (Unit {0}) (Error A) → Checker A →
     Checker A → Type 0
 ChecksOutcome lines (Ok done) old new =
-    (outcome : Outcome) × Says old.dialect (chars lines.line) outcome
-    × ChecksEntries (at_line (last_lines lines.lines).0 (outcome_entries outcome)) old new
+    ChecksText (last_lines lines.lines).0 (chars lines.line) old new
 ChecksOutcome lines (Err e) old new =
     (lines.lines.stage ≢ Failed)
-    × ChecksEntries (((last_lines lines.lines).0, Fails (failure_of e)) ∷ []) old new
+    × ChecksEntry (last_lines lines.lines).0 (Fails (failure_of e)) old new
+
+-- the entries that are read of a, from s on, up to this fault or the end, are checked
+abbrev pub ChecksUpTo : {A : Type 0} → LinesState → Ahead → Option (Error A) → Checker A →
+    Checker A → Type 0
+ChecksUpTo s a fault old new =
+    (numbered : List (ℕ × Entry)) × ReadsEntries old.dialect s a fault numbered
+    × ChecksEntries numbered old new
 
 -- the entries that are read of a, from s on, are checked; or an allocation failed
-abbrev pub ChecksRead : {A : Type 0} → Dialect → LinesState → Ahead → Result (Unit {0}) (Error A) →
+abbrev pub ChecksRead : {A : Type 0} → LinesState → Ahead → Result (Unit {0}) (Error A) →
     Checker A → Checker A → Type 0
-ChecksRead {A = A} dialect s a (Ok done) old new =
-    (numbered : List (ℕ × Entry)) × ReadsEntries {A = A} dialect s a None numbered
-    × ChecksEntries numbered old new
-ChecksRead dialect s a (Err e) old new =
-    IsMemory e
-    ⊎ ((numbered : List (ℕ × Entry)) × ReadsEntries dialect s a (Some e) numbered
-    × ChecksEntries numbered old new)
+ChecksRead s a (Ok done) old new = ChecksUpTo s a None old new
+ChecksRead s a (Err e) old new = IsMemory e ⊎ ChecksUpTo s a (Some e) old new
 
--- the entries up to this fault, or the end, are checked
-abbrev pub ChecksUpTo : {A : Type 0} → Dialect → LinesState → Ahead → Option (Error A) →
-    Checker A → Checker A → Type 0
-ChecksUpTo dialect s a fault old new =
-    (numbered : List (ℕ × Entry)) × ReadsEntries dialect s a fault numbered
-    × ChecksEntries numbered old new
+-- P holds of what is told to be left of open lines, if their numbers fit 64 bits
+abbrev pub WhereFew : LinesState → (Ahead → Type 0) → Type 0
+WhereFew s P = WhereOpen s (λ a. FewLines s a → P a)

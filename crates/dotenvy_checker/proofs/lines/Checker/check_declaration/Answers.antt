@@ -12,10 +12,10 @@ pub declare-requires : goal.declare-requires
 declare-requires g c = name_ok-key c.args.key.now c.utf8.key c.requires.key
 
 pub returns-clause-checks : goal.returns-clause-checks
-returns-clause-checks g c = λ look_up rest pieces is.
+returns-clause-checks g c = λ pieces assigns.
     let first = c.in_ok-report_if.ensures.finds in
     let twice = names_in-contains _ c.args.key.now c.contains-is_declared.result c.utf8.key
     c.contains-is_declared.ensures in
     after_both c.declare.result (checks_declared c.args.line (chars c.args.key.now) pieces twice first
-    (c.in_ok-check_assigned.ensures.finds look_up rest pieces (rw (same_dialect first) is)))
+    (c.in_ok-check_assigned.ensures.finds pieces (rw (same_dialect first) assigns)))
     c.declare.ensures.declared c.declare.ensures.same

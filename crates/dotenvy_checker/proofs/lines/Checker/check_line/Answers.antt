@@ -15,7 +15,7 @@ pub check_declaration-requires-clause-assigned : goal.check_declaration-requires
 check_declaration-requires-clause-assigned g c =
     let look_up = names_of c.args.self.now.env.now.names (remembered_of c.args.self.now.remembered.entries) in
     let declared = rw c.in-Ok-Some.field-0-is at c.in-Ok-Some.ensures in
-    (look_up, declared.rest, declared.pieces, declared.is_assigned)
+    (declared.pieces, (look_up, declared.rest, declared.is_assigned))
 
 pub returns-in-Ok-Some-clause-checks : goal.returns-in-Ok-Some-clause-checks
 returns-in-Ok-Some-clause-checks g c =
@@ -26,7 +26,7 @@ returns-in-Ok-Some-clause-checks g c =
       Pair key declared.pieces,
       says_declared _ _ _ key c.in-Ok-Some.declaration declared refl,
       checks,
-    )) (c.check_declaration.ensures.checks look_up declared.rest declared.pieces declared.is_assigned)
+    )) (c.check_declaration.ensures.checks declared.pieces (look_up, declared.rest, declared.is_assigned))
 
 pub returns-in_ok-add-in-Err-clause-checks : goal.returns-in_ok-add-in-Err-clause-checks
 returns-in_ok-add-in-Err-clause-checks g c = (

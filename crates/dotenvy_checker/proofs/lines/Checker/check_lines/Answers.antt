@@ -5,7 +5,7 @@ use Rattle.dotenvy_checker.proofs.CheckedReads.{checked_none, checked_more, chec
 use Rattle.dotenvy_checker.proofs.lines.Checker.check_lines.Goals as goal
 
 pub returns-in_err-drop_mark-clause-told : goal.returns-in_err-drop_mark-clause-told
-returns-in_err-drop_mark-clause-told g c = λ opened a told few.
+returns-in_err-drop_mark-clause-told g c = λ a opened told few.
     let p = err_from_is_err_and c.from_residual.result c.from_residual.ensures.1 in
     rw (p.1, p.2) (checked_mark a c.args.lines.now.lines c.drop_mark.new.self.lines c.args.self.now
     c.in_err-drop_mark.field-0.0 (c.in_err-drop_mark.ensures.told a opened told))

@@ -1,15 +1,12 @@
 use Rattle.std.proofs.Common.{length, List}
 use denote.Text.{Utf8}
 use denote.Shadow.{shadow}
-use Rattle.std.specs.List.{flat_map}
 use Rattle.std.specs.Str.{chars}
 use Rattle.dotenvy_format.specs.declared.text.Quoting.TheVariants.{Unquoted}
 use Rattle.dotenvy_format.specs.Value.{Piece}
 use Rattle.dotenvy_format.specs.inside.ReadValue.{base}
 use Rattle.dotenvy_format.specs.inside.NextPiece.{IsReadTo}
-use Rattle.dotenvy_checker.specs.Findings.{has_value, piece_findings}
-use Rattle.dotenvy_checker.specs.Numbered.{at_line}
-use Rattle.dotenvy_checker.specs.inside.CheckedLines.{declared_of, env_of, Finds}
+use Rattle.dotenvy_checker.specs.inside.CheckedLines.{FindsPieces}
 use Rattle.dotenvy_checker.proofs.lines.Checker.check_value.Given as goal
 
 -- the pieces so far lead to the rest, and their findings were added
@@ -19,8 +16,7 @@ invariant-pieces g l = record {
   pieces : List Piece;
   read : IsReadTo l.fn.self.dialect (base Unquoted) (chars l.fn.value) pieces (base l.quoting)
       (chars l.rest);
-  finds : Finds (at_line l.fn.line (flat_map (piece_findings
-      (has_value (env_of l.fn.self) (declared_of l.fn.self))) pieces)) l.fn.self l.self;
+  finds : FindsPieces l.fn.line pieces l.fn.self l.self;
 }
 
 abbrev pub decreases-pieces : goal.decreases-pieces
