@@ -1,5 +1,5 @@
 -- The items of a file, as C is told of them.
-use Rattle.std.specs.Prelude.{ℕ, ◌≡◌, ◌≤◌, ◌+◌, ◌↔◌, false, IsTrue, List, [], ◌∷◌, ◌++◌, length}
+use Rattle.std.specs.Prelude.{ℕ, ◌≡◌, ◌≤◌, ◌+◌, ◌↔◌, ◌⊎◌, false, IsTrue, List, [], ◌∷◌, ◌++◌, length}
 use Rattle.std.specs.Prelude.{Some, None}
 use Rattle.std.specs.List.{flat_map}
 use Rattle.std.specs.declared.alloc.Global.{Global}
@@ -69,6 +69,11 @@ pub record HasRecords (names : Texts) (s : IterState) (records : Records) : Type
 abbrev pub refused_items : ℕ → Counts
 refused_items status = record { status = status; fits = false; items = 0; text_len = 0 }
 
+-- a call for items is refused, for the reason that this status names, and writes nothing
+abbrev pub RefusesItems : ℕ → Counts → List rust.Item → List rust.Item → List ℕ → List ℕ → Type 0
+RefusesItems status counts old_items new_items old new =
+    (counts ≡ refused_items status) × (new_items ≡ old_items) × (new ≡ old)
+
 -- a told item was added to records
 pub record AddsTold (told : ToldItem) (old new : Records) : Type 0 where
   pub items : new.items.items ≡ old.items.items ++ record_at (length old.text.items) told ∷ []
@@ -95,3 +100,10 @@ pub record AnswersItems (options : ℕ) (file block : List ℕ) (counts : Counts
       ↔ ((length told ≤ length old_items) × (length (texts_of told) ≤ length old))
   pub records : new_items ≡ written_if counts.fits (records_from 0 told) old_items
   pub texts : new ≡ written_if counts.fits (texts_of told) old
+
+-- the answer to a call for items; or the call is refused, for the reason that this status names
+abbrev pub AnswersItemsOr : ℕ → (options : ℕ) (file block : List ℕ) → Counts → List rust.Item →
+    List rust.Item → List ℕ → List ℕ → Type 0
+AnswersItemsOr status options file block counts old_items new_items old new =
+    AnswersItems options file block counts old_items new_items old new
+    ⊎ RefusesItems status counts old_items new_items old new

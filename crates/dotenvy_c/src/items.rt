@@ -1,10 +1,10 @@
 //! The items of a file, for C.
 
-ghost use Rattle.std.specs.Prelude.{◌≡◌, ◌≤◌, ◌+◌, ◌⊎◌, ◌↔◌, true, false, IfOk, IfErr, IsTrue, OnOk, length};
+ghost use Rattle.std.specs.Prelude.{◌≡◌, ◌≤◌, ◌+◌, ◌↔◌, true, false, IfOk, IfErr, IsTrue, OnOk, length};
 ghost use Rattle.dotenvy.specs.Errors.{IsMemory};
 ghost use Rattle.dotenvy_c.specs.Block.{block_names};
 ghost use Rattle.dotenvy_c.specs.File.{fresh_file};
-ghost use Rattle.dotenvy_c.specs.Items.{AddsItem, AddsTold, AnswersItems, HasRecords, refused_items};
+ghost use Rattle.dotenvy_c.specs.Items.{AddsItem, AddsTold, AnswersItemsOr, HasRecords, RefusesItems, refused_items};
 ghost use Rattle.dotenvy_c.specs.Options.{are_among, bytes_of, dialect_of};
 ghost use Rattle.dotenvy_c.specs.Buffer.{written_if};
 ghost use Rattle.dotenvy_c.specs.Told.{told_of};
@@ -174,10 +174,10 @@ pub extern "C" fn dotenvy_items(
     out: &mut [u8],
 ) -> Counts
     ensures option { are_among options (NEXT_DIALECT + DROP_MARK) ≡ false →
-        (result ≡ refused_items BAD_OPTION) × (items.new ≡ items.old) × (out.new ≡ out.old) }
+        RefusesItems BAD_OPTION result items.old items.new out.old out.new }
     ensures items { are_among options (NEXT_DIALECT + DROP_MARK) ≡ true →
-        AnswersItems options file.now block.now result items.old items.new out.old out.new
-        ⊎ ((result ≡ refused_items NO_MEMORY) × (items.new ≡ items.old) × (out.new ≡ out.old)) }
+        AnswersItemsOr NO_MEMORY options file.now block.now result items.old items.new out.old
+        out.new }
 {
     if !are_among(options, NEXT_DIALECT + DROP_MARK) {
         return refused_items(BAD_OPTION);
