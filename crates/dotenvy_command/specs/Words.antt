@@ -156,3 +156,11 @@ abbrev pub HasUsage : List (List ℕ) → Result CommandLine Usage → Type 0
 HasUsage words answer =
     (groups : List Group) × (ending : WordsEnd) × AreWords words groups ending
     × (answer ≡ answer_to groups ending)
+
+-- the words ask for a list, and for all of this
+abbrev pub AsksList : List (List ℕ) → CommandLine → Type 0
+AsksList words line = HasUsage words (Ok line) × (line.list ≡ true)
+
+-- the words ask for a command, and for all of this
+abbrev pub AsksCommand : List (List ℕ) → CommandLine → Type 0
+AsksCommand words line = HasUsage words (Ok line) × (line.list ≡ false)

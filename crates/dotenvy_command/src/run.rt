@@ -6,7 +6,7 @@ ghost use Rattle.dotenvy.specs.Iter.{fresh};
 ghost use Rattle.dotenvy.specs.Listed.{Lists};
 ghost use Rattle.dotenvy_command.specs.Answers.{texts};
 ghost use Rattle.dotenvy_command.specs.Ends.{EndsAs, EndsByUsage, IsEarly, IsRunFault, IsUsage, RunsCommand};
-ghost use Rattle.dotenvy_command.specs.Words.{CommandLine as Line, Usage as Refusal, HasUsage};
+ghost use Rattle.dotenvy_command.specs.Words.{CommandLine as Line, Usage as Refusal, AsksCommand, AsksList, HasUsage};
 
 use crate::command_line::{CommandLine, command_line};
 use crate::failure::{Failure, Usage};
@@ -39,22 +39,22 @@ pub fn run<A: Allocator + Clone, R: Files + Env + Starter + Alloc<A = A>, S: Sou
         (λ failure. IsUsage failure → (reader.new ≡ reader.old) × (writer.new ≡ writer.old)) }
 
     // A list is that of the reader, in the dialect that the words ask for.
-    ensures lists { (line : Line) → HasUsage (texts words.now) (Ok line) → line.list ≡ true
+    ensures lists { (line : Line) → AsksList (texts words.now) line
         → IsEarly result
         ⊎ EndsAs (Lists (fresh (S.told reader.old) line.dialect)
         W.told writer.old writer.new) result }
 
     // These reads are made of it, whatever comes of the list.
-    ensures asks { (line : Line) → HasUsage (texts words.now) (Ok line) → line.list ≡ true
+    ensures asks { (line : Line) → AsksList (texts words.now) line
         → ReadsBetween (S.told reader.old) (S.told reader.new) }
 
     // A run of a command leaves the reader and the writer unchanged.
-    ensures command { (line : Line) → HasUsage (texts words.now) (Ok line) → line.list ≡ false
+    ensures command { (line : Line) → AsksCommand (texts words.now) line
         → (IsEarly result ⊎ IfErr result IsRunFault)
         × (reader.new ≡ reader.old) × (writer.new ≡ writer.old) }
 
     // Its status, or the error of its start, is that of the command that the words ask for.
-    ensures runs { (line : Line) → HasUsage (texts words.now) (Ok line) → line.list ≡ false
+    ensures runs { (line : Line) → AsksCommand (texts words.now) line
         → RunsCommand (R.ends rt.now) line.command result }
 {
     let line = command_line(rt.alloc(), words)?;
