@@ -127,7 +127,7 @@ TellsReads goes_on s t =
 abbrev pub AsksReads : Type 0 → InputState → InputState → Type 0
 AsksReads goes_on s t = (t.references ≡ s.references) × TellsReads goes_on s t
 
--- reads that one iterator makes: at most `most_reads`, each for at most `most_bytes`, and none after
+-- reads that one iterator makes: at most `most_reads`, each for at most `most_bytes`, none after
 -- the end, or after a fault that is no interruption
 pub record AreReads (made : List Call) : Type 0 where
   pub few : length made ≤ most_reads

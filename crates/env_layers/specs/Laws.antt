@@ -1,5 +1,6 @@
 -- Laws of layers: what calls of `add` come to.
-use Rattle.std.specs.Prelude.{ℕ, ◌≡◌, ◌<◌, Bool, List, length, filter, Some, None, Result, Ok, is_ok}
+use Rattle.std.specs.Prelude.{ℕ, ◌≡◌, ◌<◌, Bool, List, length, filter, Some, None}
+use Rattle.std.specs.Prelude.{Result, Ok, is_ok}
 use Rattle.std.specs.List.{FoldsTo}
 use Rattle.dotenvy.specs.Dialect.TheVariants.{V15}
 use Rattle.dotenvy.specs.Error.{Error}
