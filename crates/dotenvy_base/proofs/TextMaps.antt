@@ -3,7 +3,7 @@ use Rattle.std.proofs.Common.{◌≡◌, ℕ, Bool, true, false, cond, List, [],
 use Rattle.std.proofs.Common.{sym, ◌∙◌, ap, subst}
 use Rattle.std.proofs.lemmas.List.{map-append, append-nil}
 use Rattle.std.proofs.lemmas.List.Elements.{filter-append}
-use Rattle.std.specs.Option.{option_or}
+use Rattle.std.specs.Option.{option_or, unwrap_or}
 use Rattle.std.proofs.lemmas.Option.{none-some, same_Some}
 use Rattle.std.proofs.lemmas.Bool.{and_parts}
 use Rattle.std.specs.Prelude.{string_bytes, Option, Some, None, option_map, IsTrue}
@@ -141,6 +141,39 @@ good-insert m loaded k v good name value q w found =
     by_name (λ b. cond b (Some v) (get m q) ≡ Some w → IsTrue (name_ok q) × IsTrue (value_ok w)) q k
     (λ same e. (rw same name, rw (same_Some v w e) at value)) (good q w)
     (rw (get-insert nat_list_cmp_total m k v q) at found)
+
+-- whether a name is among the strings
+pub contains-strings : {A : Type 0} (k : String A) (es : List (String A × String A)) →
+    contains_key (of_strings es) (string_bytes k) ≡ is_some (lookup (is_at (string_cmp k)) es)
+contains-strings {A} k es = rw get-strings (same _)
+  where
+    same : (o : Option (String A)) → is_some (option_map string_bytes o) ≡ is_some o
+    same None = refl
+    same (Some w) = refl
+
+-- a pair that is inserted where its name is absent
+pub insert-absent : {A : Type 0} (k v : String A) (es : List (String A × String A)) →
+    of_strings (insert_entry string_cmp es k (unwrap_or (lookup (is_at (string_cmp k)) es) v))
+    ≡ cond (contains_key (of_strings es) (string_bytes k)) (of_strings es)
+    (insert (of_strings es) (string_bytes k) (string_bytes v))
+insert-absent {A} k v es = rw (insert-strings, get-strings) (of_found _ refl)
+  where
+    of_found : (o : Option (String A)) → lookup (is_at (string_cmp k)) es ≡ o →
+        insert (of_strings es) (string_bytes k) (string_bytes (unwrap_or o v))
+        ≡ cond (is_some (option_map string_bytes o)) (of_strings es)
+        (insert (of_strings es) (string_bytes k) (string_bytes v))
+    of_found None e = refl
+    of_found (Some w) e = same_texts _ _ (λ q.
+        rw (get-insert nat_list_cmp_total)
+        (by_name (λ b. cond b (Some (string_bytes w)) (get (of_strings es) q) ≡ get (of_strings es) q) q
+        (string_bytes k) (λ same. rw (same, get-strings, e) refl) refl))
+
+-- it keeps a good map good
+pub good-absent : (m : Texts) (loaded absent : Bool) (k v : List ℕ) →
+    IsEnvironment (record { names = m; loaded = loaded }) → IsTrue (name_ok k) → IsTrue (value_ok v) →
+    IsEnvironment (record { names = cond absent m (insert m k v); loaded = loaded })
+good-absent m loaded true k v good name value = good
+good-absent m loaded false k v good name value = good-insert m loaded k v good name value
 
 -- a new name leaves the others
 pub keeps_insert : (m n : Texts) (k v : List ℕ) → KeepsNames m n → is_some (get n k) ≡ false →

@@ -1,6 +1,8 @@
 //! Environments: the names of a process with their values, kept apart from the process itself.
 
-ghost use Rattle.std.specs.Prelude.{◌≡◌, IsTrue, filter, true, false, option_copied, string_bytes, IfOk, OnOk, OnErr, IfErr, IfSome, MatchResult, ◌==◌};
+ghost use Rattle.std.specs.BTreeMap.{get, insert_entry};
+ghost use Rattle.std.specs.String.{string_cmp};
+ghost use Rattle.std.specs.Prelude.{◌≡◌, not, is_some, unwrap_or, None, Ok, IsTrue, filter, true, false, option_copied, string_bytes, IfOk, OnOk, OnErr, IfErr, IfSome, MatchResult, ◌==◌};
 ghost use Rattle.std.specs.FinMap as fin;
 ghost use Rattle.std.specs.Iterator.{YieldsFirstBy, item_count};
 ghost use Rattle.std.specs.Str.{chars};
@@ -251,6 +253,58 @@ impl<A: Allocator> Environment<A> {
         self.entries.insert(key, value)?;
         Ok(())
     }
+}
+
+// Inserts a pair if its key is absent, and returns whether it was. The map is searched once.
+fn insert_absent<A: Allocator + Clone>(
+    entries: &mut BTreeMap<String<A>, String<A>, A>,
+    key: String<A>,
+    value: String<A>,
+) -> Result<bool, A>
+    ensures ok { OnOk result (entries.new.entries ≡ insert_entry string_cmp entries.old.entries key
+        (unwrap_or (get string_cmp entries.old key) value)) }
+    ensures absent { IfOk result
+        (λ absent. absent ≡ not (is_some (get string_cmp entries.old key))) }
+    ensures err { OnErr result ((entries.new.entries ≡ entries.old.entries)
+        × (get string_cmp entries.old key ≡ None)) }
+    ensures memory { IfErr result IsMemory }
+{
+    let len = entries.len();
+    entries.entry(key)?.or_insert(value);
+    Ok(entries.len() != len)
+}
+
+/// Sets the value of one name if it is absent, and returns whether it was. A name that is there keeps its value.
+///
+/// It requires a valid name (see [`is_name`]). If the name is absent, the errors are those of [`Environment::set`]. If
+/// it is there, there is none. After an error the environment is unchanged.
+pub fn set_absent<A: Allocator + Clone>(
+    env: &mut Environment<A>,
+    key: String<A>,
+    value: String<A>,
+) -> Result<bool, A>
+    requires { IsTrue (name_ok (string_bytes key)) }
+    ensures kept { fin.contains_key env.old.names (string_bytes key) ≡ true →
+        (result ≡ Ok false) × (env.new ≡ env.old) }
+    ensures ok { fin.contains_key env.old.names (string_bytes key) ≡ false →
+        OnOk result ((result ≡ Ok true) × (env.new ≡ record env.old {
+          names = fin.insert env.old.names (string_bytes key) (string_bytes value);
+        })) }
+    ensures same { OnErr result (env.new ≡ env.old) }
+    ensures good { IsTrue (value_ok (string_bytes value)) → IfErr result IsMemory }
+    ensures nul { fin.contains_key env.old.names (string_bytes key) ≡ false →
+        value_ok (string_bytes value) ≡ false →
+        MatchResult result (λ _. ⊥) (IsNulOf (string_bytes key)) }
+{
+    if !is_value(value.as_str()) {
+        return if env.contains(key.as_str()) {
+            Ok(false)
+        } else {
+            Err(Error::Nul(key))
+        };
+    }
+    let absent = insert_absent(&mut env.entries, key, value)?;
+    Ok(absent)
 }
 
 /// Sets the `loaded` flag of an environment. Only the first use does this, after its load.
