@@ -140,8 +140,12 @@ fn still_blank(progress: Progress) -> Progress
     }
 }
 
-// One more piece of a line that was blank so far.
-fn begin<A: Allocator>(mode: LineMode, piece: &str, text: &mut String<A>) -> Result<Progress, A>
+// One more piece of a line that was blank so far, and may begin with white space.
+fn begin_after_blanks<A: Allocator>(
+    mode: LineMode,
+    piece: &str,
+    text: &mut String<A>,
+) -> Result<Progress, A>
     ensures walks { IfOk result (WalksOn (Progress.Blank mode) (chars (string_bytes text.old))
         (chars piece.now) (chars (string_bytes text.new))) }
     ensures memory { IfErr result IsMemory }
@@ -156,7 +160,21 @@ fn begin<A: Allocator>(mode: LineMode, piece: &str, text: &mut String<A>) -> Res
     walk_on(mode, piece, text)
 }
 
+// One more piece of a line that was blank so far.
+#[inline(always)]
+fn begin<A: Allocator>(mode: LineMode, piece: &str, text: &mut String<A>) -> Result<Progress, A>
+    ensures walks { IfOk result (WalksOn (Progress.Blank mode) (chars (string_bytes text.old))
+        (chars piece.now) (chars (string_bytes text.new))) }
+    ensures memory { IfErr result IsMemory }
+{
+    if piece.starts_with('#') {
+        return Ok(Progress::Comment);
+    }
+    begin_after_blanks(mode, piece, text)
+}
+
 // One more piece of a line. What is not kept was still seen to be text.
+#[inline(always)]
 fn go_on<A: Allocator>(progress: Progress, piece: &str, text: &mut String<A>) -> Result<Progress, A>
     ensures walks { IfOk result (WalksOn progress (chars (string_bytes text.old))
         (chars piece.now) (chars (string_bytes text.new))) }

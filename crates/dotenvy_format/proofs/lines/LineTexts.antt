@@ -80,6 +80,18 @@ pub blank_is : (line trimmed : List ℕ) → trimmed ≡ trim_start line → tri
 unfolding trim_start
 blank_is line trimmed e h = encodes_same (skip_leading_whitespace (chars line)) [] (sym e ∙ h)
 
+-- a text that begins with `#` has no white space before it
+no_blank_before : (cs : List ℕ) → begins_with hash cs ≡ true → begins_with hash (skip_leading_whitespace cs) ≡ true
+no_blank_before [] h = cc
+no_blank_before (c ∷ cs) h = rw (eqb-true c hash h) refl
+
+-- a text whose first byte is `#` is a comment
+pub comment_at_once : (text : List ℕ) (b : Bool) → IsUtf8 text → b ≡ (get_or text 0 0 == hash) → b ≡ true →
+    begins_with hash (skip_leading_whitespace (chars text)) ≡ true
+comment_at_once text b u h is =
+    no_blank_before (chars text)
+    (sym (first_byte (chars text)) ∙ ap (λ bytes. get_or bytes 0 0 == hash) (encodes-chars text u) ∙ sym h ∙ is)
+
 -- a text of which something is left without the white space at its start is not white space alone
 pub shown_is : (line trimmed : List ℕ) → trimmed ≡ trim_start line → trimmed ≢ [] →
     skip_leading_whitespace (chars line) ≢ []
