@@ -25,7 +25,18 @@ use Rattle.dotenvy_checker.specs.Findings.{piece_findings, declared_after, entry
 use Rattle.dotenvy_checker.specs.Numbered.{at_line}
 use Rattle.dotenvy_checker.specs.inside.Reports.{Adds}
 use Rattle.dotenvy_checker.specs.inside.CheckedLines.{env_of, declared_of, known_of, declared_by}
-use Rattle.dotenvy_checker.specs.inside.CheckedLines.{Finds, FindsPieces, ChecksEntry, ChecksEntries}
+use Rattle.dotenvy_items.specs.declared.parse.Value.{Value}
+use Rattle.dotenvy_items.specs.inside.FirstPass.{IsAssigned}
+use Rattle.dotenvy_format.specs.Items.{LookUp}
+use Rattle.std.specs.Prelude.{Option, Some, None, option_map}
+use Rattle.dotenvy_checker.specs.inside.CheckedLines.{AssignsPieces, Finds, FindsPieces, ChecksEntry, ChecksEntries}
+
+-- what the first pass says is assigned has its pieces
+pub assigns_pieces : (dialect : Dialect) (look_up : LookUp) (rest : List ℕ) (pieces : List Piece)
+    (value : Option Value) → IsAssigned dialect look_up rest pieces value →
+    AssignsPieces dialect (option_map (λ value. value.text) value) pieces
+assigns_pieces dialect look_up rest pieces None is = is.1
+assigns_pieces dialect look_up rest pieces (Some written) is = rw is.1 is.2
 
 -- no finding is added to a report that stays as it is
 pub adds_none : {A : Type 0} (r : Report A) → Adds [] r r

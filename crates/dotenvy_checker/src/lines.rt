@@ -1,6 +1,6 @@
 //! Reads the lines of a file, and reports what is found on each.
 
-ghost use Rattle.std.specs.Prelude.{◌≡◌, ◌≢◌, ◌⊎◌, Err, None, Ok, IfErr, IfOk, List, OnOk, IsTrue};
+ghost use Rattle.std.specs.Prelude.{◌≡◌, ◌≢◌, ◌⊎◌, Err, None, Ok, IfErr, IfOk, List, OnOk, IsTrue, option_map};
 ghost use Rattle.std.specs.Str.{chars};
 ghost use Rattle.dotenvy_base.specs.Environment.{name_ok};
 ghost use Rattle.dotenvy_base.specs.Errors.{IsMemory, IsMemoryErr};
@@ -15,7 +15,7 @@ ghost use Rattle.dotenvy_checker.specs.Numbered.{at_line};
 ghost use Rattle.dotenvy_checker.specs.inside.Reports.{finding_of};
 ghost use Rattle.dotenvy_checker.specs.inside.CheckedLines.{declared_of, failure_of, known_of, AssignsPieces};
 ghost use Rattle.dotenvy_checker.specs.inside.CheckedLines.{ChecksEntry, ChecksOutcome, ChecksRead, ChecksText};
-ghost use Rattle.dotenvy_checker.specs.inside.CheckedLines.{ChecksUpTo, Finds, FindsPieces, IsNew, WhereFew};
+ghost use Rattle.dotenvy_checker.specs.inside.CheckedLines.{ChecksUpTo, Finds, FindsPieces, IsNew, SaysWritten, WhereFew};
 
 use crate::report::{Finding, Report};
 use dotenvy_base::environment::Environment;
@@ -25,11 +25,32 @@ use dotenvy_format::dialect::Dialect;
 use dotenvy_format::text::{Quoting, split_first};
 use dotenvy_format::value::{NextPiece, Piece, next_piece};
 use dotenvy_items::meaning::Names;
-use dotenvy_items::parse::{Value, scan_line};
+use dotenvy_items::parse::{Declaration, Fault, scan_line};
 use dotenvy_items::remembered::Remembered;
 use dotenvy_lines::lines::Splitter;
 use std::alloc::{AllocError, Allocator};
 use std::collections::HashMap;
+
+// A key, and the text that is assigned to it, or `None` where nothing or a comment is.
+#[derive(Clone, Copy)]
+struct Written<'t> {
+    key: &'t str,
+    value: Option<&'t str>,
+}
+
+// The texts of a declaration.
+fn written_of<'t>(declaration: Declaration<'_, 't>) -> Written<'t>
+    ensures { (result.key.now ≡ declaration.entry.key.now)
+        × (result.value ≡ option_map (λ value. value.text) declaration.entry.value) }
+{
+    Written {
+        key: declaration.key,
+        value: match declaration.value {
+            Some(value) => Some(value.text),
+            None => None,
+        },
+    }
+}
 
 /// The names that have a value, and what was found so far.
 #[derive(Drop)]
@@ -132,19 +153,28 @@ impl<'a, A: Allocator + Clone> Checker<'a, A> {
         Ok(())
     }
 
-    // Reports what is found in the text of a line.
-    fn check_line(&mut self, line: u64, text: &str) -> Result<(), A>
-        ensures checks { OnOk result (ChecksText line (chars text.now) self.old self.new) }
-        ensures memory { IfErr result IsMemory }
+    // What the text of a line says, whatever its names stand for.
+    fn scan<'t>(&self, text: &'t str) -> std::result::Result<Option<Written<'t>>, Fault<'t>>
+        ensures { SaysWritten self.now.dialect (chars text.now) result }
     {
         let names = Names {
             env: self.env,
             remembered: &self.remembered,
         };
         match scan_line(text, &names, self.dialect) {
-            Ok(Some(declaration)) => {
-                self.check_declaration(line, declaration.key, declaration.value)
-            }
+            Ok(Some(declaration)) => Ok(Some(written_of(declaration))),
+            Ok(None) => Ok(None),
+            Err(fault) => Err(fault),
+        }
+    }
+
+    // Reports what is found in the text of a line.
+    fn check_line(&mut self, line: u64, text: &str) -> Result<(), A>
+        ensures checks { OnOk result (ChecksText line (chars text.now) self.old self.new) }
+        ensures memory { IfErr result IsMemory }
+    {
+        match self.scan(text) {
+            Ok(Some(written)) => self.check_declaration(line, written.key, written.value),
             Ok(None) => Ok(()),
             Err(fault) => {
                 self.report
@@ -155,7 +185,7 @@ impl<'a, A: Allocator + Clone> Checker<'a, A> {
     }
 
     // Reports what is found in a declaration, and remembers its key.
-    fn check_declaration(&mut self, line: u64, key: &str, value: Option<Value<'_>>) -> Result<(), A>
+    fn check_declaration(&mut self, line: u64, key: &str, value: Option<&str>) -> Result<(), A>
         requires key { IsTrue (is_key (chars key.now)) }
         requires assigned { (pieces : List FormatPiece)
             × AssignsPieces self.old.dialect value pieces }
@@ -171,7 +201,7 @@ impl<'a, A: Allocator + Clone> Checker<'a, A> {
     }
 
     // Reports what is found in the value of a declaration, if it has one.
-    fn check_assigned(&mut self, line: u64, value: Option<Value<'_>>) -> Result<(), A>
+    fn check_assigned(&mut self, line: u64, value: Option<&str>) -> Result<(), A>
         requires { (pieces : List FormatPiece) × AssignsPieces self.old.dialect value pieces }
         ensures finds { (pieces : List FormatPiece) →
             AssignsPieces self.old.dialect value.entry pieces →
@@ -179,7 +209,7 @@ impl<'a, A: Allocator + Clone> Checker<'a, A> {
         ensures memory { IfErr result IsMemory }
     {
         match value {
-            Some(written) => self.check_value(line, written.text),
+            Some(text) => self.check_value(line, text),
             None => Ok(()),
         }
     }

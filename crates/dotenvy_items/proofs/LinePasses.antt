@@ -21,7 +21,7 @@ use Rattle.dotenvy_format.specs.Value.{Piece, IsValue}
 use Rattle.dotenvy_format.specs.Outcome.{Outcome, Pair, Fault as SaysFault, Says, is_nothing, value_index, Assigns}
 use Rattle.dotenvy_format.specs.Items.{LookUp, meaning}
 use Rattle.dotenvy_format.specs.inside.ReadValue.{base, read_value}
-use Rattle.dotenvy_items.specs.inside.ValuePasses.{saturated, MeansBytes}
+use Rattle.dotenvy_items.specs.inside.ValuePasses.{IsMeasured, KnowsMeaning}
 use Rattle.dotenvy_base.proofs.Basics.{nil_of}
 use Rattle.dotenvy_format.proofs.Basics.{not_is}
 use Rattle.dotenvy_format.specs.inside.ParseStatement.{parse}
@@ -67,17 +67,16 @@ pub some_bytes : (text : List ℕ) → is_empty_or_comment (chars text) ≡ fals
 some_bytes [] h = let e = rw chars-nil at h in cc
 some_bytes (b ∷ text) h = omega arith
 
--- a value that was measured has pieces, and its length is that of their meaning, saturated
-pub measured_value : (dialect : Dialect) (look_up : LookUp) (value : List ℕ) (len : ℕ) →
-    MeansBytes dialect look_up value len →
-    (pieces : List Piece) × IsValue dialect value pieces × (len ≡ saturated (byte_len (meaning look_up pieces)))
-measured_value dialect look_up value len = at (read_value dialect value (base Unquoted)) refl
+-- a value that was measured has pieces, and what is known of it is so
+pub measured_value : (dialect : Dialect) (look_up : LookUp) (value : Value) → IsMeasured dialect look_up value →
+    (pieces : List Piece) × IsValue dialect (chars value.text.now) pieces × KnowsMeaning look_up value pieces
+measured_value dialect look_up value = at (read_value dialect (chars value.text.now) (base Unquoted)) refl
   where
-    at : (r : Option (List Piece)) → read_value dialect value (base Unquoted) ≡ r →
-        MatchOption r ⊥ (λ pieces. len ≡ saturated (byte_len (meaning look_up pieces))) →
-        (pieces : List Piece) × IsValue dialect value pieces × (len ≡ saturated (byte_len (meaning look_up pieces)))
+    at : (r : Option (List Piece)) → read_value dialect (chars value.text.now) (base Unquoted) ≡ r →
+        MatchOption r ⊥ (KnowsMeaning look_up value) →
+        (pieces : List Piece) × IsValue dialect (chars value.text.now) pieces × KnowsMeaning look_up value pieces
     at None e k = absurd k
-    at (Some pieces) e k = (pieces, value-read dialect value pieces e, k)
+    at (Some pieces) e k = (pieces, value-read dialect (chars value.text.now) pieces e, k)
 
 -- where what a line's statement assigns is so declared, the line declares it
 pub declared : (dialect : Dialect) (look_up : LookUp) (line key rest : List ℕ) (declaration : Declaration) →

@@ -1,7 +1,7 @@
 -- What names stand for, by bytes and by characters, and what the passes over a value count.
 use Rattle.std.proofs.Common.{◌≡◌, ℕ, ◌+◌, ◌≤◌, List, [], ◌∷◌, ◌++◌, Option, Some, None, refl}
 use Rattle.std.proofs.Common.{◌∙◌, ap, arith, length, length-append, append_assoc, unwrap_or}
-use Rattle.std.specs.Prelude.{◌^◌, ◌-◌, min}
+use Rattle.std.specs.Prelude.{◌^◌, ◌-◌, min, MatchOption}
 use denote.Ref.{Bor}
 use Rattle.std.specs.Option.{option_or, option_copied}
 use Rattle.std.specs.FinMap as fin
@@ -58,6 +58,15 @@ counted look_up p q h k e =
     let b = ap length e in
     let all = simp length-append at (ap length (one_more look_up p q)) in
     omega (arith, b, all)
+
+-- a text that is all that pieces mean is, with what one more piece means, all that they mean with it
+pub whole_on : (whole new : Option (Bor (List ℕ))) (bytes more : List ℕ) →
+    MatchOption whole (Unit {0}) (λ text. text.now ≡ bytes) →
+    MatchOption new (Unit {0}) (λ one. MatchOption whole ⊥ (λ before. one.now ≡ before.now ++ more)) →
+    MatchOption new (Unit {0}) (λ one. one.now ≡ bytes ++ more)
+whole_on whole None bytes more h k = tt
+whole_on None (Some one) bytes more h k = absurd k
+whole_on (Some before) (Some one) bytes more h k = rw (← h) k
 
 -- where all that a value means fits, its next piece fits behind the pieces before it
 pub room_for : {dialect : Dialect} {m n : ValueMode} {value rest left : List ℕ} {p q : List Piece}

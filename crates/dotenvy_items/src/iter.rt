@@ -372,7 +372,7 @@ impl<R: Source, A: Allocator + Clone> Iter<R, A> {
         ensures falls { OnErr result (items_measure self.new < items_measure self.old) }
         ensures asks { AsksBetween self.old self.new }
     {
-        self.load_lines(Mode::Keep, env)
+        self.load_lines(Mode::Keep { looks_first: true }, env)
     }
 
     /// As `load_rest`, but each name is set, whether it is there or not.
@@ -445,15 +445,19 @@ impl<R: Source, A: Allocator + Clone> Iter<R, A> {
         ensures asks { AsksBetween self.old self.new }
     {
         let reading = &mut self.reading;
+        let mut mode = mode;
         reading.lines.drop_mark()?;
         'loading: while let Some(outcome) = reading.lines.advance() {
             outcome?;
+            if reading.lines.line().is_empty() {
+                continue 'loading;
+            }
             let line = Line {
                 text: reading.lines.line(),
                 dialect: reading.dialect,
                 alloc: reading.lines.allocator(),
             };
-            load_line(line, &reading.remembered, env, mode)?;
+            load_line(line, &reading.remembered, env, &mut mode)?;
         }
         Ok(())
     }

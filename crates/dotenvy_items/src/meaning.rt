@@ -1,11 +1,11 @@
 //! What the names of a line stand for, and what a value means by them.
-ghost use Rattle.std.specs.Prelude.{◌≡◌, ◌≤◌, ◌+◌, ◌++◌, [], length, unwrap_or, string_bytes, string_len, MatchResult};
+ghost use Rattle.std.specs.Prelude.{◌≡◌, ◌≤◌, ◌+◌, ◌++◌, [], length, unwrap_or, string_bytes, string_len, MatchOption, MatchResult};
 ghost use Rattle.dotenvy_base.specs.Errors.{IsMemory};
 ghost use Rattle.std.specs.String.{string_capacity};
 ghost use Rattle.std.specs.Str.{chars, encode_utf8_all};
 ghost use Rattle.dotenvy_format.specs.inside.NextPiece.{piece_bytes};
 ghost use Rattle.dotenvy_items.specs.Meaning.{look_up_of};
-ghost use Rattle.dotenvy_items.specs.inside.ValuePasses.{saturated, Measures, MeansBytes, HasRoom, Appends};
+ghost use Rattle.dotenvy_items.specs.inside.ValuePasses.{saturated, IsKnown, IsMeasured, StandsFor, Measures, HasRoom, Appends};
 
 use crate::parse::Value;
 use crate::remembered::{Remembered, recall};
@@ -18,16 +18,61 @@ use std::alloc::Allocator;
 
 /// The texts that the names of a line stand for.
 #[derive(Drop)]
-pub struct Names<'a, A: Allocator> {
+pub struct Names<'n, A: Allocator> {
     /// The values that count first.
-    pub env: &'a Environment<A>,
+    pub env: &'n Environment<A>,
     /// The values that were remembered.
-    pub remembered: &'a Remembered<A>,
+    pub remembered: &'n Remembered<A>,
 }
 
-impl<'a, A: Allocator> Names<'a, A> {
+/// A name, and the text that it stands for.
+#[derive(Clone, Copy)]
+pub struct Known<'n, 'a> {
+    /// The name.
+    pub name: &'a str,
+    /// The text.
+    pub text: &'n str,
+}
+
+// What one piece means: how many bytes, and the last name that was looked up by then.
+#[derive(Clone, Copy)]
+struct Step<'n, 'a> {
+    len: usize,
+    known: Option<Known<'n, 'a>>,
+}
+
+// The one text that two make, if one of them is empty.
+#[inline(always)]
+fn one_text<'a>(whole: Option<&'a str>, text: &'a str) -> Option<&'a str>
+    ensures { MatchOption result (Unit {0})
+        (λ one. MatchOption whole.entry ⊥ (λ before. one.now ≡ before.now ++ text.now)) }
+{
+    let before = whole?;
+    if before.is_empty() {
+        Some(text)
+    } else if text.is_empty() {
+        Some(before)
+    } else {
+        None
+    }
+}
+
+// The one text that pieces make, if one of them gives it all.
+#[inline(always)]
+fn whole_with<'a>(whole: Option<&'a str>, piece: Piece<'a>) -> Option<&'a str>
+    ensures { (look_up : _) → MatchOption result (Unit {0}) (λ one. MatchOption whole.entry ⊥
+        (λ before. one.now ≡ before.now ++ piece_bytes look_up piece.entry)) }
+{
+    match piece {
+        Piece::Text(text) => one_text(whole, text),
+        Piece::Name { name: _, after: _ } => None,
+        Piece::LastBackslash => one_text(whole, ""),
+    }
+}
+
+impl<'n, A: Allocator> Names<'n, A> {
     // The environment's value, else the remembered text, else the empty text.
-    fn look_up(&self, name: &str) -> &'a str
+    fn look_up(&self, name: &str) -> &'n str
         ensures { result.now
             ≡ encode_utf8_all (unwrap_or (look_up_of self.now (chars name.now)) []) }
     {
@@ -38,93 +83,154 @@ impl<'a, A: Allocator> Names<'a, A> {
         found.unwrap_or("")
     }
 
-    #[inline(always)]
-    fn piece_len(&self, piece: Piece<'_>) -> usize
-        ensures { result ≡ saturated (length (piece_bytes (look_up_of self.now) piece.entry)) }
+    // What a name stands for. The last name that was looked up isn't looked up again.
+    fn look_up_after<'a>(&self, name: &'a str, last: Option<Known<'n, 'a>>) -> Known<'n, 'a>
+        requires { IsKnown (look_up_of self.now) last }
+        ensures { StandsFor (look_up_of self.now) result × (result.name.now ≡ name.now) }
     {
-        match piece {
-            Piece::Text(text) => text.len(),
-            Piece::Name { name, after } => self.look_up(name).len().saturating_add(after.len()),
-            Piece::LastBackslash => 0,
+        match last {
+            Some(known) if known.name == name => known,
+            _ => Known {
+                name,
+                text: self.look_up(name),
+            },
         }
     }
 
-    /// How many bytes the value means, or the greatest `usize` where that is less; or what is left of the value where no value
-    /// goes on, which is nothing where it lacks its end.
-    pub(crate) fn measure<'b>(
+    // How many bytes a piece means, after the names up to this last one.
+    #[inline(always)]
+    fn step<'a>(&self, piece: Piece<'a>, known: Option<Known<'n, 'a>>) -> Step<'n, 'a>
+        requires { IsKnown (look_up_of self.now) known }
+        ensures len { result.len
+            ≡ saturated (length (piece_bytes (look_up_of self.now) piece.entry)) }
+        ensures known { IsKnown (look_up_of self.now) result.known }
+    {
+        match piece {
+            Piece::Text(text) => Step {
+                len: text.len(),
+                known,
+            },
+            Piece::Name { name, after } => {
+                let found = self.look_up_after(name, known);
+                Step {
+                    len: found.text.len().saturating_add(after.len()),
+                    known: Some(found),
+                }
+            }
+            Piece::LastBackslash => Step { len: 0, known },
+        }
+    }
+
+    /// What the first pass finds out about a value; or what is left of it where no value goes on, which is nothing where
+    /// it lacks its end.
+    pub(crate) fn measure<'a>(
         &self,
-        value: &'b str,
+        value: &'a str,
         dialect: Dialect,
-    ) -> std::result::Result<usize, &'b str>
+    ) -> std::result::Result<Value<'n, 'a>, &'a str>
         ensures { Measures dialect (look_up_of self.now) (chars value.now) result }
     {
         let mut len: usize = 0;
+        let mut whole = Some("");
+        let mut known = None;
         let mut rest = value;
         let mut quoting = Quoting::Unquoted;
         loop {
-            match next_piece(rest, quoting, dialect) {
-                NextPiece::Piece(given) => {
-                    len = len.saturating_add(self.piece_len(given.piece));
-                    rest = given.rest;
-                    quoting = given.quoting;
+            let given = match next_piece(rest, quoting, dialect) {
+                NextPiece::Piece(given) => given,
+                NextPiece::End => {
+                    return Ok(Value {
+                        text: value,
+                        len,
+                        whole,
+                        known,
+                    });
                 }
-                NextPiece::End => return Ok(len),
                 NextPiece::Unfinished => return Err(""),
                 NextPiece::Fault(left) => return Err(left),
-            }
-        }
-    }
-
-    #[inline(always)]
-    fn push_piece(&self, text: &mut String<A>, piece: Piece<'_>)
-        requires { string_len text.old + length (piece_bytes (look_up_of self.now) piece)
-            ≤ string_capacity text.old }
-        ensures bytes { string_bytes text.new
-            ≡ string_bytes text.old ++ piece_bytes (look_up_of self.now) piece.entry }
-        ensures capacity { string_capacity text.old ≤ string_capacity text.new }
-    {
-        match piece {
-            Piece::Text(meant) => text.push_str(meant).unwrap(),
-            Piece::Name { name, after } => {
-                text.push_str(self.look_up(name)).unwrap();
-                text.push_str(after).unwrap();
-            }
-            Piece::LastBackslash => {}
-        }
-    }
-
-    /// Appends what the value means to a text that has room for it.
-    pub(crate) fn append_meaning(&self, text: &mut String<A>, value: &str, dialect: Dialect)
-        requires { HasRoom dialect (look_up_of self.now) (chars value.now) (string_len text.old)
-            (string_capacity text.old) }
-        ensures { Appends dialect (look_up_of self.now) (chars value.now) (string_bytes text.old)
-            (string_bytes text.new) }
-    {
-        let mut rest = value;
-        let mut quoting = Quoting::Unquoted;
-        while let NextPiece::Piece(given) = next_piece(rest, quoting, dialect) {
-            self.push_piece(text, given.piece);
+            };
+            let step = self.step(given.piece, known);
+            len = len.saturating_add(step.len);
+            whole = whole_with(whole, given.piece);
+            known = step.known;
             rest = given.rest;
             quoting = given.quoting;
         }
     }
 
-    /// The meaning of a value that was measured: one growth, by that length.
+    // Appends what a piece means to a text that has room for it, and gives the last name that was looked up.
+    #[inline(always)]
+    fn push_piece<'a>(
+        &self,
+        text: &mut String<A>,
+        piece: Piece<'a>,
+        known: Option<Known<'n, 'a>>,
+    ) -> Option<Known<'n, 'a>>
+        requires room { string_len text.old + length (piece_bytes (look_up_of self.now) piece)
+            ≤ string_capacity text.old }
+        requires known { IsKnown (look_up_of self.now) known }
+        ensures bytes { string_bytes text.new
+            ≡ string_bytes text.old ++ piece_bytes (look_up_of self.now) piece.entry }
+        ensures capacity { string_capacity text.old ≤ string_capacity text.new }
+        ensures known { IsKnown (look_up_of self.now) result }
+    {
+        match piece {
+            Piece::Text(meant) => {
+                text.push_str(meant).unwrap();
+                known
+            }
+            Piece::Name { name, after } => {
+                let found = self.look_up_after(name, known);
+                text.push_str(found.text).unwrap();
+                text.push_str(after).unwrap();
+                Some(found)
+            }
+            Piece::LastBackslash => known,
+        }
+    }
+
+    /// Appends what a value means to a text that has room for it.
+    pub(crate) fn append_meaning(
+        &self,
+        text: &mut String<A>,
+        value: Value<'n, '_>,
+        dialect: Dialect,
+    )
+        requires room { HasRoom dialect (look_up_of self.now) (chars value.text.now)
+            (string_len text.old) (string_capacity text.old) }
+        requires known { IsKnown (look_up_of self.now) value.known }
+        ensures { Appends dialect (look_up_of self.now) (chars value.entry.text.now)
+            (string_bytes text.old) (string_bytes text.new) }
+    {
+        let mut known = value.known;
+        let mut rest = value.written();
+        let mut quoting = Quoting::Unquoted;
+        while let NextPiece::Piece(given) = next_piece(rest, quoting, dialect) {
+            known = self.push_piece(text, given.piece, known);
+            rest = given.rest;
+            quoting = given.quoting;
+        }
+    }
+
+    /// The meaning of a value that was measured: a copy, if it is one text, or else one growth by its length.
     pub(crate) fn expand(
         &self,
         alloc: A,
-        value: Value<'_>,
+        value: Value<'n, '_>,
         dialect: Dialect,
     ) -> Result<String<A>, A>
-        requires { MeansBytes dialect (look_up_of self.now) (chars value.text.now) value.len }
+        requires { IsMeasured dialect (look_up_of self.now) value }
         ensures { MatchResult result
             (λ text.
             Appends dialect (look_up_of self.now) (chars value.entry.text.now) []
             (string_bytes text))
             IsMemory }
     {
+        if let Some(text) = value.whole {
+            return Ok(String::from_str(alloc, text)?);
+        }
         let mut meaning = String::with_capacity(alloc, value.len)?;
-        self.append_meaning(&mut meaning, value.text, dialect);
+        self.append_meaning(&mut meaning, value, dialect);
         Ok(meaning)
     }
 }

@@ -10,7 +10,7 @@ ghost use Rattle.dotenvy_format.specs.Value.{Piece};
 ghost use Rattle.dotenvy_items.specs.inside.FirstPass.{IsAssigned, ScansAssigned, Scans, GivesPair, GivesCopies};
 ghost use Rattle.dotenvy_items.specs.inside.ParsedLine.{AnswersLine, Remembers, HasKey};
 
-use crate::meaning::Names;
+use crate::meaning::{Known, Names};
 use crate::remembered::{Remembered, remember};
 use dotenvy_base::environment::Environment;
 use dotenvy_base::errors::{Result, fault_error};
@@ -23,22 +23,35 @@ pub(crate) type Pair<A> = (String<A>, String<A>);
 
 pub(crate) type ParsedLine<A> = Result<Option<Pair<A>>, A>;
 
-/// A value, and how many bytes it means.
+/// A value, and what the first pass finds out about its meaning.
 #[derive(Clone, Copy)]
-pub struct Value<'a> {
+pub struct Value<'n, 'a> {
     /// The value as it is written.
     pub text: &'a str,
-    /// The length of what it means, or the greatest `usize` where that is less.
+    /// The length of what it means in bytes, or the greatest `usize` where that is less.
     pub len: usize,
+    /// What it means, if one piece of it gives it all.
+    pub whole: Option<&'a str>,
+    /// The last name that it mentions, with the text that the name stands for.
+    pub known: Option<Known<'n, 'a>>,
+}
+
+impl<'n, 'a> Value<'n, 'a> {
+    // The value as it is written, as the result of a call, since the prover then knows that it is UTF-8.
+    pub(crate) fn written(self) -> &'a str
+        ensures { result.now ≡ self.entry.text.now }
+    {
+        self.text
+    }
 }
 
 /// A key and its value.
 #[derive(Clone, Copy)]
-pub struct Declaration<'a> {
+pub struct Declaration<'n, 'a> {
     /// The key.
     pub key: &'a str,
     /// The value, or `None` where nothing or a comment is assigned.
-    pub value: Option<Value<'a>>,
+    pub value: Option<Value<'n, 'a>>,
 }
 
 /// A text that is no statement or no value.
@@ -92,21 +105,21 @@ fn fault_index(value: &str, left: &str) -> usize
 }
 
 // The declaration of what is assigned to a key, or the fault in it.
-fn scan_assigned<'a, A: Allocator>(
+fn scan_assigned<'n, 'a, A: Allocator>(
     key: &'a str,
     text: &'a str,
-    names: &Names<'_, A>,
+    names: &Names<'n, A>,
     dialect: Dialect,
-) -> std::result::Result<Declaration<'a>, Fault<'a>>
+) -> std::result::Result<Declaration<'n, 'a>, Fault<'a>>
     ensures { ScansAssigned dialect (look_up_of names.now) (chars key.now) (chars text.now) result }
 {
     if is_empty_or_comment(text) {
         return Ok(Declaration { key, value: None });
     }
     match names.measure(text, dialect) {
-        Ok(len) => Ok(Declaration {
+        Ok(value) => Ok(Declaration {
             key,
-            value: Some(Value { text, len }),
+            value: Some(value),
         }),
         Err(left) => Err(Fault {
             text,
@@ -116,11 +129,11 @@ fn scan_assigned<'a, A: Allocator>(
 }
 
 /// The first pass, which takes no memory: nothing, a declaration with the length of its value's meaning, or the fault.
-pub fn scan_line<'a, A: Allocator>(
+pub fn scan_line<'n, 'a, A: Allocator>(
     line: &'a str,
-    names: &Names<'_, A>,
+    names: &Names<'n, A>,
     dialect: Dialect,
-) -> std::result::Result<Option<Declaration<'a>>, Fault<'a>>
+) -> std::result::Result<Option<Declaration<'n, 'a>>, Fault<'a>>
     ensures { Scans dialect (look_up_of names.now) (chars line.now) result }
 {
     let trimmed = line.trim_end();
@@ -140,10 +153,10 @@ pub fn scan_line<'a, A: Allocator>(
 }
 
 /// The second pass: the key of a declaration, and what its value means.
-pub(crate) fn pair_of<A: Allocator + Clone>(
+pub(crate) fn pair_of<'n, A: Allocator + Clone>(
     alloc: A,
-    declaration: Declaration<'_>,
-    names: &Names<'_, A>,
+    declaration: Declaration<'n, '_>,
+    names: &Names<'n, A>,
     dialect: Dialect,
 ) -> Result<Pair<A>, A>
     requires { (rest : List ℕ) × (pieces : List Piece)
@@ -162,10 +175,10 @@ pub(crate) fn pair_of<A: Allocator + Clone>(
 }
 
 // The memory for a declaration that is remembered, all but that of the map.
-fn copies_of<A: Allocator + Clone>(
+fn copies_of<'n, A: Allocator + Clone>(
     alloc: A,
-    declaration: Declaration<'_>,
-    names: &Names<'_, A>,
+    declaration: Declaration<'n, '_>,
+    names: &Names<'n, A>,
     dialect: Dialect,
 ) -> Result<Copies<A>, A>
     requires { (rest : List ℕ) × (pieces : List Piece)

@@ -1,7 +1,8 @@
 -- What the code finds on lines, and what it then knows.
 use Rattle.std.specs.Prelude.{ℕ, ◌≡◌, ◌≢◌, ◌⊎◌, List, [], ◌∷◌, Option, Some, None, Result, Ok, Err}
-use Rattle.std.specs.Prelude.{string_bytes}
+use Rattle.std.specs.Prelude.{string_bytes, IsTrue}
 use Rattle.std.specs.List.{flat_map}
+use denote.Ref.{Bor}
 use Rattle.std.specs.Str.{chars}
 use Rattle.std.specs.declared.io.ErrorKind.TheVariants.{InvalidData}
 use Rattle.dotenvy_base.specs.declared.errors.Error.{Error}
@@ -11,11 +12,11 @@ use Rattle.dotenvy_base.specs.Errors.{IsMemory}
 use Rattle.dotenvy_base.specs.Source.{Ahead}
 use Rattle.dotenvy_format.specs.declared.dialect.Dialect.{Dialect}
 use Rattle.dotenvy_format.specs.Entries.{Failure, LineParse, Io, Entry, Fails, outcome_entries}
-use Rattle.dotenvy_format.specs.Items.{LookUp}
-use Rattle.dotenvy_format.specs.Outcome.{Outcome, Says}
-use Rattle.dotenvy_format.specs.Value.{Piece}
-use Rattle.dotenvy_items.specs.declared.parse.Value.{Value}
-use Rattle.dotenvy_items.specs.inside.FirstPass.{IsAssigned}
+use Rattle.dotenvy_format.specs.Keys.{is_key}
+use Rattle.dotenvy_format.specs.Outcome.{Outcome, Nothing, Pair, Fault as SaysFault, Says}
+use Rattle.dotenvy_items.specs.declared.parse.Fault.{Fault}
+use Rattle.dotenvy_checker.specs.declared.lines.Written.{Written}
+use Rattle.dotenvy_format.specs.Value.{Piece, IsValue}
 use Rattle.dotenvy_lines.specs.declared.lines.Stage.TheVariants.{Failed}
 use Rattle.dotenvy_lines.specs.Lines.{LinesState, WhereOpen}
 use Rattle.dotenvy_lines.specs.inside.Splitter.{SplitterState, last_lines}
@@ -58,10 +59,20 @@ abbrev pub FindsPieces : {A : Type 0} → ℕ → List Piece → Checker A → C
 FindsPieces number pieces old new =
     Finds (at_line number (flat_map (piece_findings (known_of old)) pieces)) old new
 
--- what a declaration assigns has these pieces, for some meaning of its names
-abbrev pub AssignsPieces : Dialect → Option Value → List Piece → Type 0
-AssignsPieces dialect value pieces =
-    (look_up : LookUp) × (rest : List ℕ) × IsAssigned dialect look_up rest pieces value
+-- what a declaration assigns has these pieces: none where no value is assigned
+abbrev pub AssignsPieces : Dialect → Option (Bor (List ℕ)) → List Piece → Type 0
+AssignsPieces dialect None pieces = pieces ≡ []
+AssignsPieces dialect (Some text) pieces = IsValue dialect (chars text.now) pieces
+
+-- what a line says: nothing, a key and the pieces of what is assigned to it, or a fault
+abbrev pub SaysWritten : Dialect → List ℕ → Result (Option Written) Fault → Type 0
+SaysWritten dialect line (Ok None) = Says dialect line Nothing
+SaysWritten dialect line (Ok (Some written)) =
+    (pieces : List Piece) × IsTrue (is_key (chars written.key.now))
+    × Says dialect line (Pair (chars written.key.now) pieces)
+    × AssignsPieces dialect written.value pieces
+SaysWritten dialect line (Err fault) =
+    Says dialect line (SaysFault (chars fault.text.now) fault.index)
 
 -- the names that are declared after entries
 abbrev pub declared_by : Names → List (ℕ × Entry) → Names

@@ -9,19 +9,19 @@ use Rattle.dotenvy_items.specs.declared.parse.Declaration.{Declaration}
 use Rattle.dotenvy_items.specs.declared.parse.Value.{Value}
 use Rattle.dotenvy_items.specs.declared.parse.Fault.{Fault}
 use Rattle.dotenvy_items.specs.declared.parse.Copies.{Copies}
-use Rattle.dotenvy_format.specs.Characters.{byte_len, is_empty_or_comment}
+use Rattle.dotenvy_format.specs.Characters.{is_empty_or_comment}
 use Rattle.dotenvy_format.specs.Statement.{IsStatement}
 use Rattle.dotenvy_format.specs.Value.{Piece, IsValue}
 use Rattle.dotenvy_format.specs.Outcome.{Nothing, Fault as SaysFault, Says, trimmed, is_nothing, HasNoValue}
 use Rattle.dotenvy_format.specs.Items.{LookUp, meaning}
-use Rattle.dotenvy_items.specs.inside.ValuePasses.{saturated}
+use Rattle.dotenvy_items.specs.inside.ValuePasses.{KnowsMeaning}
 
--- what is assigned is nothing or a comment; or it is a value, whose meaning takes so many bytes
+-- what is assigned is nothing or a comment; or it is a value, and what is known of it is so
 abbrev pub IsAssigned : (dialect : Dialect) → LookUp → List ℕ → List Piece → Option Value → Type 0
 IsAssigned dialect look_up rest pieces None = IsTrue (is_empty_or_comment rest) × (pieces ≡ [])
 IsAssigned dialect look_up rest pieces (Some value) =
     IsTrue (not (is_empty_or_comment rest)) × (chars value.text.now ≡ rest)
-    × IsValue dialect rest pieces × (value.len ≡ saturated (byte_len (meaning look_up pieces)))
+    × IsValue dialect rest pieces × KnowsMeaning look_up value pieces
 
 -- the declaration of what is assigned to this key, or the fault in it
 abbrev pub ScansAssigned : (dialect : Dialect) → LookUp → List ℕ → List ℕ →
@@ -64,7 +64,7 @@ GivesPair dialect look_up declaration answer =
     IsAssigned dialect look_up rest pieces declaration.value →
     IfOk answer (IsPairOf look_up declaration pieces)
 
--- the key, the meaning of the pieces, and the same to be remembered; no value where none is assigned
+-- the key, the meaning of the pieces, and the same to be remembered; no value where none is given
 pub record AreCopiesOf {A : Type 0} (look_up : LookUp) (declaration : Declaration)
     (pieces : List Piece) (copies : Copies A) : Type 0 where
   pub key : string_bytes copies.key ≡ declaration.key.now

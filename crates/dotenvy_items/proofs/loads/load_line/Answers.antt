@@ -1,4 +1,4 @@
-use Rattle.std.proofs.Common.{rules, ◌∙◌, refl, sym}
+use Rattle.std.proofs.Common.{refl}
 use Rattle.std.proofs.lemmas.Str.{IsUtf8-string_bytes}
 use Rattle.dotenvy_items.specs.Remembered.{remembered_of}
 use Rattle.dotenvy_items.specs.inside.LoadStep.{mode_of}
@@ -8,13 +8,13 @@ use Rattle.dotenvy_items.proofs.loads.load_line.Goals as goal
 
 pub returns-in-Err-clause-loads : goal.returns-in-Err-clause-loads
 returns-in-Err-clause-loads g c =
-    fault_loaded (mode_of c.args.mode) (remembered_of c.args.remembered.now.entries) c.in-Err.ensures
+    fault_loaded (mode_of c.args.mode.now) (remembered_of c.args.remembered.now.entries) c.in-Err.ensures
     c.fault_error.ensures
 
-pub returns-then-not-sets-clause-loads : goal.returns-then-not-sets-clause-loads
-returns-then-not-sets-clause-loads g c =
-    declared_loaded (mode_of c.args.mode) (remembered_of c.args.remembered.now.entries)
-    (rw c.in-Ok-Some.field-0-is at c.in-Ok-Some.ensures) (sym c.sets.ensures ∙ c.if-not-sets.true) refl
+pub returns-then-passes_by-clause-loads : goal.returns-then-passes_by-clause-loads
+returns-then-passes_by-clause-loads g c =
+    declared_loaded (mode_of c.args.mode.now) (remembered_of c.args.remembered.now.entries)
+    (rw c.in-Ok-Some.field-0-is at c.in-Ok-Some.ensures) (c.passes_by.ensures c.if-passes_by.true) refl
     (record { values = λ n. refl; is_answer = tt })
 
 pub pair_of-requires : goal.pair_of-requires
@@ -31,25 +31,14 @@ set-requires g c =
 pub returns-clause-loads : goal.returns-clause-loads
 returns-clause-loads g c =
     let declared = rw c.in-Ok-Some.field-0-is at c.in-Ok-Some.ensures in
-    set_loaded (mode_of c.args.mode) (remembered_of c.args.remembered.now.entries) declared
-    (c.in_ok-key.ensures.pair declared.rest declared.pieces declared.is_assigned)
-    (sym c.sets.ensures ∙ c.if-not-sets.false) (record {
-      ok = c.set.ensures.ok;
-      same = c.set.ensures.same;
-      good = c.set.ensures.good;
-      nul = c.set.ensures.nul;
-    })
+    set_loaded (mode_of c.args.mode.now) (remembered_of c.args.remembered.now.entries) declared
+    (c.in_ok-key.ensures.pair declared.rest declared.pieces declared.is_assigned) c.set.ensures.sets
 
 pub returns-clause-keeps : goal.returns-clause-keeps
-returns-clause-keeps g c =
-    let declared = rw c.in-Ok-Some.field-0-is at c.in-Ok-Some.ensures in
-    let pair = c.in_ok-key.ensures.pair declared.rest declared.pieces declared.is_assigned in
-    set_keeps {old = c.args.env.now} {new = c.set.new.self} {pair = (c.in_ok-key.key, c.in_ok-key.value)} c.set.result
-    (rw pair.key (sym c.sets.ensures ∙ c.if-not-sets.false)) (search rules)
+returns-clause-keeps g c = set_keeps c.set.ensures.sets
 
 pub returns-clause-changes : goal.returns-clause-changes
 returns-clause-changes g c =
     let declared = rw c.in-Ok-Some.field-0-is at c.in-Ok-Some.ensures in
     let pair = c.in_ok-key.ensures.pair declared.rest declared.pieces declared.is_assigned in
-    set_changes {pair = (c.in_ok-key.key, c.in_ok-key.value)} c.set.result (rw pair.key declared.statement.is_key)
-    (search rules)
+    set_changes (rw pair.key declared.statement.is_key) c.set.ensures.sets

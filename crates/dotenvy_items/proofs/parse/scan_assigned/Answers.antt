@@ -11,9 +11,8 @@ fault_index-requires-clause-nonempty g c = some_bytes c.args.text.now (sym c.if-
 
 pub returns-in-Ok : goal.returns-in-Ok
 returns-in-Ok g c =
-    let text = chars c.args.text.now in
-    let m = measured_value c.args.dialect (look_up_of c.args.names.now) text c.in-Ok.len c.in-Ok.ensures in
-    (refl, m.0, (rw (← c.if-is_empty_or_comment.ensures) refl, refl, m.1, m.2))
+    let m = measured_value c.args.dialect (look_up_of c.args.names.now) c.in-Ok.value c.in-Ok.ensures.1 in
+    (refl, m.0, (rw (← c.if-is_empty_or_comment.ensures) refl, c.in-Ok.ensures.0, rw c.in-Ok.ensures.0 at m.1, m.2))
 
 pub returns-in-Err : goal.returns-in-Err
 returns-in-Err g c =

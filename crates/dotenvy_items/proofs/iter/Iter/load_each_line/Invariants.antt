@@ -18,8 +18,9 @@ invariant-loading g l =
     l.reading-inside.dialect l.fn.self.item_lines in
     record {
       shut : l.fn.self.lines.stage ≢ Open → (now.lines ≡ l.fn.self.lines) × (l.env ≡ l.fn.env);
-      came : CameTo (mode_of l.mode) l.fn.self l.fn.env.names l.env.names now.lines;
-      keeps : mode_of l.mode ≡ Keep → KeepsNames l.fn.env.names l.env.names;
+      came : CameTo (mode_of l.fn.mode) l.fn.self l.fn.env.names l.env.names now.lines;
+      mode : mode_of l.mode ≡ mode_of l.fn.mode;
+      keeps : mode_of l.fn.mode ≡ Keep → KeepsNames l.fn.env.names l.env.names;
       changes : ChangesOnlyKeys l.fn.env l.env;
       same : now ≡ record l.fn.self { lines = now.lines };
       falls : items_measure now ≤ items_measure l.fn.self;

@@ -9,13 +9,15 @@ use Rattle.dotenvy_format.specs.Items.{meaning}
 use Rattle.dotenvy_format.specs.inside.ReadValue.{base}
 use Rattle.dotenvy_format.specs.inside.NextPiece.{IsReadTo}
 use Rattle.dotenvy_items.specs.Meaning.{look_up_of}
+use Rattle.dotenvy_items.specs.inside.ValuePasses.{IsKnown}
 use Rattle.dotenvy_items.proofs.meaning.Names.append_meaning.Given as goal
 
 -- the pieces so far lead to the rest, and their meaning was appended
 abbrev pub invariant-loop-given : goal.invariant-loop-given
 invariant-loop-given g l =
     shadow (Utf8 l.rest)
-    × ((pieces : _) × IsReadTo l.dialect (base Unquoted) (chars l.value) pieces (base
+    × IsKnown (look_up_of l.self) l.known
+    × ((pieces : _) × IsReadTo l.dialect (base Unquoted) (chars l.value.text.now) pieces (base
     l.quoting) (chars l.rest) × (string_bytes l.text
     ≡ string_bytes l.initial.text
     ++ encode_utf8_all (meaning (look_up_of l.self) pieces)) × (string_capacity l.initial.text

@@ -2,16 +2,19 @@ use Rattle.std.proofs.Common.{[], ◌++◌, refl}
 use Rattle.std.proofs.lemmas.Str.{chars-nil}
 use Rattle.dotenvy_items.specs.Meaning.{look_up_of}
 use Rattle.dotenvy_format.proofs.values.NextPiece.{none_read, read_further, stop_after}
-use Rattle.dotenvy_items.proofs.Meanings.{counted, all_read}
+use Rattle.dotenvy_items.proofs.Meanings.{one_more, counted, whole_on, all_read}
 use Rattle.dotenvy_items.proofs.meaning.Names.measure.Goals as goal
 
 pub loop-given-init : goal.loop-given-init
-loop-given-init g c = (c.utf8.value, ([], none_read _ _ _, refl))
+loop-given-init g c = (c.utf8.value, ([], none_read _ _ _, refl, refl, tt))
 
 pub returns-in-End : goal.returns-in-End
 returns-in-End g c =
     let i = c.loop-given.invariant.1 in
-    rw (all_read _ _ _ _ _ _ i.1 c.in-End.ensures.next) i.2
+    (refl, rw (all_read _ _ _ _ _ _ i.1 c.in-End.ensures.next) (record { len = i.2; whole = i.3; known = i.4 }))
+
+pub step-step-requires : goal.step-step-requires
+step-step-requires g c = c.loop-given.invariant.1.4
 
 pub returns-in-Unfinished : goal.returns-in-Unfinished
 returns-in-Unfinished g c =
@@ -28,11 +31,14 @@ loop-given-preserved g c =
     let i = c.loop-given.invariant.1 in
     let next = c.in-Piece.ensures.next in
     let look_up = look_up_of c.args.self.now in
-    let more = counted look_up i.0 next.pieces i.2 c.piece_len.ensures (next.means look_up) in (
+    let whole = whole_on _ _ _ _ i.3 (c.whole_with-whole.ensures look_up) in
+    let more = counted look_up i.0 next.pieces i.2 c.step-step.ensures.len (next.means look_up) in (
       next.follows,
       (
         i.0 ++ next.pieces,
         read_further _ _ _ _ _ _ _ _ _ i.1 next.is_read,
         rw c.saturating_add-len.ensures more,
+        rw (one_more look_up i.0 next.pieces, ← next.means look_up) whole,
+        c.step-step.ensures.known,
       ),
     )
