@@ -263,17 +263,17 @@ says_where() {
 
 # The crates that the programs need, and themselves: names are added until the lines of crates.txt add no more.
 needed_crates() {
-    local name names='dotenvy_run dotenvy_check' before=
-    while [ "$names" != "$before" ]; do
-        before=$names
-        names=$(
-            for name in $names; do
+    local name needed='dotenvy_run dotenvy_check' before=
+    while [ "$needed" != "$before" ]; do
+        before=$needed
+        needed=$(
+            for name in $needed; do
                 echo "$name"
                 sed -n "s/^$name: *//p" "$copy/crates.txt" | tr -s ' ' '\n'
             done | sort -u | grep -xFf <(sed -n 's/:.*//p' "$copy/crates.txt")
         )
     done
-    echo "$names"
+    echo "$needed"
 }
 
 shown_crates() {

@@ -1,3 +1,4 @@
+#!/bin/sh
 # Calls the program that runs this script with other words, and shows what each call prints and its status.
 # Standard input is that of the stored run: the three lines of its file stdin.
 program=/proc/$PPID/exe
@@ -15,14 +16,24 @@ row() {
 }
 
 row --list
-printf 'A=1\nK="$A"\n' | row --list --next
-printf 'A=1\nK="$A"\n' | row --list
+row --list --next <<'END'
+A=1
+K="$A"
+END
+row --list <<'END'
+A=1
+K="$A"
+END
 printf 'A=1\n.B=2\nC=3\n' | row --list -f first.env
 echo 'piped' | row cat
 
+# shellcheck disable=SC2016 # the shell that the program starts expands it
 row sh -c 'echo "$SAID, $GREETING"'
+# shellcheck disable=SC2016 # the shell that the program starts expands it
 SAID=hello row sh -c 'echo "$SAID, $GREETING"'
+# shellcheck disable=SC2016 # the shell that the program starts expands it
 row -f first.env -f second.env sh -c 'echo "$X $Y $Z"'
+# shellcheck disable=SC2016 # the shell that the program starts expands it
 row --next -f next.env sh -c 'echo "$K"'
 row sh -c 'exit 7'
 row sh -c 'kill -9 $$'
@@ -46,19 +57,29 @@ row -- sh
 row "$(printf '\377')" | tail -n 2
 
 # Words reach the command as they are: its own, empty ones, ones with blanks at their ends, ones like the word before.
+# shellcheck disable=SC2016 # the shell that the program starts expands it
 row sh -c 'echo "$0"'
+# shellcheck disable=SC2016 # the shell that the program starts expands it
 row sh -c 'printf "<%s>" "$0" "$@"; echo' '' ' a ' b b ''
 row '' echo started
 PATH=/bin:/usr/bin row ' echo' started
 PATH=/bin:/usr/bin row ' --list'
 
 # Many words, of which only what comes of them is shown.
+# shellcheck disable=SC2016 # the shell that the program starts expands it
 row sh -c 'echo "$# $1 ${5000}"' sh $(seq 5000) | tail -n 2
-row $(seq 300 | sed 's/.*/-ffirst.env/') -f second.env sh -c 'echo "$X $Z"' | tail -n 2
+(
+    for _ in $(seq 300); do
+        set -- "$@" -ffirst.env
+    done
+    # shellcheck disable=SC2016 # the shell that the program starts expands it
+    row "$@" -f second.env sh -c 'echo "$X $Z"'
+) | tail -n 2
 
 # Files with blanks at their ends, without a name, and of bytes that are no text. A list does without its files.
 echo 'X=blank' >' first.env '
 printf 'A=\377\n' >broken.env
+# shellcheck disable=SC2016 # the shell that the program starts expands it
 row -f ' first.env ' sh -c 'echo "$X"'
 row -f '' echo started
 row -f broken.env echo started
@@ -70,7 +91,7 @@ printf 'A="x\ny\n' | row --list
 
 # A command has all of standard input: of a file, and of a pipe that no single read empties.
 row cat <second.env
-seq 20000 | row sed -n '1p; $p'
+seq 20000 | row sed -n "1p; \$p"
 
 # What a call leaves of standard input for the next program.
 leaving() {
@@ -82,10 +103,13 @@ leaving -f absent.env cat
 leaving -f faulty.env cat
 leaving /no/such/program
 leaving sh -c 'exit 7'
+# shellcheck disable=SC2016 # the shell that the program starts expands it
 leaving sh -c 'read -r line; echo "its $line"'
 
 # Entries of the environment that are no text, and no name, reach the command, and names keep the blanks at their ends.
+# shellcheck disable=SC2016 # the shell that the program starts expands it
 BYTES=$(printf '\377') row sh -c 'printf %s "$BYTES" | wc -c'
+# shellcheck disable=SC2016 # the shell that the program starts expands it
 X=$(printf '\377') row -f first.env sh -c 'echo "$X $Y"'
 env 'A =1' ' A=2' =3 "$program" env | grep '^ *A* *=[123]$' | LC_ALL=C sort
 
@@ -125,6 +149,7 @@ chmod 700 locked.env shut
 # A file that may be read and not written.
 echo 'X=read' >kept.env
 chmod 444 kept.env
+# shellcheck disable=SC2016 # the shell that the program starts expands it
 row -f kept.env sh -c 'echo "$X"'
 chmod 644 kept.env
 
