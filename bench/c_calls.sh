@@ -12,7 +12,8 @@ folder=$(mktemp -d)
 trap 'rm -rf "$folder"' EXIT
 cc -O2 -I bindings/c bench/c_calls.c bindings/out/libdotenvy.a -o "$folder/calls"
 
-for kind in ${*:-mix plain}; do
+[ "$#" -gt 0 ] || set -- mix plain
+for kind in "$@"; do
     python3 bench/make_files.py "$kind" >"$folder/whole"
     # Whole lines up to 200,000 bytes.
     awk '{ bytes += length($0) + 1; if (bytes > 200000) exit; print }' "$folder/whole" >"$folder/file"

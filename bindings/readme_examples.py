@@ -1,6 +1,6 @@
 #!/usr/bin/env python3
-"""Runs the examples of bindings/README.md as they stand, and compares what they print with the text after each. Runs the
-Python of the README at the top, too, beside a `service.env`; it prints nothing.
+"""Runs the examples of bindings/README.md as they stand, and compares what they print with the text after each. Runs
+the Python of the README at the top, too, beside a `service.env`; it prints nothing.
 
 Where cc or cargo isn't there, the example that needs it is left out, and this says so. The last line is
 `N passed, M failed`.

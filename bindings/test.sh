@@ -4,7 +4,7 @@
 #
 # usage: bindings/test.sh
 set -uo pipefail
-cd "$(dirname "$0")"
+cd "$(dirname "$0")" || exit
 if ! ./build.sh; then
     echo "FAILED: bindings/build.sh" >&2
     echo "0 passed, 1 failed"

@@ -1,10 +1,11 @@
 #!/usr/bin/env python3
-"""Finds the definitions on which the headline of docs/CONTRACTS.md rests, and compares them with docs/DEFINITIONS.md, which
-lists them file by file in the order in which to read them.
+"""Finds the definitions on which the headline of docs/CONTRACTS.md rests, and compares them with docs/DEFINITIONS.md,
+which lists them file by file in the order in which to read them.
 
 It begins with the words that the contracts of a few public calls and laws cite, and goes on with the words of their
-definitions. Words of std are not followed. It prints what the page has and the code has not, and the other way round, and
-ends with status 1 if there is anything. With --write it rewrites the sections of the page, in the order in which they are.
+definitions. Words of std are not followed. It prints what the page has and the code has not, and the other way round,
+and ends with status 1 if there is anything. With --write it rewrites the sections of the page, in the order in which
+they are.
 """
 
 import pathlib
@@ -17,9 +18,24 @@ PAGE = TOP / "docs" / "DEFINITIONS.md"
 
 # The public calls and laws of the headline, by the file that has them.
 HEADLINE = {
-    "dotenvy_items/src/iter.rt": ["next_item", "load", "load_override", "load_rest", "load_rest_override", "from_read", "from_read_override"],
+    "dotenvy_items/src/iter.rt": [
+        "next_item",
+        "load",
+        "load_override",
+        "load_rest",
+        "load_rest_override",
+        "from_read",
+        "from_read_override",
+    ],
     "dotenvy_items/src/laws.rt": ["items_in_order", "cuts_do_not_matter", "lists_by_rule"],
-    "dotenvy_format/src/laws.rt": ["loads_in_turn", "reads_back", "one_reading", "one_meaning", "one_outcome", "one_next"],
+    "dotenvy_format/src/laws.rt": [
+        "loads_in_turn",
+        "reads_back",
+        "one_reading",
+        "one_meaning",
+        "one_outcome",
+        "one_next",
+    ],
 }
 
 WORD = re.compile(r"[^\s(){}\[\],;.:λ∀→×⊎≡≢|↦]+")
@@ -129,7 +145,7 @@ def believed(files):
 
 
 def sections_of(files):
-    """What the page should say of each file: its link and its number of lines, its first line, and its words in order."""
+    """What the page should say of each file: its link, its number of lines, its first line, and its words in order."""
     found = {}
     for module, name in believed(files):
         found.setdefault(module, []).append((files[module].places[name], name))

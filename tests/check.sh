@@ -63,9 +63,18 @@ unread() {
 }
 
 nl=$'\n'
-printf 'A=1\nB=$A\n' >good.env
-printf 'A=1\nB=two words\nC=$NOT_THERE_\n' >bad.env
-printf 'A=$CHECKED\n' >mentions.env
+cat >good.env <<'END'
+A=1
+B=$A
+END
+cat >bad.env <<'END'
+A=1
+B=two words
+C=$NOT_THERE_
+END
+cat >mentions.env <<'END'
+A=$CHECKED
+END
 bad=$(fault bad.env 2 'two words' 4)$nl$(no_value bad.env 3 NOT)$nl
 bad+="bad.env:3: warning: the name 'NOT' ends before '_'; write \${NAME}$nl"
 mentions=$(no_value mentions.env 1 CHECKED)$nl
@@ -86,11 +95,14 @@ check_statuses() {
     check 'an empty one has a value' 0 '' ''
     CHECKED=$'\377' call mentions.env
     check 'one that is no text has none' 0 "$mentions" ''
-    printf 'A=1\nB="$A"\n' >next.env
+    cat >next.env <<'END'
+A=1
+B="$A"
+END
     call --next next.env
     check 'the second dialect' 0 '' ''
     call next.env
-    check 'the first dialect' 1 "$(fault next.env 2 '"$A"' 3)$nl" ''
+    check 'the first dialect' 1 "$(fault next.env 2 "\"\$A\"" 3)$nl" ''
 }
 
 check_words() {

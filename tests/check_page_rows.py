@@ -1,15 +1,13 @@
-#!/usr/bin/env python3
+#!/usr/bin/env -S python3 -B
 """Prints the examples of docs/CHECK.md as rows (docs/ROWS.md), which are crates/replay/data/check_page.rows.
 
-The first example is the block labelled `env`, and the block labelled `report` is what is reported of it. Rows, names and
-phrases of the tables are those of tests/grammar_rows.py. Each line of a table of warnings is a row of the file, and one of
-what to write instead, whose name ends with `-instead`, and of which nothing is reported.
+The first example is the block labelled `env`, and the block labelled `report` is what is reported of it. Rows, names
+and phrases of the tables are those of tests/grammar_rows.py. Each line of a table of warnings is a row of the file, and
+one of what to write instead, whose name ends with `-instead`, and of which nothing is reported.
 """
 
 import re
 import sys
-
-sys.dont_write_bytecode = True  # So that the import leaves nothing in the repository.
 
 from grammar_rows import CODE, DOCS, FILE, listed, phrase, phrases, print_rows, refuse, written
 

@@ -29,9 +29,10 @@ check() {
     fi
 }
 
-# Prints where these rows differ from those that their page gives now.
+# Prints where these rows differ from those that their page gives now. With -B, a script that imports another one leaves
+# nothing in the repository.
 has_examples() {
-    python3 "tests/$1_rows.py" | diff - "crates/replay/data/$1.rows"
+    python3 -B "tests/$1_rows.py" | diff - "crates/replay/data/$1.rows"
 }
 
 # Writes each block of a document that has this label, such as rust, to a file of its own, whose name is the number of the
@@ -44,6 +45,11 @@ cut_blocks() {
         /^```/ { inside = 1; file = $0 == "```" label ? blocks "/" (FNR + 1) : ""; next }
         file != "" { print >file }
     ' "$1"
+}
+
+# Prints the line of each block that was cut, in order.
+block_lines() {
+    find "$room/blocks" -type f -printf '%f\n' | sort -n
 }
 
 # Whether the lines of a block stand in a source file, in order. Other lines may stand between them, such as a contract that
@@ -104,7 +110,7 @@ plays_each_file() {
 check_blocks() {
     local line
     cut_blocks "$1" rust
-    for line in $(ls "$room/blocks" | sort -n); do
+    for line in $(block_lines); do
         check "$1, the block at line $line stands in an example" stands_in_examples "$room/blocks/$line"
     done
 }
@@ -123,8 +129,8 @@ stands_squeezed_in() {
 check_contracts() {
     local line
     cut_blocks "$1" contract
-    check "$1 has a contract" test -n "$(ls "$room/blocks")"
-    for line in $(ls "$room/blocks" | sort -n); do
+    check "$1 has a contract" test -n "$(block_lines)"
+    for line in $(block_lines); do
         check "$1, the contract at line $line is that of $2" stands_squeezed_in "$room/blocks/$line" "$2"
     done
 }

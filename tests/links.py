@@ -1,6 +1,6 @@
 #!/usr/bin/env python3
-"""Sees that each link of the pages leads somewhere: to a file that is there, and to a heading of it. A page that is named
-in running text has to be a link. Prints each place that is wrong, and ends with status 1 if there is one.
+"""Sees that each link of the pages leads somewhere: to a file that is there, and to a heading of it. A page that is
+named in running text has to be a link. Prints each place that is wrong, and ends with status 1 if there is one.
 """
 
 import pathlib

@@ -1,14 +1,10 @@
-#!/usr/bin/env python3
-"""Prints the examples of docs/OTHER_LIBRARIES.md as rows (docs/ROWS.md), which are crates/replay/data/other_libraries.rows.
+#!/usr/bin/env -S python3 -B
+"""Prints the examples of docs/OTHER_LIBRARIES.md as rows (docs/ROWS.md): crates/replay/data/other_libraries.rows.
 
-Rows, names and phrases are those of tests/grammar_rows.py and tests/check_page_rows.py. Where a table says what to write instead, each of its lines is
-two rows: one for the line, and one for what to write instead, whose name ends with `-instead`. What the page says of other
-libraries isn't read.
+Rows, names and phrases are those of tests/grammar_rows.py and tests/check_page_rows.py. Where a table says what to
+write instead, each of its lines is two rows: one for the line, and one for what to write instead, whose name ends with
+`-instead`. What the page says of other libraries isn't read.
 """
-
-import sys
-
-sys.dont_write_bytecode = True  # So that the import leaves nothing in the repository.
 
 from check_page_rows import check_row
 from grammar_rows import CODE, EXAMPLES, FILE, file_rows, in_order, listed, phrase, phrases, print_rows

@@ -18,13 +18,21 @@ failed=0
 # The file of a case is its standard input, its words are the lines of the file .args, and {} there is the file's name.
 make_cases() {
     for kind in list start; do
-        printf '%s\n' 'B=2' '# of both' 'A="${B}1"' >"$room/cases/$kind-$1"
-        for word in $(seq "$1"); do
-            echo --next
-        done >"$room/cases/$kind-$1.args"
+        cat >"$room/cases/$kind-$1" <<'END'
+B=2
+# of both
+A="${B}1"
+END
+        seq "$1" | sed 's/.*/--next/' >"$room/cases/$kind-$1.args"
     done
     echo --list >>"$room/cases/list-$1.args"
-    printf '%s\n' -f '{}' sh -c 'echo "$A $B"' >>"$room/cases/start-$1.args"
+    cat >>"$room/cases/start-$1.args" <<'END'
+-f
+{}
+sh
+-c
+echo "$A $B"
+END
 }
 
 # Runs the cases of this many words up to that many, each with the request of this number refused.

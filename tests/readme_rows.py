@@ -1,14 +1,11 @@
-#!/usr/bin/env python3
+#!/usr/bin/env -S python3 -B
 """Prints the environment file of README.md as a row (docs/ROWS.md), which is crates/replay/data/readme.rows.
 
-The file is the block labelled `env`. What it gives is the column "Gives" of the table below it, from top to bottom, in the
-phrases of tests/grammar_rows.py.
+The file is the block labelled `env`. What it gives is the column "Gives" of the table below it, from top to bottom, in
+the phrases of tests/grammar_rows.py.
 """
 
 import re
-import sys
-
-sys.dont_write_bytecode = True  # So that the import leaves nothing in the repository.
 
 from grammar_rows import DOCS, ITEM, cells, listed, phrase, refuse, written
 

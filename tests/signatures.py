@@ -1,9 +1,9 @@
 #!/usr/bin/env python3
-"""Compares the calls of docs/LIBRARY.md with the code: each public call of `dotenvy` and `env_layers` is on the page, with
-its signature, and no other one is. Prints what differs, and ends with status 1 if anything does.
+"""Compares the calls of docs/LIBRARY.md with the code: each public call of `dotenvy` and `env_layers` is on the page,
+with its signature, and no other one is. Prints what differs, and ends with status 1 if anything does.
 
-The page has them in blocks that are labelled `rust signatures`, a line each: `Environment::len(&self) -> usize`. Generic
-parameters, contracts and `where` clauses are left out.
+The page has them in blocks that are labelled `rust signatures`, a line each: `Environment::len(&self) -> usize`.
+Generic parameters, contracts and `where` clauses are left out.
 """
 
 import pathlib

@@ -1,9 +1,9 @@
 #!/usr/bin/env python3
 """Sees that each line of docs/CONTRACTS.md, "Only tested", names rows or tests that exist.
 
-A line has them in square brackets: `FILE: NAME` for rows of crates/replay/data/FILE.rows, where `*` stands for any text,
-and `worked: MODULE::TEST` for a test of the crate worked. What the stored run of the program tests is one script, so the
-lines from there on name nothing. Prints what is wrong, and ends with status 1 if anything is.
+A line has them in square brackets: `FILE: NAME` for rows of crates/replay/data/FILE.rows, where `*` stands for any
+text, and `worked: MODULE::TEST` for a test of the crate worked. What the stored run of the program tests is one script,
+so the lines from there on name nothing. Prints what is wrong, and ends with status 1 if anything is.
 """
 
 import fnmatch

@@ -1,5 +1,5 @@
 #!/usr/bin/env python3
-"""Checks that `dotenvy` re-exports the words of its contracts, so that a crate that cites them depends on no other crate.
+"""Checks that `dotenvy` re-exports the words of its contracts, so that a crate that cites them depends on no other one.
 
 A word is defined in a file of specs/, or is a variant of an enum. The script collects the words that a public contract
 cites, and then those that the files of these words cite. Each such file and each such enum needs a line in
@@ -45,11 +45,12 @@ def members(block):
 def clauses(block):
     """The texts of the `requires` and `ensures` of a function."""
     for found in re.finditer(r"\b(?:requires|ensures)(?: \w+)? \{", block):
-        end, depth = found.end(), 1
+        start = end = found.end()
+        depth = 1
         while depth:
             depth += {"{": 1, "}": -1}.get(block[end], 0)
             end += 1
-        yield block[found.end() : end]
+        yield block[start:end]
 
 
 def without_generics(head):
@@ -155,7 +156,8 @@ def main():
         path = re.sub(r"\.TheVariants$", "", module)
         if path.endswith(".Laws"):
             file = CRATES / path.split(".")[1] / "specs" / "Laws.antt"
-            laws |= {(path, name) for name in re.findall(r"^(?:abbrev )?pub (?:record )?(\w+)", text_of(file), flags=re.M)}
+            names = re.findall(r"^(?:abbrev )?pub (?:record )?(\w+)", text_of(file), flags=re.M)
+            laws |= {(path, name) for name in names}
         else:
             checks.append((path in lines and is_word(module), path + " has its line in Lib.antt"))
     checks += [((module, name) in named, f"{module}.{name} has its name in Laws.antt") for module, name in sorted(laws)]

@@ -3,7 +3,7 @@
 # other compiler. Where there is a `cc`, the same test is built by that one, too, with the system's headers.
 # The last line is `N passed, M failed`. It needs bindings/out/libdotenvy.a, which bindings/build.sh builds.
 set -uo pipefail
-cd "$(dirname "$0")"
+cd "$(dirname "$0")" || exit
 kit=$(dirname "$(rt doc)")
 archive=../../crates/dotenvy_c/out/libdotenvy_c.a
 folder=$(mktemp -d)
@@ -36,12 +36,12 @@ check() {
 
 built() {
     "$kit/toolchain/bin/clang" -std=c11 -O1 -Wall -Wextra -Werror -nostdinc -I . -I freestanding -c test.c \
-        -o "$folder/test.o" &&
-        "$kit/bin/rattle-link" --target x86_64-unknown-linux-gnu --toolchain "$kit/toolchain" -o "$folder/test" \
-            "$folder/test.o" "$archive" 2>"$folder/linked" || {
+        -o "$folder/test.o" || return
+    if ! "$kit/bin/rattle-link" --target x86_64-unknown-linux-gnu --toolchain "$kit/toolchain" -o "$folder/test" \
+        "$folder/test.o" "$archive" 2>"$folder/linked"; then
         cat "$folder/linked" >&2
         return 1
-    }
+    fi
 }
 
 check "the test builds with the toolchain alone" built

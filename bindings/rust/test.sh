@@ -2,7 +2,7 @@
 # Tests the Rust crate. The last line is `N passed, M failed`. It needs bindings/build.sh to have been run, and takes
 # nothing from a registry.
 set -uo pipefail
-cd "$(dirname "$0")"
+cd "$(dirname "$0")" || exit
 if ! cargo --version >/dev/null 2>&1 || ! cc --version >/dev/null 2>&1; then
     echo "left out: the tests of the Rust crate, which need cargo and a C compiler that links" >&2
     echo "0 passed, 0 failed"

@@ -137,8 +137,8 @@ def load(file: bytes, block: bytes, options: int = 0) -> Loaded:
             break
         size = answer.block_len + answer.text_len
     written = ctypes.string_at(out, answer.block_len + answer.text_len)
-    left = pairs_of(written[: answer.block_len])
-    return Loaded(answer.status, left, written[answer.block_len :], answer.index)
+    left = pairs_of(written[:answer.block_len])
+    return Loaded(answer.status, left, written[answer.block_len:], answer.index)
 
 
 def items(file: bytes, block: bytes, options: int = 0) -> list[Record]:
@@ -155,12 +155,9 @@ def items(file: bytes, block: bytes, options: int = 0) -> list[Record]:
         count, size = counts.items, counts.text_len
     written = ctypes.string_at(out, counts.text_len)
     fields = _ITEM.iter_unpack(ctypes.string_at(found, counts.items * _ITEM.size))
-    return [
-        Record(
-            status,
-            written[key_at : key_at + key_len],
-            written[key_at + key_len : key_at + key_len + text_len],
-            *others,
-        )
-        for status, key_at, key_len, text_len, *others in fields
-    ]
+    records = []
+    for status, key_at, key_len, text_len, *others in fields:
+        text_at = key_at + key_len
+        text_end = text_at + text_len
+        records.append(Record(status, written[key_at:text_at], written[text_at:text_end], *others))
+    return records

@@ -44,7 +44,8 @@ def defined_names(elf):
             name, _, _, defined_in, _, _ = SYMBOL.unpack_from(elf, place)
             if defined_in:
                 start = texts + name
-                names.add(elf[start : elf.index(b"\0", start)].decode())
+                end = elf.index(b"\0", start)
+                names.add(elf[start:end].decode())
     return names
 
 
