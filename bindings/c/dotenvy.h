@@ -1,6 +1,6 @@
 /* Environment files (.env) for C, read by a proved library.
  *
- * Link libdotenvy.a or libdotenvy.so (bindings/README.md says how they are built).
+ * Link libdotenvy.a, or libdotenvy.so.1 by -ldotenvy: `pkg-config --cflags --libs dotenvy` says how.
  *
  * Each call is a function of its bytes: nothing is kept between two calls, nothing has to be freed, and no call
  * touches the process or its files. docs/GRAMMAR.md says what a file means.
@@ -8,6 +8,8 @@
  * What you have to guarantee, since nothing checks C:
  *   - No pointer is NULL, not even with a length of 0. A pointer has that many bytes, or items, behind it.
  *   - `out` and `items` overlap nothing else that the call is given. `file` and `block` are only read, and may overlap.
+ *   - The processor is of x86-64-v2: it has SSE3, SSSE3, SSE4.1, SSE4.2, POPCNT, CMPXCHG16B and LAHF. On a lesser one a
+ *     call can end the process by an illegal instruction (SIGILL).
  *   - malloc, realloc and free come from one allocator. Threads may call at the same time; a signal handler may not
  *     call, nor the forked child of a process with threads.
  *
@@ -17,20 +19,28 @@
  *
  * An example:
  *
+ *     #include <dotenvy.h>
+ *     #include <stdio.h>
+ *     #include <string.h>
+ *
  *     static const char file[] = "HOST=localhost\nURL=\"http://${HOST}:$PORT/\"\n";
- *     static const char block[] = "PORT=9";                 // its last NUL is in sizeof
- *     uint8_t out[256];
- *     struct dotenvy_answer a = dotenvy_load((const uint8_t *)file, sizeof file - 1,
- *                                            (const uint8_t *)block, sizeof block, 0, out, sizeof out);
- *     if (!a.fits) {
- *         // a.status is DOTENVY_NO_MEMORY or DOTENVY_BAD_OPTION,
- *         // or call again with a.block_len + a.text_len bytes for `out`
- *         return 1;
+ *     static const char block[] = "PORT=9"; // its last NUL is in sizeof
+ *
+ *     int main(void) {
+ *         uint8_t out[256];
+ *         struct dotenvy_answer a = dotenvy_load((const uint8_t *)file, sizeof file - 1,
+ *                                                (const uint8_t *)block, sizeof block, 0, out, sizeof out);
+ *         if (!a.fits) {
+ *             // a.status is DOTENVY_NO_MEMORY or DOTENVY_BAD_OPTION,
+ *             // or call again with a.block_len + a.text_len bytes for `out`
+ *             return 1;
+ *         }
+ *         for (size_t at = 0; at < a.block_len; at += strlen((char *)out + at) + 1)
+ *             puts((char *)out + at);     // HOST=localhost, PORT=9, URL=http://localhost:9/
+ *         if (a.status != DOTENVY_OK)     // what is before the error was loaded
+ *             fprintf(stderr, "error %u: %.*s\n", (unsigned)a.status, (int)a.text_len, (char *)out + a.block_len);
+ *         return 0;
  *     }
- *     for (size_t at = 0; at < a.block_len; at += strlen((char *)out + at) + 1)
- *         puts((char *)out + at);                            // HOST=localhost, PORT=9, URL=http://localhost:9/
- *     if (a.status != DOTENVY_OK)                            // what is before the error was loaded
- *         fprintf(stderr, "error %u: %.*s\n", (unsigned)a.status, (int)a.text_len, (char *)out + a.block_len);
  */
 #ifndef DOTENVY_H
 #define DOTENVY_H

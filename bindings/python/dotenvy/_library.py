@@ -1,8 +1,9 @@
-"""The calls of libdotenvy.so, by ctypes: bytes in, bytes out. bindings/c/dotenvy.h says what each does."""
+"""The calls of libdotenvy.so.1, by ctypes: bytes in, bytes out. bindings/c/dotenvy.h says what each does."""
 
 from __future__ import annotations
 
 import ctypes
+import re
 import struct
 from collections.abc import Iterable
 from pathlib import Path
@@ -49,10 +50,32 @@ class Counts(ctypes.Structure):
     ]
 
 
+# What the code of the library needs of a processor (x86-64-v2), as Linux calls it. On a lesser one a call would end the
+# process by an illegal instruction.
+NEEDED = frozenset({"cx16", "lahf_lm", "popcnt", "pni", "ssse3", "sse4_1", "sse4_2"})
+
+
+def missing_features(cpuinfo: str) -> list[str]:
+    """What the library needs and this text of /proc/cpuinfo lacks. Where it tells no features, nothing is missing."""
+    found = re.search(r"^flags\s*:(.*)$", cpuinfo, re.MULTILINE)
+    return sorted(NEEDED - set(found[1].split())) if found else []
+
+
+def _check_processor() -> None:
+    try:
+        cpuinfo = Path("/proc/cpuinfo").read_text(encoding="utf-8", errors="replace")
+    except OSError:
+        return
+    missing = missing_features(cpuinfo)
+    if missing:
+        raise ImportError(f"dotenvy needs a processor of x86-64-v2, and this one lacks {', '.join(missing)}")
+
+
 def _open() -> ctypes.CDLL:
-    path = Path(__file__).with_name("libdotenvy.so")
+    path = Path(__file__).with_name("libdotenvy.so.1")
     if not path.exists():
         raise ImportError(f"{path} is missing: bindings/build.sh builds it")
+    _check_processor()
     library = ctypes.CDLL(str(path))
     bytes_in = [ctypes.c_char_p, ctypes.c_size_t]
     buffer = [ctypes.c_char_p, ctypes.c_size_t]

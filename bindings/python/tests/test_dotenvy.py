@@ -229,9 +229,22 @@ class Library(unittest.TestCase):
         self.assertEqual(_library.version(), 1_000_000)
 
     def test_the_shared_object_exports_the_calls_alone(self):
-        names = defined_names(Path(_library.__file__).with_name("libdotenvy.so").read_bytes())
+        names = defined_names(Path(_library.__file__).with_name("libdotenvy.so.1").read_bytes())
         calls = {"dotenvy_is_key", "dotenvy_items", "dotenvy_load", "dotenvy_version"}
         self.assertEqual(names, calls)
+
+    def test_lesser_processors(self):
+        features = "fpu cx16 lahf_lm popcnt pni ssse3 sse4_1 sse4_2 avx"
+        self.assertEqual([], _library.missing_features(f"processor\t: 0\nflags\t\t: {features}\n"))
+        for feature in _library.NEEDED:
+            lesser = features.replace(feature, "other")
+            self.assertEqual([feature], _library.missing_features(f"flags\t\t: {lesser}\n"))
+        self.assertEqual([], _library.missing_features("processor\t: 0\n"))
+
+    def test_import_on_a_lesser_processor(self):
+        with mock.patch.object(_library, "missing_features", return_value=["sse4_1", "ssse3"]):
+            with self.assertRaisesRegex(ImportError, "x86-64-v2, and this one lacks sse4_1, ssse3"):
+                _library._check_processor()
 
     def test_layout(self):
         structs = {"answer": _library.Answer, "item": _library.Item, "counts": _library.Counts}

@@ -54,7 +54,9 @@ impl<R: Read> Iter<R> {
         }
     }
 
+    // All that the reader gives, for a call of the library.
     fn read(&mut self) -> io::Result<Vec<u8>> {
+        library::check_processor(library::runs_here())?;
         let mut file = Vec::new();
         self.reader.read_to_end(&mut file)?;
         Ok(file)

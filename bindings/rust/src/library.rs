@@ -1,5 +1,7 @@
 //! The calls of libdotenvy.a, made safe: bytes in, bytes out. bindings/c/dotenvy.h says what each does.
 
+use std::arch::is_x86_feature_detected;
+use std::io;
 use std::ops::Range;
 
 pub const OK: u32 = 0;
@@ -94,6 +96,28 @@ pub struct Record {
     pub key: Vec<u8>,
     pub text: Vec<u8>,
     pub index: usize,
+}
+
+/// Whether the processor has what the code of the library needs (x86-64-v2). On a lesser one a call would end the process
+/// by an illegal instruction.
+pub fn runs_here() -> bool {
+    is_x86_feature_detected!("sse3")
+        && is_x86_feature_detected!("ssse3")
+        && is_x86_feature_detected!("sse4.1")
+        && is_x86_feature_detected!("sse4.2")
+        && is_x86_feature_detected!("popcnt")
+        && is_x86_feature_detected!("cmpxchg16b")
+}
+
+/// The error of a processor on which the library doesn't run.
+pub fn check_processor(runs: bool) -> io::Result<()> {
+    if runs {
+        return Ok(());
+    }
+    Err(io::Error::new(
+        io::ErrorKind::Unsupported,
+        "dotenvy needs a processor of x86-64-v2, with SSE4.2 and POPCNT",
+    ))
 }
 
 /// Loads a file over the environment of a block.
@@ -200,7 +224,16 @@ mod tests {
             layout!("item", Item: status, key_at, key_len, text_len, index, first_line, last_line),
             layout!("counts", Counts: status, fits, items, text_len),
         ];
-        assert_eq!(lines.join("\n") + "\n", include_str!("../../layout.txt"));
+        assert_eq!(lines.join("\n") + "\n", include_str!("../layout.txt"));
+    }
+
+    #[test]
+    fn a_lesser_processor_is_an_error() {
+        assert!(check_processor(true).is_ok());
+        let error = check_processor(false).unwrap_err();
+        assert_eq!(error.kind(), io::ErrorKind::Unsupported);
+        assert!(error.to_string().contains("x86-64-v2"));
+        assert!(runs_here(), "the tests run here");
     }
 
     #[test]
