@@ -1,6 +1,7 @@
 #!/usr/bin/env bash
-# Proves, builds and installs the programs dotenvy_run and dotenvy_check, each with its manual page. `./install.sh --help`
-# says how to call it.
+# Installs the programs dotenvy_run and dotenvy_check with their manual pages and completions, and the library for C. In an
+# unpacked release archive it copies what is there. In a clone of the repository it proves and builds it first.
+# `./install.sh --help` says how to call it.
 #
 # Whatever can be found wrong at once is found before the proof, which takes minutes. The files are copied beside their
 # places and then renamed, so an old program is replaced whole or not at all, even while it runs. After an error or a
@@ -9,27 +10,43 @@ set -euo pipefail
 cd "$(dirname "$0")"
 names=(dotenvy_run dotenvy_check)
 log=$PWD/crates/${names[0]}/out/install.log
-# The files to install, their places and modes, the new copies beside the places, and where old files are kept meanwhile.
-files=()
+# What is installed, below PREFIX. The programs come last, so that none is there without its manual page.
+parts=(
+    share/doc/dotenvy/{BUILT,LICENSE,NOTICES}
+    include/dotenvy.h
+    lib/libdotenvy.{a,so.1,so}
+    lib/pkgconfig/dotenvy.pc
+)
+for name in "${names[@]}"; do
+    parts+=(
+        "share/bash-completion/completions/$name"
+        "share/fish/vendor_completions.d/$name.fish"
+        "share/zsh/site-functions/_$name"
+        "share/man/man1/$name.1"
+    )
+done
+parts+=("${names[@]/#/bin/}")
+# The folder that has these parts, their places, the new copies beside the places, and where old files are kept meanwhile.
+tree=$PWD
 places=()
-modes=()
 copies=()
 old_files=()
-# What this run may have to remove again: files, and directories, the deepest first.
+# What this run may have to remove again: files, directories, the deepest first, and its folder with the parts.
 temporary=()
 made=()
+room=
 
 usage() {
     cat <<END
 usage: ./install.sh [PREFIX]
 
-Proves and builds the programs ${names[0]} and ${names[1]}, and installs four files:
-  PREFIX/bin/${names[0]}
-  PREFIX/bin/${names[1]}
-  PREFIX/share/man/man1/${names[0]}.1
-  PREFIX/share/man/man1/${names[1]}.1
-PREFIX is an absolute path; without it, /usr/local. With the variable DESTDIR set to an absolute path, the files go
-below that: to \$DESTDIR/usr/local/bin/${names[0]}, and so on.
+Installs below PREFIX, an absolute path, or below /usr/local without it:
+  bin/            the programs ${names[0]} and ${names[1]}
+  share/man/man1/ their manual pages
+  include/, lib/  the library for C: dotenvy.h, libdotenvy.a, libdotenvy.so.1 and dotenvy.pc
+  share/          completions for bash, fish and zsh; the licence, and notices
+With the variable DESTDIR set to an absolute path, the files go below that: to \$DESTDIR/usr/local/bin/${names[0]}, and
+so on. In a clone of the repository all of it is proved and built first, which takes minutes and needs the command rt.
 END
 }
 
@@ -45,7 +62,7 @@ try() {
     said=$("$@" 2>&1) || fail "${said:-$1 failed}; nothing was installed"
 }
 
-# Ends rt if it still runs, and removes what this run made and did not put in place.
+# Ends what still runs, and removes what this run made and did not put in place.
 clean_up() {
     local process folder
     trap '' HUP INT QUIT PIPE TERM
@@ -58,6 +75,7 @@ clean_up() {
         # A directory that holds an installed file stays.
         rmdir -- "$folder" 2>/dev/null || :
     done
+    [ -z "$room" ] || rm -rf -- "$room"
 }
 
 # Prints the path $2 without slashes at its end. It has to be absolute, and the error calls it $1.
@@ -68,24 +86,6 @@ absolute() {
         path=${path%/}
     done
     printf '%s\n' "$path"
-}
-
-# Prints these crates and those of crates.txt that they need, each once, after those that it needs itself.
-crates_for() {
-    awk -v crates="$*" '
-        function visit(name,  below, count, i) {
-            if (!(name in needs) || visited[name]++) return
-            count = split(needs[name], below, " ")
-            for (i = 1; i <= count; i++) visit(below[i])
-            print name
-        }
-        { sub(/#.*/, ""); gsub(/,/, " "); split($0, half, ":") }
-        split(half[1], words, " ") { needs[words[1]] = half[2] }
-        END {
-            count = split(crates, names, " ")
-            for (i = 1; i <= count; i++) visit(names[i])
-        }
-    ' crates.txt
 }
 
 # Checks that this file can be put into its directory, which may have to be made first.
@@ -106,39 +106,39 @@ check_target() {
     fi
 }
 
-# Runs rt in the directory of a crate. What rt prints goes to the log.
-run_rt() {
-    local crate=$1
-    shift
-    echo "== crates/$crate: rt $*" >>"$log"
-    (cd "crates/$crate" && exec rt "$@") </dev/null >>"$log" 2>&1 &
-    # A signal ends `wait` at once. With rt in the foreground, the shell would notice the signal only after rt.
-    wait "$!"
+# Whether this is a clone of the repository, and no unpacked archive.
+is_clone() {
+    [ -f crates.txt ]
 }
 
-# Proves a crate. A program is also built and run once: with nothing to list, or an empty file to check, it prints nothing.
-prove() {
-    case $1 in
-        dotenvy_run) run_rt "$1" run -- --list ;;
-        dotenvy_check) run_rt "$1" run -- /dev/null ;;
-        *) run_rt "$1" lib ;;
-    esac
+check_sources() {
+    local part
+    if is_clone; then
+        for name in "${names[@]}"; do
+            [ -f "docs/$name.1" ] || fail "there is no $PWD/docs/$name.1"
+        done
+        command -v rt >/dev/null ||
+            fail "there is no command rt on PATH; the Rattle toolchain, which has it, must be installed"
+        return
+    fi
+    for part in "${parts[@]}"; do
+        [ -f "$part" ] || fail "there is no $PWD/$part: the archive is not complete"
+    done
 }
 
-# Proves and builds the programs, crate by crate, with one line for each. A crate that is proved already takes a moment.
+# Proves and builds the parts, and lays them out in a folder of this run.
 build() {
-    local name crates crate number=0 status=0
-    mapfile -t crates < <(crates_for "${names[@]}")
-    for name in "${names[@]}"; do
-        [[ " ${crates[*]} " == *" $name "* ]] || fail "crates.txt has no line for $name"
-    done
-    for crate in "${crates[@]}"; do
-        number=$((number + 1))
-        echo "$crate, $number of ${#crates[@]}"
-        prove "$crate" || status=$?
-        [ "$status" -eq 0 ] ||
-            fail "rt failed at $crate, $number of ${#crates[@]}, with status $status; nothing was installed; see $log"
-    done
+    local said=$log.failed
+    echo "Proving and building ${names[0]}, ${names[1]} and the library for C: minutes for what is not proved yet, a"
+    echo "moment for what is. The prover's output is in $log"
+    try mkdir -p "${log%/*}"
+    temporary+=("$said")
+    release/build.sh "$log" </dev/null 2>"$said" &
+    # A signal ends `wait` at once. In the foreground, the shell would notice the signal only after the proof.
+    wait "$!" || fail "$(tail -n 1 "$said"); nothing was installed"
+    room=$(mktemp -d)
+    tree=$room
+    try release/layout.sh "$tree"
 }
 
 # Makes a directory and those above it that are missing, for everyone to read whatever the umask is.
@@ -149,24 +149,18 @@ make_folder() {
     try mkdir -m 755 -- "$1"
 }
 
-# Adds a file to those that are installed, with its place and mode.
-add() {
-    local beside=${2%/*}/.${2##*/}.$$
-    files+=("$1")
-    places+=("$2")
-    modes+=("$3")
-    copies+=("$beside.new")
-    old_files+=("$beside.old")
-}
-
-# Copies each file beside its place.
+# Copies each part beside its place.
 copy_all() {
     local i
     for i in "${!places[@]}"; do
         make_folder "${places[i]%/*}"
         temporary+=("${copies[i]}")
-        try cp --remove-destination -- "${files[i]}" "${copies[i]}"
-        try chmod "${modes[i]}" -- "${copies[i]}"
+        try cp -P --remove-destination -- "$tree/${parts[i]}" "${copies[i]}"
+        case ${parts[i]} in
+            bin/*) try chmod 755 -- "${copies[i]}" ;;
+            *.so) ;; # a link
+            *) try chmod 644 -- "${copies[i]}" ;;
+        esac
     done
 }
 
@@ -216,30 +210,23 @@ if [ -n "${DESTDIR-}" ]; then
     root=$(absolute DESTDIR "$DESTDIR")
 fi
 prefix=$(absolute PREFIX "${1-/usr/local}")
-# The manual pages come first, so that no program is there without its page.
-for name in "${names[@]}"; do
-    add "docs/$name.1" "$root$prefix/share/man/man1/$name.1" 644
-done
-for name in "${names[@]}"; do
-    add "crates/$name/out/$name" "$root$prefix/bin/$name" 755
+for part in "${parts[@]}"; do
+    place=$root$prefix/$part
+    places+=("$place")
+    copies+=("${place%/*}/.${place##*/}.$$.new")
+    old_files+=("${place%/*}/.${place##*/}.$$.old")
 done
 
 trap clean_up EXIT
 trap 'fail "stopped by a signal; nothing was installed"' HUP INT QUIT PIPE TERM
 
-for name in "${names[@]}"; do
-    [ -f "docs/$name.1" ] || fail "there is no $PWD/docs/$name.1"
-done
-command -v rt >/dev/null || fail "there is no command rt on PATH; the Rattle toolchain, which has it, must be installed"
+check_sources
 for place in "${places[@]}"; do
     check_target "$place"
 done
-try mkdir -p "${log%/*}"
-(: >"$log") 2>/dev/null || fail "cannot write $log"
-
-echo "Proving and building ${names[0]} and ${names[1]}: minutes for what is not proved yet, a moment for what is."
-echo "The prover's output is in $log"
-build
+if is_clone; then
+    build
+fi
 copy_all
 put_in_place
 printf 'Installed %s\n' "${places[@]}"

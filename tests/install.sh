@@ -1,6 +1,7 @@
 #!/usr/bin/env bash
-# Tries install.sh in a copy of the files that it needs, with a stand-in for rt, so that nothing is proved. It checks what
-# is installed and shown, and that bad arguments, failures and signals leave the target as it was.
+# Tries install.sh in a copy of the files that it needs, with stand-ins for rt and bindings/build.sh, so that nothing is
+# proved. It checks what is installed and shown, and that bad arguments, failures and signals leave the target as it was;
+# then the same script as an archive has it, where nothing is built.
 # It takes a few seconds. The last line is `N passed, M failed`.
 set -euo pipefail
 cd "$(dirname "$0")/.."
@@ -9,6 +10,7 @@ temporary=$(mktemp -d)
 trap 'jobs -pr | xargs -r kill; rm -rf "$temporary"' EXIT
 copy=$temporary/copy
 target=$temporary/target
+script=$copy/install.sh
 log=$copy/crates/dotenvy_run/out/install.log
 names=(dotenvy_run dotenvy_check)
 passed=0
@@ -32,10 +34,28 @@ check() {
 # Copies what install.sh needs. The crates are empty, as the stand-in for rt reads none.
 make_copy() {
     local name
-    mkdir -p "$copy/docs" "$copy/crates" "$copy/tests"
-    cp install.sh crates.txt "$copy"
+    mkdir -p "$copy/docs" "$copy/crates" "$copy/tests" "$copy/bindings/python"
+    cp -r install.sh crates.txt LICENSE release "$copy"
+    cp -r bindings/c "$copy/bindings"
+    cp bindings/python/pyproject.toml "$copy/bindings/python"
     cp tests/install.sh "$copy/tests"
-    sed -n 's/:.*//p' crates.txt | (cd "$copy/crates" && xargs mkdir)
+    for name in memchr unicode thiserror; do
+        mkdir -p "$temporary/kit/rattle/$name"
+        echo "the terms of $name" >"$temporary/kit/rattle/$name/LICENSE"
+    done
+    cat >"$copy/bindings/build.sh" <<END
+#!/bin/sh
+cd "$copy/bindings"
+if [ "\$(cat "$temporary/fail_in")" = library ]; then
+    echo 'bindings/build.sh: there is no command objcopy' >&2
+    exit 1
+fi
+mkdir -p out
+echo archive >out/libdotenvy.a
+echo shared >out/libdotenvy.so.1
+END
+    chmod 755 "$copy/bindings/build.sh"
+    sed -n -E 's/( staticlib)?:.*//p' crates.txt | (cd "$copy/crates" && xargs mkdir)
     for name in "${names[@]}"; do
         cp "docs/$name.1" "$copy/docs" 2>/dev/null || echo ".TH $name 1" >"$copy/docs/$name.1"
     done
@@ -72,12 +92,20 @@ stand_in() {
 make_stand_ins() {
     # It fails in the crate that the file fail_in names, and waits in the one that wait_in names.
     stand_in rt rt <<'END'
+case $1 in
+    doc) echo "$TEMPORARY/kit/START-HERE.md" && exit ;;
+    version) echo 'kit of the test' && exit ;;
+esac
 crate=$(basename "$PWD")
 echo "$crate $*" >>"$TEMPORARY/calls"
 echo "rt: chose --jobs 4 for $crate"
 if [ "$crate" = "$(cat "$TEMPORARY/wait_in")" ]; then
     echo $$ >"$TEMPORARY/waiting"
     exec sleep 30
+fi
+if [ "$crate" = "$(cat "$TEMPORARY/slow_in")" ]; then
+    echo 'so far: 3 of 8 functions checked'
+    sleep 0.5
 fi
 if [ "$crate" = "$(cat "$TEMPORARY/fail_in")" ]; then
     echo 'logic=not-proved'
@@ -90,8 +118,11 @@ if [ "$1" = run ]; then
 fi
 echo 'logic=proved functions=8'
 END
+    stand_in hurried sleep <<'END'
+exec sleep 0.2
+END
     stand_in full cp <<'END'
-case $* in *docs/dotenvy_run.1*)
+case $* in *man1/dotenvy_run.1*)
     for file in "$@"; do :; done
     echo half >"$file"
     echo "cp: error writing '$file': No space left on device" >&2
@@ -118,7 +149,7 @@ exec mv "$@"
 END
     stand_in slow_copy cp <<'END'
 cp "$@"
-case $* in *docs/dotenvy_run.1*)
+case $* in *man1/dotenvy_run.1*)
     echo $$ >"$TEMPORARY/waiting"
     sleep 0.3
     ;;
@@ -188,7 +219,7 @@ state() {
 # Calls install.sh with these arguments, and ends with its status. What it prints goes to files.
 call() {
     : >"$temporary/calls"
-    timeout 60 "$copy/install.sh" "$@" >"$temporary/output" 2>"$temporary/errors"
+    timeout 60 "$script" "$@" >"$temporary/output" 2>"$temporary/errors"
 }
 
 # Whether the last call printed one line on standard error, with these words.
@@ -236,48 +267,66 @@ installed() {
     done
 }
 
-# Whether a directory holds the four files and the directories of their paths, with these modes, and nothing else.
+# Each file that is installed, and the link.
+all_files() {
+    printf '%s\n' bin/{dotenvy_check,dotenvy_run} include/dotenvy.h lib/libdotenvy.{a,so,so.1} lib/pkgconfig/dotenvy.pc \
+        share/bash-completion/completions/{dotenvy_check,dotenvy_run} share/doc/dotenvy/{BUILT,LICENSE,NOTICES} \
+        share/fish/vendor_completions.d/{dotenvy_check,dotenvy_run}.fish share/man/man1/{dotenvy_check,dotenvy_run}.1 \
+        share/zsh/site-functions/_{dotenvy_check,dotenvy_run}
+}
+
+# Whether a directory holds these files and the directories of their paths, with the right modes, and nothing else.
 holds_them_alone() {
-    diff <(modes "$1") <(sort <<'END'
-755 bin/
-755 bin/dotenvy_check
-755 bin/dotenvy_run
-755 share/
-755 share/man/
-755 share/man/man1/
-644 share/man/man1/dotenvy_check.1
-644 share/man/man1/dotenvy_run.1
-END
+    diff <(modes "$1") <(
+        {
+            all_files | sed 's|^bin/|755 &|; t; s|^lib/libdotenvy.so$|777 &|; t; s|^|644 |'
+            all_files | sed 's|[^/]*$||' | awk -F / '{ path = ""; for (i = 1; i < NF; i++) print "755 " (path = path $i "/") }'
+        } | sort -u
     )
 }
 
 holds_other_too() {
-    diff <(cd "$target" && find . -type f | sort) \
-        <(printf './%s\n' bin/{dotenvy_check,dotenvy_run,other} share/man/man1/{dotenvy_check,dotenvy_run}.1)
+    diff <(cd "$target" && find . ! -type d -printf '%P\n' | sort) <({ all_files && echo bin/other; } | sort)
 }
 
 says_where() {
-    diff <(grep '^Installed ' "$temporary/output") \
-        <(printf 'Installed %s\n' "$1"/share/man/man1/{dotenvy_run,dotenvy_check}.1 "$1"/bin/{dotenvy_run,dotenvy_check})
+    diff <(sed -n 's/^Installed //p' "$temporary/output" | sort) <(all_files | sed "s|^|$1/|" | sort) &&
+        [ "$(tail -n 1 "$temporary/output")" = "Installed $1/bin/dotenvy_check" ]
+}
+
+# Whether the texts of the licences are there, and what was built from what.
+holds_papers() {
+    local folder=$1/share/doc/dotenvy name
+    for name in memchr unicode thiserror; do
+        grep -qxF "the terms of $name" "$folder/NOTICES" || return 1
+    done
+    cmp -s "$folder/LICENSE" LICENSE && grep -qxF 'kit of the test' "$folder/BUILT" && grep -q '^commit ' "$folder/BUILT" &&
+        grep -qxF "Version: $(release/version.sh)" "$1/lib/pkgconfig/dotenvy.pc"
 }
 
 # The crates that the programs need, and themselves: names are added until the lines of crates.txt add no more.
 needed_crates() {
-    local name needed='dotenvy_run dotenvy_check' before=
-    while [ "$needed" != "$before" ]; do
-        before=$needed
-        needed=$(
-            for name in $needed; do
+    local name found='dotenvy_run dotenvy_check dotenvy_c' before=
+    while [ "$found" != "$before" ]; do
+        before=$found
+        found=$(
+            for name in $found; do
                 echo "$name"
-                sed -n "s/^$name: *//p" "$copy/crates.txt" | tr -s ' ' '\n'
-            done | sort -u | grep -xFf <(sed -n 's/:.*//p' "$copy/crates.txt")
+                sed -n -E "s/^$name( staticlib)?: *//p" "$copy/crates.txt" | tr -s ' ' '\n'
+            done | sort -u | grep -xFf <(sed -n -E 's/( staticlib)?:.*//p' "$copy/crates.txt")
         )
     done
-    echo "$needed"
+    echo "$found"
 }
 
 shown_crates() {
     sed -n -E 's/^(\w+), [0-9]+ of [0-9]+$/\1/p' "$temporary/output"
+}
+
+# Whether the lines that follow that of the crate say how much of it is checked.
+says_how_far() {
+    awk '/^dotenvy_items, / { getline; found = $0 == "  3 of 8 functions checked after 20 seconds" } END { exit !found }' \
+        "$temporary/output"
 }
 
 shows_each_crate() {
@@ -293,7 +342,7 @@ shows_numbers() {
 shows_needs_first() {
     awk '
         NR == FNR { place[$1] = NR; next }
-        { sub(/#.*/, ""); sub(/:/, "") }
+        { sub(/#.*/, ""); sub(/ staticlib/, ""); sub(/:/, "") }
         $1 in place { for (i = 2; i <= NF; i++) if ($i in place && place[$i] > place[$1]) wrong = 1 }
         END { exit wrong }
     ' <(shown_crates) "$copy/crates.txt"
@@ -361,6 +410,7 @@ fi
 link_commands
 make_stand_ins
 : >"$temporary/fail_in"
+: >"$temporary/slow_in"
 : >"$temporary/wait_in"
 
 check_arguments() {
@@ -376,9 +426,10 @@ check_arguments() {
 
 check_new() {
     empty_target
-    check 'an empty directory gets the four files' with rt call "$target/"
+    check 'an empty directory gets all files' with rt call "$target/"
     check 'they are those of the repository' installed "$target"
     check 'it gets nothing else, and the modes are right' holds_them_alone "$target"
+    check 'the licences, the notices and the version are there' holds_papers "$target"
     check 'nothing is printed on standard error' test ! -s "$temporary/errors"
     check 'the last lines say where they are' says_where "$target"
     check 'each crate that a program needs is shown' shows_each_crate
@@ -387,6 +438,11 @@ check_new() {
     check 'rt is called for each crate' calls_rt_for_each
     check 'what rt printed stays in a file, and its path is shown' names_log "$temporary/output"
 
+    empty_target
+    echo dotenvy_items >"$temporary/slow_in"
+    check 'a proof takes long' with hurried call "$target"
+    : >"$temporary/slow_in"
+    check 'meanwhile it is said how far it is' says_how_far
     empty_target
     mkdir "$target/a directory"
     umask 077
@@ -425,8 +481,12 @@ check_old() {
 
     older_target
     check 'an older program may be there alone' with rt call "$target"
-    check 'all four files are there' installed "$target"
+    check 'all files are there' installed "$target"
     check 'other files stay' holds_other_too
+
+    old_target
+    check 'a program that is a link is replaced, and the other file stays' with rt replaces_link
+    check 'all files are there' installed "$target"
 
     old_target
     mv "$target/bin" "$target/programs"
@@ -442,6 +502,8 @@ check_destdir() {
     DESTDIR=$target/b check 'DESTDIR goes before the default PREFIX' with rt call
     check 'that is /usr/local' holds_them_alone "$target/b/usr/local"
     check 'the last lines say where they are' says_where "$target/b/usr/local"
+    DESTDIR=$target/d// check 'DESTDIR may have slashes at its end' with rt call /usr
+    check 'the last lines have one' says_where "$target/d/usr"
     DESTDIR=$target/c check 'PREFIX may be /' with rt call /
     check 'all files are in DESTDIR' holds_them_alone "$target/c"
 }
@@ -493,6 +555,9 @@ check_failures() {
         empty_target
         check "$crate is not proved: an empty directory stays empty" with rt refuses "rt failed at $crate, " "$target"
     done
+    echo library >"$temporary/fail_in"
+    old_target
+    check 'the library for C is not built: older files stay' with rt refuses 'bindings/build.sh failed: ' "$target"
     : >"$temporary/fail_in"
     for make in empty_target older_target old_target; do
         "$make"
@@ -506,7 +571,7 @@ check_failures() {
 
 check_signals() {
     local signal make
-    for signal in INT TERM; do
+    for signal in HUP INT QUIT PIPE TERM; do
         for make in empty_target old_target; do
             "$make"
             echo dotenvy_items >"$temporary/wait_in"
@@ -520,6 +585,35 @@ check_signals() {
     done
 }
 
+# An unpacked archive has the files that are installed, and the script beside them.
+check_archive() {
+    local archive=$temporary/archive
+    empty_target
+    with rt call "$target"
+    cp -a "$target" "$archive"
+    cp install.sh "$archive"
+    script=$archive/install.sh
+    old_target
+    check 'an archive is installed without rt' without_rt call "$target"
+    check 'all its files are there' installed "$target"
+    check 'nothing is built' test ! -s "$temporary/calls"
+    check 'other files stay' holds_other_too
+    empty_target
+    DESTDIR=$target check 'an archive can go below DESTDIR' without_rt call /usr
+    check 'all its files are there, with the right modes' holds_them_alone "$target/usr"
+    rm "$archive/lib/libdotenvy.a"
+    old_target
+    check 'an archive that lacks a file is refused' without_rt refuses_at_once \
+        'lib/libdotenvy.a: the archive is not complete' "$target"
+    script=$copy/install.sh
+}
+
+# A program that is a link is replaced, and what it leads to stays.
+replaces_link() {
+    ln -sf other "$target/bin/dotenvy_check"
+    call "$target" && [ "$(cat "$target/bin/other")" = other ] && [ ! -L "$target/bin/dotenvy_check" ]
+}
+
 check_arguments
 check_new
 check_crates
@@ -528,6 +622,7 @@ check_destdir
 check_early
 check_failures
 check_signals
+check_archive
 
 echo "$passed passed, $failed failed"
 [ "$failed" -eq 0 ]

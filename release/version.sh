@@ -1,0 +1,4 @@
+#!/usr/bin/env bash
+# Prints the version of this repository. bindings/python/pyproject.toml has it.
+set -euo pipefail
+sed -n 's/^version = "\(.*\)"$/\1/p' "$(dirname "$0")/../bindings/python/pyproject.toml"
