@@ -1,7 +1,6 @@
 #!/usr/bin/env bash
 # Looks over the files that git tracks: shellcheck over each shell script; flake8, as .flake8 says, over each Python
-# file; and the white space that .editorconfig asks for. A linter that isn't installed is left out. It also compares the
-# copies of the licence.
+# file; and the white space that .editorconfig asks for. A linter that isn't installed is left out.
 # It takes some ten seconds, and no proof. The last line is `N passed, M failed`.
 set -euo pipefail
 cd "$(dirname "$0")/.."
@@ -94,10 +93,6 @@ check 'no line ends in white space' no_line_has '[[:blank:]]$' "${recorded[@]}" 
 check 'no line has a tab' no_line_has $'\t' "${recorded[@]}"
 check 'no line ends in a carriage return' no_line_has $'\r$' "${recorded[@]}"
 check 'each file ends with a line feed' end_with_line_feeds
-# Packages are passed on by themselves, so each has a copy.
-for package in bindings/python bindings/rust; do
-    check "$package has the licence of the repository" cmp LICENSE "$package/LICENSE"
-done
 
 echo "$passed passed, $failed failed"
 [ "$failed" -eq 0 ]

@@ -74,8 +74,9 @@ def signature(lines):
     return re.sub(r",? \)", ")", text)
 
 
-def calls_of(file, names):
-    """The public calls of a file: free ones, and those of a public type or trait."""
+def public_calls(file, names):
+    """The public calls of a file, free ones and those of a public type or trait: what users write before the name of
+    each, and the lines that begin with it."""
     owner, is_trait, lines = None, False, file.read_text().split("\n")
     for place, line in enumerate(lines):
         opened = re.match(r"impl(?:<.*?>)? (\w+)(?:<.*>)?(?: \{| where|$)", line)
@@ -87,19 +88,19 @@ def calls_of(file, names):
         elif re.match(r"impl\b", line):
             owner = None
         elif line.startswith("pub fn ") and re.match(r"pub fn (\w+)", line).group(1) in names:
-            yield names[re.match(r"pub fn (\w+)", line).group(1)] + signature(lines[place:])
+            yield names[re.match(r"pub fn (\w+)", line).group(1)], lines[place:]
         elif owner in names and re.match("    fn " if is_trait else "    pub fn ", line):
-            yield names[owner] + owner + "::" + signature(lines[place:])
+            yield names[owner] + owner + "::", lines[place:]
 
 
 def calls_of_code():
     """Every public call of the libraries."""
-    lines, found = dependencies(), set()
+    needs, found = dependencies(), set()
     for library in LIBRARIES:
         names = exported(TOP / "crates" / library / "src" / "lib.rt")
-        for crate in set(crates_below(library, lines)) - set(LIBRARIES) | {library}:
+        for crate in set(crates_below(library, needs)) - set(LIBRARIES) | {library}:
             for file in sorted((TOP / "crates" / crate / "src").rglob("*.rt")):
-                found.update(calls_of(file, names))
+                found.update(before + signature(lines) for before, lines in public_calls(file, names))
     return found
 
 
@@ -121,4 +122,5 @@ def main():
         sys.exit(1)
 
 
-main()
+if __name__ == "__main__":
+    main()

@@ -1,0 +1,72 @@
+#!/usr/bin/env bash
+# Packs what release/build.sh built into a folder: the archive for Linux, the wheel, the crate, the pack for Rattle, and
+# SHA256SUMS. The bytes depend on the commit and the toolchain alone, and neither on the clone's place nor on the time.
+#
+# usage: release/pack.sh FOLDER
+set -euo pipefail
+mkdir -p -- "$1"
+dist=$(realpath -- "$1")
+cd "$(dirname "$0")/.."
+SOURCE_DATE_EPOCH=$(git log -1 --format=%ct)
+export SOURCE_DATE_EPOCH TZ=UTC LC_ALL=C
+umask 022
+room=$(mktemp -d)
+trap 'rm -rf "$room"' EXIT
+version=$(release/version.sh)
+papers=share/doc/dotenvy
+
+# Writes a folder of the room as an archive: sorted, owned by nobody, of the time of the commit.
+archive() {
+    chmod -R u=rwX,go=rX "$room/$1"
+    tar -C "$room" --sort=name --owner=0 --group=0 --numeric-owner --mtime="@$SOURCE_DATE_EPOCH" -cf - "$1"
+}
+
+pack_archive() {
+    cp install.sh "$room/$name/"
+    archive "$name" | gzip -n9 >"$dist/$name.tar.gz"
+}
+
+pack_wheel() {
+    python3 bindings/python/wheel_backend.py "$room/$name" "$dist" >/dev/null
+}
+
+# The crate as `cargo package` writes it, which also builds it.
+pack_crate() {
+    local crate=$room/crate
+    cp -rL bindings/rust "$crate"
+    rm -rf "$crate/target" "$crate/Cargo.lock"
+    mkdir "$crate/lib"
+    cp "$room/$name/lib/libdotenvy.a" "$crate/lib/"
+    cp "$room/$name/$papers"/{LICENSE,NOTICES,BUILT} "$crate/"
+    (
+        cd "$crate"
+        cargo package --quiet --offline --allow-dirty --target-dir "$room/target"
+    )
+    cp "$room/target/package/dotenvy-$version.crate" "$dist/"
+}
+
+# The library's crates as the toolchain keeps its own: proved, and without a source that has to be compiled.
+pack_for_rattle() {
+    local pack crate
+    pack=dotenvy-$version-$(rt version | cut -d ' ' -f 1)
+    mkdir -p "$room/$pack/rlibs" "$room/$pack/rattle/dotenvy"
+    for crate in dotenvy_format dotenvy_base dotenvy_lines dotenvy_items dotenvy; do
+        cp -r "crates/$crate/out/rlib/$crate.rlib" "$room/$pack/rlibs/"
+        mkdir -p "$room/$pack/rattle/$crate"
+        cp -r "crates/$crate/specs" "$room/$pack/rattle/$crate/" 2>/dev/null || [ ! -d "crates/$crate/specs" ]
+    done
+    release/calling.py >"$room/$pack/rattle/dotenvy/CALLING.md"
+    cp release/kit.sh "$room/$pack/"
+    cp "$room/$name/$papers"/{LICENSE,NOTICES,BUILT} "$room/$pack/"
+    archive "$pack" | xz -6 -T1 >"$dist/$pack.tar.xz"
+}
+
+name=dotenvy-$version-linux-x86_64
+mkdir "$room/$name"
+release/layout.sh "$room/$name"
+pack_archive
+pack_wheel
+pack_crate
+pack_for_rattle
+cd "$dist"
+sha256sum -- dotenvy-* >SHA256SUMS

@@ -1,0 +1,159 @@
+#!/usr/bin/env bash
+# Tries what release.sh packed: as a user who has no toolchain, then from a repository of Rattle that has no source of this
+# one; and packs again elsewhere, which has to give the same bytes. The last line is `N passed, M failed`.
+#
+# usage: tests/release.sh DIST
+set -euo pipefail
+dist=$(realpath -- "$1")
+cd "$(dirname "$0")/.."
+room=$(mktemp -d)
+trap 'rm -rf "$room"' EXIT
+passed=0
+failed=0
+
+# Counts a check: what it is, and the command that ends with status 0 if it holds.
+check() {
+    local what=$1
+    shift
+    if "$@"; then
+        passed=$((passed + 1))
+        echo "passed: $what"
+    else
+        failed=$((failed + 1))
+        echo "FAILED: $what"
+    fi
+}
+
+# Adds what another test counted in its last line, which is in a file.
+add_counts() {
+    if [[ $(tail -n 1 "$1") =~ ^([0-9]+)' passed, '([0-9]+)' failed'$ ]]; then
+        passed=$((passed + BASH_REMATCH[1]))
+        failed=$((failed + BASH_REMATCH[2]))
+    else
+        failed=$((failed + 1))
+        echo "FAILED: it did not end"
+    fi
+}
+
+sums_hold() {
+    (cd "$dist" && sha256sum --check --quiet SHA256SUMS)
+}
+
+lists_each_file() {
+    diff <(cd "$dist" && ls) <({ sed 's/^[0-9a-f]*  //' "$dist/SHA256SUMS" && echo SHA256SUMS; } | sort)
+}
+
+# The tag of the wheel names the newest glibc that a symbol of its code asks for, by the linker's own tables.
+tag_is_true() {
+    local newest
+    python3 -m zipfile -e "$dist"/dotenvy-*.whl "$room/wheel"
+    newest=$(find "$room/wheel" -type f -exec sh -c 'objdump -T "$1" 2>/dev/null' - {} \; |
+        sed -n 's/.*(\?GLIBC_2\.\([0-9]*\).*/\1/p' | sort -n | tail -n 1)
+    [ -f "$(echo "$dist"/dotenvy-*-py3-none-manylinux_2_"$newest"_x86_64.whl)" ]
+}
+
+# Without the shared object there is no wheel, neither by the script nor by pip.
+wheel_is_refused() {
+    local status=0
+    mkdir -p "$room/tree" "$room/none"
+    python3 bindings/python/wheel_backend.py "$room/tree" "$room/none" 2>"$room/said" || status=$?
+    [ "$status" -eq 1 ] && grep -q '^wheel_backend.py: there is no .*/libdotenvy.so.1' "$room/said" &&
+        [ -z "$(ls "$room/none")" ]
+}
+
+pip_is_refused() {
+    ! env -i PATH=/usr/bin:/bin /usr/bin/python3 -m pip wheel --no-index --no-deps --wheel-dir "$room/none" \
+        bindings/python >"$room/said" 2>&1 && grep -q 'release.sh builds the wheel' "$room/said" && [ -z "$(ls "$room/none")" ]
+}
+
+# Packs once more, in a clone elsewhere, for a user whose files nobody else reads. What is built isn't built again.
+packs_the_same() {
+    local other="$room/an other place" crate file
+    git clone --quiet . "$other"
+    for crate in dotenvy_format dotenvy_base dotenvy_lines dotenvy_items dotenvy; do
+        mkdir -p "$other/crates/$crate/out/rlib"
+        cp -r "crates/$crate/out/rlib/$crate.rlib" "$other/crates/$crate/out/rlib/"
+    done
+    for file in crates/dotenvy_run/out/dotenvy_run crates/dotenvy_check/out/dotenvy_check; do
+        mkdir -p "$other/${file%/*}"
+        cp "$file" "$other/$file"
+    done
+    cp -r bindings/out "$other/bindings/"
+    (umask 077 && cd "$other" && release/pack.sh "$room/again") && cmp "$dist/SHA256SUMS" "$room/again/SHA256SUMS"
+}
+
+# --- As a user ---
+
+check_as_user() {
+    local home=$room/home status=0
+    mkdir -p "$home/dist"
+    cp "$dist"/* "$home/dist"
+    cp tests/release_user.sh "$home"
+    chmod 711 "$room"
+    [ "$(id -u)" -ne 0 ] || chown -R 65534:65534 "$home"
+    tests/veil.sh "$home" ./release_user.sh >"$room/user" 2>&1 || status=$?
+    if [ "$status" -eq 99 ]; then
+        echo "left out: what a user without the toolchain does, since this system allows no view of its own (unshare)"
+        return
+    fi
+    cat "$room/user"
+    add_counts "$room/user"
+}
+
+# --- From another repository of Rattle ---
+
+# Makes a repository with the program of the pages as its only crate.
+make_repository() {
+    local rt=$1
+    mkdir -p "$room/hello/crates"
+    cd "$room/hello"
+    git init --quiet .
+    : >crates.txt
+    "$rt" new crates/hello start_io >/dev/null
+    rm -f crates/hello/src/clock.rt crates/hello/stdin crates/hello/stdout
+    echo 'hello: dotenvy anyhow' >crates.txt
+    awk '/^```/ { if (inside && whole) exit; inside = $0 == "```rust"; text = ""; next }
+        inside { text = text $0 "\n"; if ($0 == "#![tactic(auto)]") whole = 1 }
+        END { printf "%s", text }' "$room/pack/rattle/dotenvy/CALLING.md" >crates/hello/src/main.rt
+    printf 'PORT=8080\n' >crates/hello/.env
+    printf 'HOST=db.local\n' >crates/hello/service.env
+}
+
+# Proves and runs it.
+runs_hello() {
+    local began=$SECONDS
+    (cd "$room/hello/crates/hello" && "$1" run) >"$room/said" 2>"$room/errors" || {
+        tail -n 20 "$room/errors"
+        return 1
+    }
+    echo "proved and run in $((SECONDS - began)) seconds"
+    grep -qx 'port 8080' "$room/said" && grep -q '^logic=proved' "$room/errors"
+}
+
+has_no_source() {
+    [ -z "$(find "$room/hello" -name '*.rt' ! -path "$room/hello/crates/hello/src/main.rt")" ]
+}
+
+check_pack() {
+    mkdir "$room/pack"
+    tar -xJf "$dist"/dotenvy-*-rattle-*.tar.xz -C "$room/pack" --strip-components 1
+    check "the pack has the licence, the notices and the commit" sh -c "cd '$room/pack' &&
+        grep -q 'Santiago Lapresta' LICENSE && grep -q 'Andrew Gallant' NOTICES && grep -q '^commit ' BUILT"
+    check "the pack makes a kit" "$room/pack/kit.sh" "$room/kit"
+    check "a repository of Rattle names the library alone" make_repository "$room/kit/bin/rt"
+    check "it has no source of the library" has_no_source
+    check "it is proved and runs" runs_hello "$room/kit/bin/rt"
+    check "a kit isn't made over another folder" sh -c "! '$room/pack/kit.sh' '$room/kit' 2>/dev/null"
+}
+
+check "the sums hold" sums_hold
+check "the sums name each file" lists_each_file
+check "there are four files and the sums" test "$(find "$dist" -type f | wc -l)" -eq 5
+check "the wheel's tag is true" tag_is_true
+check "a wheel without the shared object is refused" wheel_is_refused
+check "pip is refused, too" pip_is_refused
+check "the same bytes are packed elsewhere" packs_the_same
+check_as_user
+check_pack
+echo "$passed passed, $failed failed"
+[ "$failed" -eq 0 ]
