@@ -1,12 +1,14 @@
 #!/usr/bin/env bash
 # Compares the documents with what is played, built and proved:
-# - crates/replay/data has the examples of docs/GRAMMAR.md, docs/CHECK.md, docs/OTHER_LIBRARIES.md and README.md as rows;
+# - crates/replay/data has the examples of docs/GRAMMAR.md, docs/CHECK.md, docs/OTHER_LIBRARIES.md and README.md as rows,
+#   those of the README with what the programs print;
 # - crates/replay/stdout has the number of rows of each file, and crates/replay/args names each;
 # - each block of Rust in README.md and docs/LIBRARY.md is in a source file of crates/examples, the other examples or
 #   crates/own_contracts, and so is each line beside one of the Rust crate;
-# - docs/LIBRARY.md has each public call with its signature, and README.md a contract of the code;
+# - docs/LIBRARY.md has each public call with its signature, and docs/CONTRACTS.md a contract of the code;
 # - docs/DEFINITIONS.md has the definitions on which the headline rests;
 # - docs/CONTRACTS.md names rows and tests that exist where something is only tested;
+# - docs/speed.svg is the chart of the figures in bench/speed.tsv;
 # - each link of the pages leads to a file and a heading, and each page that is named is a link.
 # It takes a second or two, and no proof. The last line is `N passed, M failed`.
 set -euo pipefail
@@ -107,6 +109,10 @@ plays_each_file() {
     diff <(ls crates/replay/data) <(sort crates/replay/args)
 }
 
+has_chart() {
+    python3 -B bench/chart.py | cmp - docs/speed.svg
+}
+
 check_blocks() {
     local line
     cut_blocks "$1" rust
@@ -138,7 +144,7 @@ check_contracts() {
 check "crates/replay/data/grammar.rows has the examples of docs/GRAMMAR.md" has_examples grammar
 check "crates/replay/data/check_page.rows has the examples of docs/CHECK.md" has_examples check_page
 check "crates/replay/data/other_libraries.rows has the examples of docs/OTHER_LIBRARIES.md" has_examples other_libraries
-check "crates/replay/data/readme.rows has the file of README.md" has_examples readme
+check "crates/replay/data/readme.rows has the examples of README.md" has_examples readme
 check "crates/replay/stdout has the number of rows of each file" has_right_counts
 check "crates/replay/args names each file of rows" plays_each_file
 for document in README.md docs/LIBRARY.md; do
@@ -148,8 +154,9 @@ check "docs/LIBRARY.md, each line beside one of the Rust crate is in an example"
 check "docs/LIBRARY.md has each public call with its signature" python3 tests/signatures.py
 check "docs/DEFINITIONS.md has what has to be believed, and no more" python3 tests/believed.py
 check "docs/CONTRACTS.md names rows and tests that exist" python3 tests/tested_by.py
+check "docs/speed.svg is the chart of bench/speed.tsv" has_chart
 check "each link of the pages leads somewhere" python3 tests/links.py
-check_contracts README.md crates/dotenvy_base/src/environment.rt
+check_contracts docs/CONTRACTS.md crates/dotenvy_base/src/environment.rt
 
 echo "$passed passed, $failed failed"
 [ "$failed" -eq 0 ]
