@@ -3,9 +3,10 @@
 
 usage: bench/chart.py > docs/speed.svg
 
-The same figures give the same bytes. The chart has its own background, so that it can be read on a light page and on a dark
-one.
+The same figures give the same bytes. The chart has its own background, so that it can be read on a light page and on a
+dark one.
 """
+
 import sys
 from pathlib import Path
 from xml.sax.saxutils import escape
