@@ -1,5 +1,5 @@
 #!/usr/bin/env bash
-# Packs what release/build.sh built into a folder: the archive for Linux, the wheel, the crate, the pack for Rattle, and
+# Packs what release/build.sh built, and release/prove_library.sh wrote to release/out, into a folder: the archive for Linux, the wheel, the crate, the pack for Rattle, and
 # SHA256SUMS. The bytes depend on the commit and the toolchain alone, and neither on the clone's place nor on the time.
 #
 # usage: release/pack.sh FOLDER
@@ -45,15 +45,16 @@ pack_crate() {
     cp "$room/target/package/dotenvy-$version.crate" "$dist/"
 }
 
-# The library's crates as the toolchain keeps its own: proved, and without a source that has to be compiled.
+# The library's crates as the toolchain keeps its own, the page of their calls, and the definitions of their words.
 pack_for_rattle() {
-    local pack crate
+    local pack rlib crate
     pack=dotenvy-$version-$(rt version | cut -d ' ' -f 1)
-    mkdir -p "$room/$pack/rlibs" "$room/$pack/rattle/dotenvy"
-    for crate in dotenvy_format dotenvy_base dotenvy_lines dotenvy_items dotenvy; do
-        cp -r "crates/$crate/out/rlib/$crate.rlib" "$room/$pack/rlibs/"
+    mkdir -p "$room/$pack/rlibs"
+    for rlib in release/out/*.rlib; do
+        crate=$(basename "$rlib" .rlib)
+        cp -r "$rlib" "$room/$pack/rlibs/"
         mkdir -p "$room/$pack/rattle/$crate"
-        cp -r "crates/$crate/specs" "$room/$pack/rattle/$crate/" 2>/dev/null || [ ! -d "crates/$crate/specs" ]
+        cp -r "crates/$crate/specs" "$room/$pack/rattle/$crate/"
     done
     release/calling.py >"$room/$pack/rattle/dotenvy/CALLING.md"
     cp release/kit.sh "$room/$pack/"

@@ -68,17 +68,14 @@ pip_is_refused() {
 
 # Packs once more, in a clone elsewhere, for a user whose files nobody else reads. What is built isn't built again.
 packs_the_same() {
-    local other="$room/an other place" crate file
+    local other="$room/an other place" file
     git clone --quiet . "$other"
-    for crate in dotenvy_format dotenvy_base dotenvy_lines dotenvy_items dotenvy; do
-        mkdir -p "$other/crates/$crate/out/rlib"
-        cp -r "crates/$crate/out/rlib/$crate.rlib" "$other/crates/$crate/out/rlib/"
-    done
     for file in crates/dotenvy_run/out/dotenvy_run crates/dotenvy_check/out/dotenvy_check; do
         mkdir -p "$other/${file%/*}"
         cp "$file" "$other/$file"
     done
     cp -r bindings/out "$other/bindings/"
+    cp -r release/out "$other/release/"
     (umask 077 && cd "$other" && release/pack.sh "$room/again") && cmp "$dist/SHA256SUMS" "$room/again/SHA256SUMS"
 }
 
@@ -119,15 +116,18 @@ make_repository() {
     printf 'HOST=db.local\n' >crates/hello/service.env
 }
 
-# Proves and runs it.
+# Proves and runs it, in less than two minutes of one processor.
 runs_hello() {
-    local began=$SECONDS
-    (cd "$room/hello/crates/hello" && "$1" run) >"$room/said" 2>"$room/errors" || {
+    local wall user system
+    TIMEFORMAT='%R %U %S'
+    { time (cd "$room/hello/crates/hello" && "$1" run) >"$room/said" 2>"$room/errors"; } 2>"$room/time" || {
         tail -n 20 "$room/errors"
         return 1
     }
-    echo "proved and run in $((SECONDS - began)) seconds"
-    grep -qx 'port 8080' "$room/said" && grep -q '^logic=proved' "$room/errors"
+    read -r wall user system <"$room/time"
+    echo "proved and run in $wall seconds, of the processors $user and $system"
+    grep -qx 'port 8080' "$room/said" && grep -q '^logic=proved' "$room/errors" &&
+        awk -v user="$user" -v system="$system" 'BEGIN { exit user + system >= 120 }'
 }
 
 has_no_source() {
