@@ -87,7 +87,7 @@ export SHELLCHECK_OPTS='--norc --format=gcc'
 lint shellcheck "${scripts_in_shell[@]}"
 lint flake8 "${scripts_in_python[@]}"
 check 'each remark that is disabled has its reason beside it' \
-    no_line_has '# (shellcheck disable=[SC0-9,]+|noqa.*) *$' "${scripts_in_shell[@]}" "${scripts_in_python[@]}"
+    no_line_has '# *(shellcheck disable=[^ ]+|noqa[^#]*) *$' "${scripts_in_shell[@]}" "${scripts_in_python[@]}"
 # In a page, a diff may have an empty line that stays, which is a blank.
 check 'no line ends in white space' no_line_has '[[:blank:]]$' "${recorded[@]}" ':!*.md'
 check 'no line has a tab, except in tables of them' no_line_has $'\t' "${recorded[@]}" ':!*.tsv'
