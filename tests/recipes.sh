@@ -1,0 +1,464 @@
+#!/usr/bin/env bash
+# Cuts the recipes out of docs/COMMAND.md and docs/CHECK.md, as they are there, and tries each:
+# - the systemd unit: systemd-analyze verifies it below a root folder, where empty scripts are its programs;
+# - the Dockerfile: each line is an instruction, its steps are made in a folder, and its command runs. The archive and
+#   apt-get are stand-ins, and no image is built;
+# - the crontab line: Debian's crontab checks it, and its command runs in the environment that cron gives;
+# - the CI job: a parser of YAML reads it, and its steps run, on the same archive;
+# - the recipes for a shell run, and the manual page has the same scripts.
+# A recipe runs with folders of the test in place of /usr/local, /etc/serve, /var/lib and /tmp. Nothing else of it is
+# changed.
+#
+# The programs are those of `rt ci`, or of the folder that is named: `tests/recipes.sh FOLDER`. Without them, or without
+# a tool, a line `left out: ..` says what isn't tried. With CI=true in the environment, the programs have to be there.
+# It takes a few seconds, and no proof. The last line is `N passed, M failed`.
+#
+# Recipes and scripts have dollars of their own.
+# shellcheck disable=SC2016
+set -euo pipefail
+cd "$(dirname "$0")/.."
+top=$PWD
+page=$top/docs/COMMAND.md
+run=$(realpath -m "${1-crates/dotenvy_run/out}/dotenvy_run")
+checker=$(realpath -m "${1-crates/dotenvy_check/out}/dotenvy_check")
+version=$(sed -n 's/^version = "\(.*\)"/\1/p' bindings/python/pyproject.toml)
+archive=dotenvy-$version-linux-x86_64
+room=$(mktemp -d)
+trap 'jobs -pr | xargs -r kill; rm -rf "$room"' EXIT
+passed=0
+failed=0
+
+# Counts a check: what it is, and the command that ends with status 0 where it holds.
+check() {
+    local what=$1
+    shift
+    if "$@"; then
+        passed=$((passed + 1))
+        echo "passed: $what"
+    else
+        failed=$((failed + 1))
+        echo "FAILED: $what"
+    fi
+}
+
+# Whether a program is installed. If not, a line says what is left out.
+installed() {
+    command -v "$1" >/dev/null || ! echo "left out: $2, as $1 is not installed"
+}
+
+# Prints the first block of a page after the line that begins with these words.
+block_of() {
+    awk -v title="$2" '
+        index($0, title) == 1 { met = 1 }
+        met && /^```/ && inside { exit }
+        met && /^```/ { inside = 1; next }
+        inside
+    ' "$1"
+}
+
+block() {
+    block_of "$page" "$1"
+}
+
+# Prints a recipe with the folders of the test in place of those that it names.
+placed() {
+    sed -E "s#(/usr/local|/etc/serve|/var/lib|/tmp)\b#$room\1#g"
+}
+
+# Makes a script for sh: standard input is its text.
+script() {
+    mkdir -p "${1%/*}"
+    cat <(echo '#!/bin/sh') - >"$1"
+    chmod 755 "$1"
+}
+
+# Runs a command, and keeps what it prints and its status for `gave` and `complained`.
+call() {
+    status=0
+    "$@" >"$room/output" 2>"$room/errors" || status=$?
+}
+
+# Whether the last call ended with this status and printed these lines, and nothing on standard error.
+gave() {
+    local right=$1
+    shift
+    [ "$status" = "$right" ] && diff <([ $# -eq 0 ] || printf '%s\n' "$@") "$room/output" &&
+        diff /dev/null "$room/errors"
+}
+
+# Whether the last call ended with status 1, and printed this on standard error alone.
+complained() {
+    [ "$status" = 1 ] && diff <(printf '%s\n' "$1") "$room/errors" && diff /dev/null "$room/output"
+}
+
+# --- The programs and files that the recipes name ---
+
+make_files() {
+    mkdir -p "$room"/{usr/local/bin,etc/serve,tmp,work}
+    printf 'PORT=8080\nSTORE=/srv/backups\n' >"$room/etc/serve/service.env"
+    script "$room/usr/local/bin/serve" <<<'echo "serve on $PORT" "$@"'
+    script "$room/usr/local/bin/backup" <<<'echo "backup to $1"'
+    script "$room/work/serve" <<<'echo "serve on $PORT" "$@"'
+    script "$room/fetch/apt-get" <<<"echo \"apt-get \$*\" >>$room/fetched"
+    if "$has_programs"; then
+        cp "$run" "$checker" "$room/usr/local/bin"
+    fi
+}
+
+# Makes the archive of a release in a folder, with the layout that the recipes use: programs, and install.sh PREFIX.
+make_archive() {
+    local folder=$room/release/$archive
+    mkdir -p "$folder/bin" "$1"
+    cp "$run" "$checker" "$folder/bin"
+    script "$folder/install.sh" <<<'mkdir -p "$1/bin" && cp "$(dirname "$0")"/bin/* "$1/bin"'
+    tar -czf "$1/$archive.tar.gz" -C "$room/release" "$archive"
+}
+
+# --- The systemd unit ---
+
+# Whether systemd-analyze finds nothing in the unit of the root folder.
+verified() {
+    local status=0
+    systemd-analyze verify --root="$room/root" serve.service >"$room/said" 2>&1 || status=$?
+    cat "$room/said"
+    [ "$status" -eq 0 ] && [ ! -s "$room/said" ]
+}
+
+check_unit() {
+    local units=$room/root/usr/lib/systemd/system targets target program
+    installed systemd-analyze 'the systemd unit' || return 0
+    mkdir -p "$units" "$room/root"/{etc/systemd/system,bin,usr/local/bin}
+    ln -s usr/lib "$room/root/lib"
+    block '### A systemd unit' >"$room/root/etc/systemd/system/serve.service"
+    targets=$(block '### A systemd unit' | grep -o '[a-z-]*\.target' | sort -u)
+    # The targets that the unit names, and those that each service waits for.
+    for target in $targets {sysinit,basic,shutdown}.target; do
+        check "systemd has $target" cp "/usr/lib/systemd/system/$target" "$units"
+    done
+    script "$room/root/bin/bash" </dev/null
+    check 'systemd-analyze sees that a program of the unit is missing' missing_program
+    for program in dotenvy_run dotenvy_check serve; do
+        script "$room/root/usr/local/bin/$program" </dev/null
+    done
+    check 'systemd-analyze finds nothing wrong with the unit' verified
+}
+
+missing_program() {
+    ! verified >/dev/null && grep -q 'dotenvy_run is not executable' "$room/said"
+}
+
+# The unit's commands have no quotes but single ones, so sh reads them as systemd does.
+check_unit_commands() {
+    local unit before start
+    unit=$(block '### A systemd unit' | placed)
+    before=$(sed -n 's/^ExecStartPre=//p' <<<"$unit")
+    start=$(sed -n 's/^ExecStart=//p' <<<"$unit")
+    call sh -c "$before"
+    check 'the unit checks a file without a fault' gave 0
+    call sh -c "$start"
+    check 'the unit starts the command with the settings' gave 0 'serve on 8080 --verbose'
+    cp "$room/broken.env" "$room/etc/serve/service.env"
+    call sh -c "$before"
+    check 'the unit refuses a file with a fault, and prints its place alone' \
+        gave 1 "$room/etc/serve/service.env:1: error"
+    printf 'PORT=8080\nSTORE=/srv/backups\n' >"$room/etc/serve/service.env"
+}
+
+# --- The Dockerfile ---
+
+instructions='ADD|ARG|CMD|COPY|ENTRYPOINT|ENV|EXPOSE|FROM|HEALTHCHECK|LABEL|ONBUILD|RUN|SHELL|STOPSIGNAL|USER'
+instructions+='|VOLUME|WORKDIR'
+
+# Prints the strings of a JSON array, each on a line, as ENTRYPOINT and CMD have them.
+strings() {
+    python3 -c 'import json, sys
+words = json.loads(sys.argv[1])
+assert type(words) is list and all(type(word) is str for word in words)
+print("\n".join(words))' "$1"
+}
+
+# Makes the steps of a Dockerfile as far as they can be made in a folder, and collects the command in `command`.
+build() {
+    local instruction words from to
+    while read -r instruction words; do
+        read -r from to <<<"$words"
+        case $instruction in
+            FROM) ;;
+            ADD) tar -xzf "$from" -C "$to" ;;
+            COPY) cp "$from" "$to" ;;
+            RUN) PATH=$room/fetch:/usr/bin:/bin sh -c "$words" ;;
+            ENTRYPOINT | CMD) strings "$words" >>"$room/command" ;;
+            *) return 1 ;;
+        esac || return 1
+    done
+}
+
+check_dockerfile() {
+    local command
+    block '### A Dockerfile' >"$room/Dockerfile"
+    check 'each line of the Dockerfile is an instruction' \
+        diff <(grep -E "^($instructions) [^ ]" "$room/Dockerfile") "$room/Dockerfile"
+    check 'the Dockerfile begins with FROM' grep -qm1 '^FROM ' <(head -n 1 "$room/Dockerfile")
+    check 'the Dockerfile names the archive of this version' grep -qF "ADD $archive.tar.gz " "$room/Dockerfile"
+    "$has_programs" || return 0
+    mkdir "$room/context"
+    make_archive "$room/context"
+    mv "$room/usr/local/bin/serve" "$room/context"
+    rm "$room/usr/local/bin"/dotenvy_*
+    : >"$room/command"
+    cd "$room/context"
+    check 'the steps of the Dockerfile can be made' build < <(placed <"$room/Dockerfile")
+    cd "$top"
+    check 'the Dockerfile installs tini' grep -qx 'apt-get install -y --no-install-recommends tini' "$room/fetched"
+    check 'the Dockerfile leaves nothing of the archive' test -z "$(ls "$room/tmp")"
+    mapfile -t command <"$room/command"
+    check 'the command of the image is started by tini' test "${command[*]::3}" = 'tini -g --'
+    installed tini 'tini before the command of the image' || command=("${command[@]:3}")
+    call "${command[@]}"
+    # tini warns of zombies, which the test need not be rid of.
+    sed -i '/Tini is not running as PID 1/,$d' "$room/errors"
+    check 'the command of the image runs with the settings' gave 0 'serve on 8080 --verbose'
+}
+
+# --- The crontab line ---
+
+# Whether the crontab of this machine can check a file without using it.
+has_dry_run() {
+    grep -qF '[-n] file' <(crontab --help 2>&1) ||
+        ! echo 'left out: the check of the crontab line, as no crontab with -n (dry run) is installed'
+}
+
+check_crontab() {
+    local line plain command field='[0-9*,/-]+'
+    line=$(block '### A crontab line')
+    check 'the crontab line has five fields and a command' \
+        grep -qxE "($field ){5}[^ ].*" <<<"$line"
+    plain=${line//'\%'/}
+    check 'each % of the crontab line is written \%' test "$plain" = "${plain//%/}"
+    if has_dry_run; then
+        echo "$line" >"$room/crontab"
+        check 'crontab finds nothing wrong with the line' crontab -n "$room/crontab"
+    fi
+    "$has_programs" || return 0
+    command=$(cut -d ' ' -f 6- <<<"$line" | placed | sed 's/\\%/%/g')
+    # What cron sets; a file can't change it.
+    call env -i HOME=/root LOGNAME=root PATH=/usr/bin:/bin SHELL=/bin/sh sh -c "$command"
+    check 'the command of the crontab line runs with the settings' dated
+}
+
+# Whether the last call printed the name of a backup of today, or of yesterday if it began before midnight.
+dated() {
+    sed -Ei 's/[0-9]{4}-[0-9]{2}-[0-9]{2}/DATE/' "$room/output"
+    gave 0 'backup to /srv/backups/DATE.tar'
+}
+
+# --- The CI job ---
+
+# Writes the steps of the job to files step.1, step.2 and so on.
+read_job() {
+    block '### A CI job' | python3 -c 'import sys, yaml
+jobs = yaml.safe_load(sys.stdin)["jobs"]
+(job,) = jobs.values()
+runs = [step["run"] for step in job["steps"] if "run" in step]
+assert all("run" in step or "uses" in step for step in job["steps"]) and len(runs) == 2
+for number, run in enumerate(runs, 1):
+    with open(f"{sys.argv[1]}.{number}", "w") as file:
+        file.write(run)' "$room/step"
+}
+
+# Runs a step of the job as CI does, with the folders that earlier steps put on PATH.
+step() {
+    local path
+    path=$(tac "$room/path" | tr '\n' :)/usr/bin:/bin
+    (cd "$room/checkout" && env -i HOME="$room/home" RUNNER_TEMP="$room/temporary" GITHUB_PATH="$room/path" \
+        PATH="$path" bash -e "$room/step.$1")
+}
+
+check_job() {
+    if ! python3 -c 'import yaml' 2>/dev/null; then
+        echo 'left out: the CI job, as python3 has no module yaml'
+        return
+    fi
+    check 'the CI job is YAML, and each step has something to run or to use' read_job
+    check 'the CI job names the archive of this version' grep -qF "tools/$archive.tar.gz" "$room/step.1"
+    "$has_programs" || return 0
+    mkdir -p "$room"/{home,temporary,checkout/deploy}
+    : >"$room/path"
+    make_archive "$room/checkout/tools"
+    cp "$room/etc/serve/service.env" "$room/checkout/deploy"
+    call step 1
+    check 'the job installs the programs' test "$status" = 0 -a -x "$room/home/.local/bin/dotenvy_check"
+    call step 2
+    check 'the job ends well if no file has a finding' gave 0
+    cp "$room/broken.env" "$room/checkout/deploy"
+    echo 'A=$B' >"$room/checkout/deploy/dollar.env"
+    call step 2
+    check 'the job fails at a fault and a warning, and prints their places alone' \
+        gave 1 'deploy/broken.env:1: error' 'deploy/dollar.env:1: warning'
+}
+
+# --- Secrets ---
+
+# The page says which texts this file gives.
+check_secrets() {
+    cp "$room/broken.env" "$room/work/service.env"
+    call dotenvy_run -f service.env ./serve
+    check 'the text of a fault is that of the page' complained "$(block 'Then `dotenvy_run -f service.env ./serve`')"
+    call bash -o pipefail -c "$(block 'No output of the programs')"
+    check 'the place of a fault can be had alone' gave 1 "$(sed -n 's/^It prints `\(.*: error\)`.*/\1/p' "$page")"
+}
+
+# --- Recipes for a shell ---
+
+# Calls the first line of a block that has these words, after the heading or the words that begin a paragraph.
+line_of() {
+    call sh -c "$(block "$1" | grep -F -- "$2" | head -n 1)"
+}
+
+check_lines() {
+    printf 'PORT=1\n' >.env
+    line_of '**Print one value.**' 'printenv PORT'
+    check 'one value is printed' gave 0 1
+    PORT=2 line_of '**Let the file win' 'env -u PORT'
+    check 'the file wins over a variable that is taken away' gave 0 'serve on 1'
+    PORT=2 line_of '**Let the file win' 'env -i'
+    check 'the file wins over an empty environment' gave 0 'serve on 1'
+    printf 'PORT=3\n' >.env.local
+    line_of '**Put the settings of this machine' .env.local
+    check 'the settings of this machine win' gave 0 'serve on 3'
+    cp "$room/broken.env" service.env
+    line_of '**Check a file before' --strict
+    check 'a file with a fault is found' test "$status" = 1
+}
+
+# Both files lack a last line feed.
+check_joined() {
+    printf 'A=1' >a.env
+    printf 'B=2' >b.env
+    line_of '**Join files.**' awk
+    check 'files without a last line feed are joined' gave 0 'A="1"' 'B="2"'
+    check 'the example in the table is the same' grep -qF "| \`$(block '**Join files.**' | sed 's/|/\\|/')\` |" "$page"
+    printf '\xef\xbb\xbfB=2' >b.env
+    line_of '**Join files.**' awk
+    check 'a byte order mark of the second file is a fault' test "$status" = 1
+    call dotenvy_run -f a.env -f b.env printenv A B
+    check 'each file may have one where files are loaded one by one' gave 0 1 2
+    printf 'A=1' >local.env
+    printf 'B=2\nA=3' >base.env
+    call sh -c "$(block_of "$top/docs/CHECK.md" 'Services that load several files')"
+    check 'files without a last line feed are checked as one' gave 0 \
+        "/dev/stdin:3: warning: 'A' is declared twice; the first value counts"
+}
+
+check_start() {
+    local shell
+    block '**Use a file only if it exists.**' >start
+    for shell in dash bash; do
+        installed "$shell" "the script with an optional file in $shell" || continue
+        printf 'PORT=1\n' >.env
+        rm -f .env.local
+        call "$shell" start --verbose 'two words' ''
+        check "$shell: without the optional file, the words reach the command" gave 0 'serve on 1 --verbose two words '
+        printf 'PORT=3\n' >.env.local
+        call "$shell" start --verbose 'two words' ''
+        check "$shell: the optional file wins, and the words reach the command" gave 0 'serve on 3 --verbose two words '
+        call "$shell" start
+        check "$shell: the optional file wins, without words" gave 0 'serve on 3'
+    done
+    rm .env.local
+}
+
+# The script of the page runs as a child, and its command says which process it is.
+check_place() {
+    block '### Give the command' | placed >place
+    chmod 755 place
+    mv serve serve.kept
+    script ./serve <<<'echo "$$ $PORT $EXISTING"'
+    EXISTING=yes ./place >"$room/output" 2>"$room/errors" &
+    status=0
+    wait $! || status=$?
+    check 'the command has the place of the script, its environment and the settings' gave 0 "$! 8080 yes"
+    cp "$room/broken.env" "$room/etc/serve/service.env"
+    call ./place
+    check 'the script ends at a fault' complained "$(block 'Then `dotenvy_run -f service.env ./serve`')"
+    printf 'PORT=8080\n' >"$room/etc/serve/service.env"
+    mv serve.kept serve
+}
+
+# The command gets SIGTERM through its process group, and cleans up for a while.
+check_cleaning() {
+    local line leader waited=0
+    line=$(block '### Wait until' | head -n 1)
+    mv serve serve.kept
+    script ./serve <<'END'
+exec 2>words # a shell says of its child that it was terminated
+trap 'sleep 0.3; echo cleaned up; exit 5' TERM
+echo >ready
+for second in 1 2 3 4 5 6 7 8 9 10; do sleep 1; done
+END
+    set -m
+    bash -c "exec $line" >"$room/output" 2>"$room/errors" &
+    leader=$!
+    set +m
+    until [ -e ready ] || [ $((waited += 1)) -gt 100 ]; do
+        sleep 0.1
+    done
+    kill -TERM -- "-$leader"
+    status=0
+    wait "$leader" || status=$?
+    check 'the program waits until the command has cleaned up' gave 5 'cleaned up'
+    mv serve.kept serve
+}
+
+# --- The manual page ---
+
+# Whether the manual page has the block with these words, line by line.
+in_manual() {
+    local text
+    text=$(sed "s/\\\\-/-/g; s/\\\\(aq/'/g; s/\\\\(dq/\"/g; s/\\\\e/\\\\/g" docs/dotenvy_run.1)
+    [[ $'\n'$text$'\n' == *$'\n'"$(block "$1")"$'\n'* ]]
+}
+
+check_manual() {
+    local title
+    for title in '**Use a file only if it exists.**' '**Join files.**' '### Give the command' '**Print one value.**' \
+        '**Put the settings of this machine' '**Check a file before' 'No output of the programs'; do
+        check "docs/dotenvy_run.1 has the block of: $title" in_manual "$title"
+    done
+}
+
+export PATH=$room/usr/local/bin:$PATH
+unset PORT STORE
+has_programs=true
+if [ ! -x "$run" ] || [ ! -x "$checker" ]; then
+    has_programs=false
+    echo "left out: whatever calls $run and $checker, as one of them is missing; \`rt ci\` builds both"
+    if [ "${CI-}" = true ]; then
+        check 'the programs are there' false
+    fi
+fi
+make_files
+block 'Values are often secrets' >"$room/broken.env"
+check 'the page has a file with a secret' grep -qx 'TOKEN=hidden' "$room/broken.env"
+check_unit
+if "$has_programs"; then
+    check_unit_commands
+fi
+check_crontab
+check_job
+check_manual
+if "$has_programs"; then
+    cd "$room/work"
+    check_secrets
+    check_lines
+    check_joined
+    check_start
+    check_place
+    check_cleaning
+    cd "$top"
+fi
+# Last, since it takes the programs away and installs them.
+check_dockerfile
+
+echo "$passed passed, $failed failed"
+[ "$failed" -eq 0 ]
