@@ -5,7 +5,8 @@
 # - crates/replay/stdout has the number of rows of each file, and crates/replay/args names each;
 # - each block of Rust in README.md and docs/LIBRARY.md is in a source file of crates/examples, the other examples or
 #   crates/own_contracts, and so is each line beside one of the Rust crate;
-# - docs/LIBRARY.md has each public call with its signature, and docs/CONTRACTS.md a contract of the code;
+# - docs/LIBRARY.md has each public call with its signature, and the answers file of crates/own_contracts;
+# - docs/CONTRACTS.md has a contract of the code;
 # - docs/DEFINITIONS.md has the definitions on which the headline rests;
 # - docs/CONTRACTS.md names rows and tests that exist where something is only tested;
 # - docs/speed.svg is the chart of the figures in bench/speed.tsv;
@@ -121,6 +122,12 @@ check_blocks() {
     done
 }
 
+# docs/LIBRARY.md has one answers file, as it is in the crate.
+has_answers() {
+    cut_blocks docs/LIBRARY.md antt
+    cat "$room"/blocks/* | diff - crates/own_contracts/proofs/find_settings/Answers.antt
+}
+
 # A file without white space and without lines of comment.
 squeezed() {
     sed '/^ *\/\//d' "$1" | tr -d ' \n'
@@ -152,6 +159,7 @@ for document in README.md docs/LIBRARY.md; do
 done
 check "docs/LIBRARY.md, each line beside one of the Rust crate is in an example" has_lines_from_rust
 check "docs/LIBRARY.md has each public call with its signature" python3 tests/signatures.py
+check "docs/LIBRARY.md has the answers file of crates/own_contracts" has_answers
 check "docs/DEFINITIONS.md has what has to be believed, and no more" python3 tests/believed.py
 check "docs/CONTRACTS.md names rows and tests that exist" python3 tests/tested_by.py
 check "docs/speed.svg is the chart of bench/speed.tsv" has_chart

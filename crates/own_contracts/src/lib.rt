@@ -40,3 +40,25 @@ pub fn find_settings<A: Allocator + Clone, F: FnMut(Path<'_>) -> Look>(
 {
     find(alloc, directory, Path::new("settings.env"), look)
 }
+
+#[cfg(test)]
+mod tests {
+    use super::*;
+    use dotenvy::Bytes;
+    use std::test::Fail;
+
+    #[test]
+    fn defaults_keep_the_host(rt: HostRuntime) -> std::result::Result<(), Fail> {
+        let alloc = rt.alloc();
+        let mut settings = Environment::new(alloc);
+        settings.set(
+            String::from_str(alloc, "HOST")?,
+            String::from_str(alloc, "db.local")?,
+        )?;
+        let defaults = Iter::new(alloc, Bytes::new(b"HOST=localhost\nPORT=8080\n"))?;
+        load_defaults(defaults, &mut settings)?;
+        assert_eq!(rt; settings.get("HOST"), Some("db.local"));
+        assert_eq!(rt; settings.get("PORT"), Some("8080"));
+        Ok(())
+    }
+}
