@@ -337,6 +337,8 @@ check_joined() {
     printf 'B=2' >b.env
     line_of '**Join files.**' awk
     check 'files without a last line feed are joined' gave 0 'A="1"' 'B="2"'
+    call dotenvy_run --list -f absent.env <b.env
+    check 'a list ignores the file of -f' gave 0 'B="2"'
     check 'the example in the table is the same' grep -qF "| \`$(block '**Join files.**' | sed 's/|/\\|/')\` |" "$page"
     printf '\xef\xbb\xbfB=2' >b.env
     line_of '**Join files.**' awk
@@ -428,7 +430,7 @@ check_manual() {
 }
 
 export PATH=$room/usr/local/bin:$PATH
-unset PORT STORE
+unset PORT STORE A B
 has_programs=true
 if [ ! -x "$run" ] || [ ! -x "$checker" ]; then
     has_programs=false
