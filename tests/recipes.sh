@@ -186,7 +186,8 @@ build() {
             FROM) ;;
             ADD) tar -xzf "$from" -C "$to" ;;
             COPY) cp "$from" "$to" ;;
-            RUN) PATH=$room/fetch:/usr/bin:/bin sh -c "$words" ;;
+            # A step that names any other folder of the machine isn't made: this one removes files.
+            RUN) [[ " ${words//"$room"\//}" != *" /"* ]] && PATH=$room/fetch:/usr/bin:/bin sh -c "$words" ;;
             ENTRYPOINT | CMD) strings "$words" >>"$room/command" ;;
             *) return 1 ;;
         esac || return 1
