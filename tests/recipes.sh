@@ -14,7 +14,7 @@
 # It takes a few seconds, and no proof. The last line is `N passed, M failed`.
 #
 # Recipes and scripts have dollars of their own.
-# shellcheck disable=SC2016
+# shellcheck disable=SC2016 # the shells that they are for replace them
 set -euo pipefail
 cd "$(dirname "$0")/.."
 top=$PWD
