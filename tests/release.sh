@@ -127,7 +127,7 @@ runs_hello() {
     read -r wall user system <"$room/time"
     echo "proved and run in $wall seconds, of the processors $user and $system"
     grep -qx 'port 8080' "$room/said" && grep -q '^logic=proved' "$room/errors" &&
-        awk -v user="$user" -v system="$system" 'BEGIN { exit user + system >= 120 }'
+        awk -v user="$user" -v kernel="$system" 'BEGIN { exit user + kernel >= 120 }'
 }
 
 has_no_source() {

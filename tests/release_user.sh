@@ -37,7 +37,7 @@ takes_less_than() {
     shift
     { read -r wall user system < <({ TIMEFORMAT='%R %U %S'; time "$@" >/dev/null 2>&4; } 2>&1); } 4>&2
     echo "$wall seconds, of the processor $user and $system: $*"
-    awk -v limit="$limit" -v user="$user" -v system="$system" 'BEGIN { exit user + system >= limit }'
+    awk -v limit="$limit" -v user="$user" -v kernel="$system" 'BEGIN { exit user + kernel >= limit }'
 }
 
 # The programs, the same for archive and wheel. The argument is their folder.
@@ -51,7 +51,8 @@ check_programs() {
 
 # The manual page of a program, as man shows it.
 shows_page() {
-    man "$1" 2>&1 | col -b | grep -qF -- "$1 -"
+    local shown
+    shown=$(man "$1" | col -b) && grep -qF -- "$1 -" <<<"$shown"
 }
 
 # The words that bash completes: a line, with the cursor at its end.
