@@ -3,6 +3,9 @@
 # `.env`, words that are no text, and standard output and error that are closed or full. `tests/check.sh PROGRAM` calls
 # another program. Without a word it is the one that `rt ci`, or `rt run` in crates/dotenvy_check, has built.
 # It takes a second or two. The last line is `N passed, M failed`.
+#
+# Dollars in single quotes belong to files and reports.
+# shellcheck disable=SC2016
 set -euo pipefail
 cd "$(dirname "$0")/.."
 umask 022
@@ -75,6 +78,9 @@ END
 cat >mentions.env <<'END'
 A=$CHECKED
 END
+cat >home.env <<'END'
+FILES=${HOME}/files
+END
 bad=$(fault bad.env 2 'two words' 4)$nl$(no_value bad.env 3 NOT)$nl
 bad+="bad.env:3: warning: the name 'NOT' ends before '_'; write \${NAME}$nl"
 mentions=$(no_value mentions.env 1 CHECKED)$nl
@@ -91,6 +97,8 @@ check_statuses() {
     check 'a warning with --strict' 1 "$mentions" ''
     CHECKED=1 call --strict mentions.env
     check 'a name of the environment has a value' 0 '' ''
+    HOME=/srv call --strict home.env
+    check 'so has one in braces, in the middle of a value' 0 '' ''
     CHECKED='' call --strict mentions.env
     check 'an empty one has a value' 0 '' ''
     CHECKED=$'\377' call mentions.env

@@ -1,7 +1,8 @@
 #!/bin/sh
-# Calls the program that runs this script with other words, and shows what each call prints and its status.
+# Calls a program with other words, and shows what each call prints and its status. The program is the first word of
+# this script, and without a word the one that runs the script.
 # Standard input is that of the stored run: the three lines of its file stdin.
-program=/proc/$PPID/exe
+program=${1-/proc/$PPID/exe}
 
 # The status of the call before, and what it wrote to the file faults.
 ended() {
