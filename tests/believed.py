@@ -1,46 +1,32 @@
 #!/usr/bin/env python3
-"""Finds the definitions on which the headline of docs/CONTRACTS.md rests, and compares them with docs/DEFINITIONS.md,
-which lists them file by file in the order in which to read them.
+"""Finds the definitions on which the headline of docs/CONTRACTS.md rests, and compares them with docs/DEFINITIONS.md.
 
-It begins with the words that the contracts of a few public calls and laws cite, and goes on with the words of their
-definitions. Words of std are not followed. It prints what the page has and the code has not, and the other way round,
-and ends with status 1 if there is anything. With --write it rewrites the sections of the page, in the order in which
-they are.
+It begins with the calls, types and laws that the headline's table names, collects the words that their contracts cite,
+and goes on with the words of their definitions. Words of std are not followed. The page has the definitions file by
+file, in the order in which to read them, and then each contract with the words that it cites. The script prints where
+page and code differ, and ends with status 1 if they do. With --write it rewrites the sections of the page, in order.
 """
 
+import functools
 import pathlib
 import re
 import sys
 
-TOP = pathlib.Path(__file__).resolve().parent.parent
-CRATES = TOP / "crates"
-PAGE = TOP / "docs" / "DEFINITIONS.md"
+from links import LINK
+from words import blocks, members, text_of, without_generics
 
-# The public calls and laws of the headline, by the file that has them.
-HEADLINE = {
-    "dotenvy_items/src/iter.rt": [
-        "next_item",
-        "load",
-        "load_override",
-        "load_rest",
-        "load_rest_override",
-        "from_read",
-        "from_read_override",
-    ],
-    "dotenvy_items/src/laws.rt": ["items_in_order", "cuts_do_not_matter", "lists_by_rule"],
-    "dotenvy_format/src/laws.rt": [
-        "loads_in_turn",
-        "reads_back",
-        "one_reading",
-        "one_meaning",
-        "one_outcome",
-        "one_next",
-    ],
-}
+TOP = pathlib.Path(__file__).resolve().parent.parent
+
+# Where the names of the table are looked for. Of the library the whole contract counts, and of the program's calls the
+# clauses that the table names.
+LIBRARY = ("dotenvy_base", "dotenvy_format", "dotenvy_lines", "dotenvy_items", "dotenvy")
+PROGRAM = ("dotenvy_command",)
 
 WORD = re.compile(r"[^\s(){}\[\],;.:λ∀→×⊎≡≢|↦]+")
 DEFINITION = re.compile(r"(?:abbrev |unfoldable )?pub (?:abbrev |unfoldable )?(record |data )?(\S+)")
-IMPORT = re.compile(r"^(?:pub |ghost )?use Rattle\.([\w.]+)(?:\.\{([^}]*)\})?(?: as (\w+))?;?$", re.M)
+SKIPPED = re.compile(r"pub (?:mod|use)\b")
+IMPORT = re.compile(r"^ *(?:pub |ghost )?use Rattle\.([\w.]+)(?:\.\{([^}]*)\})?(?: as (\w+))?;?$", re.M)
+CLAUSE = re.compile(r"\b(?:requires|ensures)(?: (\w+))? \{")
 
 
 class File:
@@ -50,9 +36,9 @@ class File:
         text = path.read_text(encoding="utf-8")
         self.lines = text.split("\n")
         self.imports, self.modules = imports_of(text)
-        self.places, self.owners = {}, {}
-        starts = [(found, number) for number, line in enumerate(self.lines) if (found := DEFINITION.match(line))]
-        starts = [(found, number) for found, number in starts if not found.string.startswith(("pub mod", "pub use"))]
+        self.places, self.owners, self.found = {}, {}, {}
+        matches = [(DEFINITION.match(line), number) for number, line in enumerate(self.lines)]
+        starts = [(found, number) for found, number in matches if found and not SKIPPED.match(found.string)]
         ends = [number for _, number in starts[1:]] + [len(self.lines)]
         for (found, start), end in zip(starts, ends):
             while not self.lines[end - 1].strip() or self.lines[end - 1].startswith("--"):
@@ -67,14 +53,29 @@ class File:
             for case in line.partition(" : ")[0].split() if " : " in line else []:
                 self.owners[case] = owner
 
-    def text(self, name):
-        """The text of a definition."""
-        start, end = self.places[name]
-        return "\n".join(self.lines[start:end])
+    def cited(self, files, module, name):
+        """The definitions that one of this file cites."""
+        if name not in self.found:
+            start, end = self.places[name]
+            text = "\n".join(self.lines[start:end])
+            self.found[name] = cited(files, text, module, self.imports, self.modules)
+        return self.found[name]
+
+
+class Root:
+    """What the table names: its name there, its contract, and where docs/CONTRACTS.md says it in words."""
+
+    def __init__(self, name, file, contract):
+        self.name, self.contract, self.place = name, contract, ""
+        self.imports, self.modules = imports_of(text_of(file))
+
+    def cited(self, files):
+        """The definitions that the contract cites."""
+        return cited(files, self.contract, None, self.imports, self.modules)
 
 
 def imports_of(text):
-    """The words that a file imports, each with its module and its name there; and the modules, by their short names."""
+    """The words that a file imports, each with its module and its name there; and the modules, by their names here."""
     words, modules = {}, {}
     for module, listed, short in IMPORT.findall(text):
         for word in filter(None, (each.strip() for each in listed.split(","))):
@@ -85,11 +86,11 @@ def imports_of(text):
     return words, modules
 
 
-def read_files():
+def read_files(top):
     """All files of definitions of the crates, by their modules."""
     found = {}
-    for path in sorted(CRATES.glob("*/specs/**/*.antt")):
-        module = ".".join(path.relative_to(CRATES).with_suffix("").parts)
+    for path in sorted((top / "crates").glob("*/specs/**/*.antt")):
+        module = ".".join(path.relative_to(top / "crates").with_suffix("").parts)
         found[module] = File(path)
     return found
 
@@ -97,6 +98,10 @@ def read_files():
 def resolved(files, word, module, imports):
     """The module and the name of the definition that a word means in a file, if it is one of ours."""
     module, word = imports.get(word, (module, word))
+    if module and module not in files:
+        # The library re-exports this file of another crate.
+        library, _, name = module.rpartition(".")
+        module = files[library + ".Lib"].modules.get(name) if library + ".Lib" in files else None
     file = files.get(module)
     if file is None:
         return None
@@ -115,77 +120,169 @@ def cited(files, text, module, imports, modules):
     return found - {None}
 
 
-def contract(lines, name):
-    """The contract of a function: what stands between its parameters and its body."""
-    start = next(number for number, line in enumerate(lines) if re.match(rf"\s*pub fn {name}\b", line))
-    end = next(number for number in range(start, len(lines)) if lines[number].strip() in ("{", "{}"))
-    return "\n".join(line for line in lines[start:end] if not line.strip().startswith("//"))
+def clauses(block, wanted=None):
+    """The clauses of a function, or those of them that are wanted."""
+    for found in CLAUSE.finditer(block):
+        end, depth = found.end(), 1
+        while depth:
+            depth += {"{": 1, "}": -1}.get(block[end], 0)
+            end += 1
+        if wanted is None or found.group(1) in wanted:
+            yield block[found.end():end - 1]
 
 
-def roots(files):
-    """The definitions that the contracts of the headline cite."""
-    found = set()
-    for path, names in HEADLINE.items():
-        text = (CRATES / path).read_text(encoding="utf-8")
-        imports, modules = imports_of(text)
-        for name in names:
-            found |= cited(files, contract(text.split("\n"), name), None, imports, modules)
-    return found
+def owner(block):
+    """The type or the trait whose members a block has, without its parameters: `&mut R` for a reference."""
+    head = re.sub(r"'\w+ ", "", without_generics(block.partition("{")[0]))
+    found = re.match(r"pub trait (\w+)|impl (?:[\w:]+ for )?([&\w ]+?)\s*$", head.partition("\n")[0].strip())
+    return found and (found.group(1) or found.group(2))
 
 
-def believed(files):
-    """Every definition on which those of the headline rest, by its module."""
-    seen, left = set(), roots(files)
+def is_method(member, name=r"\w+"):
+    """Whether a member of a block is a function with this name that users can call."""
+    return re.match(rf"(pub )?fn {name}\b", member) is not None
+
+
+def own_contracts(block):
+    """What the members of a block say to users: the contracts of its functions, and its own `ghost` lines."""
+    is_shown = block.startswith("pub trait") or " for " in block.partition("\n")[0]
+    for member in members(block):
+        if member.startswith("ghost") and not member.startswith("ghost use"):
+            yield member
+        elif is_method(member) and (is_shown or member.startswith("pub ")):
+            yield from clauses(member)
+
+
+@functools.cache
+def items_of(file):
+    """The items of a source file, without its comments."""
+    return list(blocks(text_of(file)))
+
+
+def contract_in(items, name, wanted):
+    """The contract of a function, a method, a type or a trait in these items of a file, or None if it isn't there."""
+    kind, _, method = name.rpartition("::")
+    if kind:
+        inside = [member for block in items if owner(block) == kind for member in members(block)]
+        functions = [member for member in inside if is_method(member, method)]
+    else:
+        functions = [block for block in items if re.match(rf"pub fn {name}\b", block)]
+    if functions:
+        return "\n".join(clauses(functions[0], wanted))
+    parts = [part for block in items if owner(block) == name for part in own_contracts(block)]
+    return "\n".join(parts) or None
+
+
+def root_of(top, name, wanted):
+    """What the table means by a name. Of a call of the program these clauses are wanted, of one of the library all."""
+    for crate in LIBRARY + PROGRAM:
+        for file in sorted((top / "crates" / crate / "src").glob("*.rt")):
+            contract = contract_in(items_of(file), name, wanted if crate in PROGRAM else None)
+            if contract is not None:
+                return Root(name, file, contract)
+    raise SystemExit(f"docs/CONTRACTS.md, The headline: there is no public {name}")
+
+
+def names_in(part):
+    """The names in a part of a cell, each with its link, if it is one."""
+    for text, place in LINK.findall(part):
+        yield from ((name, place) for name in re.findall("`([^`]+)`", text))
+    yield from ((name, "") for name in re.findall("`([^`]+)`", LINK.sub("", part)))
+
+
+def roots(top):
+    """The calls, types and laws that the headline's table names, in its order."""
+    page = (top / "docs" / "CONTRACTS.md").read_text(encoding="utf-8")
+    section = re.search(r"^## The headline\n(.*?)^## ", page, re.M | re.S).group(1)
+    found = {}
+    for cell in re.findall(r"^\|[^|]*\|([^|]*)\|$", section, re.M)[2:]:
+        for part in cell.split(";"):
+            named, calls = part.partition(" of ")[::2] if "clause" in part else ("", part)
+            for name, place in names_in(calls):
+                if name not in found:
+                    found[name] = root_of(top, name, re.findall(r"`(\w+)`", named))
+                found[name].place = found[name].place or place
+    return list(found.values())
+
+
+def believed(files, first):
+    """Every definition on which these ones rest, by its module."""
+    seen, left = set(), set(first)
     while left:
         module, name = left.pop()
         seen.add((module, name))
-        file = files[module]
-        left |= cited(files, file.text(name), module, file.imports, file.modules) - seen
+        left |= files[module].cited(files, module, name) - seen
     return seen
 
 
-def sections_of(files):
-    """What the page should say of each file: its link, its number of lines, its first line, and its words in order."""
+def sections_of(files, words):
+    """What the page should say of each file: its link and number of lines, its first line, and its words in order."""
     found = {}
-    for module, name in believed(files):
+    for module, name in words:
         found.setdefault(module, []).append((files[module].places[name], name))
     sections = {}
     for module, places in found.items():
         crate, *parts = module.split(".")
         path = "crates/" + crate + "/" + "/".join(parts) + ".antt"
-        words = ", ".join(f"`{name}`" for _, name in sorted(places))
+        names = ", ".join(f"`{name}`" for _, name in sorted(places))
         count = sum(end - start for (start, end), _ in places)
         head = files[module].lines[0].removeprefix("-- ")
-        sections[path] = f"### [`{parts[-1]}`](../{path}), {count} lines\n\n{head}\n\n{words}\n"
+        sections[path] = f"### [`{parts[-1]}`](../{path}), {count} lines\n\n{head}\n\n{names}\n"
     return sections
 
 
 SECTION = re.compile(r"^### \[[^\]]*\]\(\.\./([^)]*)\), \d+ lines\n.*?(?=\n#|\Z)", re.M | re.S)
+CONTRACTS = re.compile(r"(?<=^## The contracts\n\n)([^\n]*\n\n)(- .*?\n)(?=\n|\Z)", re.M | re.S)
 
 
-def rewritten(page, files, sections):
-    """The page with the sections of the code."""
-    text = SECTION.sub(lambda found: sections.get(found.group(1), found.group()), page)
-    words = sum(section.splitlines()[-1].count("`") // 2 for section in sections.values())
-    lines = sum(int(re.search(r"(\d+) lines", section).group(1)) for section in sections.values())
-    return re.sub(r"\d[\d,]* definitions of \d[\d,]* lines", f"{words:,} definitions of {lines:,} lines", text)
+def contract_lines(files, all_roots):
+    """What the page should say of each contract: its name, and the definitions that it cites, by name."""
+    for root in all_roots:
+        label = f"[`{root.name}`](CONTRACTS.md{root.place})" if root.place else f"`{root.name}`"
+        names = ", ".join(f"`{name}`" for name in sorted({name for _, name in root.cited(files)}, key=str.lower))
+        yield f"- {label}: {names or 'none'}\n"
+
+
+class Wanted:
+    """What the page should say of some roots."""
+
+    def __init__(self, files, all_roots):
+        words = believed(files, set().union(*(root.cited(files) for root in all_roots)))
+        self.sections = sections_of(files, words)
+        self.contracts = "".join(contract_lines(files, all_roots))
+        self.words = len(words)
+        self.lines = sum(int(re.search(r"(\d+) lines", section).group(1)) for section in self.sections.values())
+
+    def rewritten(self, page):
+        """The page with the sections of the code."""
+        text = SECTION.sub(lambda found: self.sections.get(found.group(1), found.group()), page)
+        text = CONTRACTS.sub(lambda found: found.group(1) + self.contracts, text)
+        sums = f"{self.words:,} definitions of {self.lines:,} lines"
+        return re.sub(r"\d[\d,]* definitions of \d[\d,]* lines", sums, text)
+
+    def faults(self, page):
+        """Where the page says something else than the code."""
+        listed = {found.group(1): found.group() for found in SECTION.finditer(page)}
+        yield from ("docs/DEFINITIONS.md lacks " + path for path in sorted(set(self.sections) - set(listed)))
+        yield from ("nothing of this file is believed: " + path for path in sorted(set(listed) - set(self.sections)))
+        for path, section in listed.items():
+            if path in self.sections and section.strip() != self.sections[path].strip():
+                yield "docs/DEFINITIONS.md says something else of " + path + "; --write mends it"
+        contracts = CONTRACTS.search(page)
+        if contracts is None or contracts.group(2) != self.contracts:
+            yield "docs/DEFINITIONS.md says something else of the contracts; --write mends it"
+        if not listed or self.rewritten(page) != page:
+            yield "docs/DEFINITIONS.md has other sections or sums; --write mends them"
 
 
 def main():
     """Compares, or writes."""
-    files = read_files()
-    page, sections = PAGE.read_text(encoding="utf-8"), sections_of(files)
+    wanted, path = Wanted(read_files(TOP), roots(TOP)), TOP / "docs" / "DEFINITIONS.md"
+    page = path.read_text(encoding="utf-8")
     if "--write" in sys.argv[1:]:
-        page = rewritten(page, files, sections)
-        PAGE.write_text(page, encoding="utf-8")
-    listed = {found.group(1): found.group() for found in SECTION.finditer(page)}
-    faults = ["docs/DEFINITIONS.md lacks " + path for path in sorted(set(sections) - set(listed))]
-    faults += ["nothing of this file is believed: " + path for path in sorted(set(listed) - set(sections))]
-    for path, section in listed.items():
-        if path in sections and section.strip() != sections[path].strip():
-            faults.append("docs/DEFINITIONS.md says something else of " + path + "; --write mends it")
-    if rewritten(page, files, sections) != page and not faults:
-        faults.append("docs/DEFINITIONS.md has other sums; --write mends them")
+        page = wanted.rewritten(page)
+        path.write_text(page, encoding="utf-8")
+    faults = list(wanted.faults(page))
     print("\n".join(faults), end="\n" if faults else "")
     if faults:
         sys.exit(1)

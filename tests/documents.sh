@@ -7,11 +7,11 @@
 #   crates/own_contracts, and so is each line beside one of the Rust crate;
 # - docs/LIBRARY.md has each public call with its signature, and the answers file of crates/own_contracts;
 # - docs/CONTRACTS.md has a contract of the code;
-# - docs/DEFINITIONS.md has the definitions on which the headline rests;
+# - docs/DEFINITIONS.md has the definitions on which the headline rests, and this is seen of each of its contracts;
 # - docs/CONTRACTS.md names rows and tests that exist where something is only tested;
 # - docs/speed.svg is the chart of the figures in bench/speed.tsv;
 # - each link of the pages leads to a file and a heading, and each page that is named is a link.
-# It takes a second or two, and no proof. The last line is `N passed, M failed`.
+# It takes a few seconds, and no proof. The last line is `N passed, M failed`.
 set -euo pipefail
 cd "$(dirname "$0")/.."
 room=$(mktemp -d)
@@ -160,7 +160,8 @@ done
 check "docs/LIBRARY.md, each line beside one of the Rust crate is in an example" has_lines_from_rust
 check "docs/LIBRARY.md has each public call with its signature" python3 tests/signatures.py
 check "docs/LIBRARY.md has the answers file of crates/own_contracts" has_answers
-check "docs/DEFINITIONS.md has what has to be believed, and no more" python3 tests/believed.py
+check "docs/DEFINITIONS.md has what has to be believed, and no more" python3 -B tests/believed.py
+check "that check sees what leaves the headline's table, or a contract of it" python3 -B tests/try_believed.py
 check "docs/CONTRACTS.md names rows and tests that exist" python3 tests/tested_by.py
 check "docs/speed.svg is the chart of bench/speed.tsv" has_chart
 check "each link of the pages leads somewhere" python3 tests/links.py
