@@ -4,8 +4,7 @@
 # another program. Without a word it is the one that `rt ci`, or `rt run` in crates/dotenvy_check, has built.
 # It takes a second or two. The last line is `N passed, M failed`.
 #
-# Dollars in single quotes belong to files and reports.
-# shellcheck disable=SC2016
+# shellcheck disable=SC2016 # dollars in single quotes belong to files and reports
 set -euo pipefail
 cd "$(dirname "$0")/.."
 umask 022
