@@ -5,7 +5,7 @@ use Rattle.std.proofs.lemmas.Bool.{cases_Bool}
 use Rattle.std.proofs.lemmas.List.{map-append}
 use Rattle.std.proofs.lemmas.List.Folds.{list_any-append}
 use Rattle.dotenvy_format.specs.Entries.{Entry, Declares, Fails}
-use Rattle.dotenvy_format.specs.Items.{LookUp, no_values, meaning, or_else, with_value}
+use Rattle.dotenvy_format.specs.Items.{LookUp, meaning, or_else, with_value}
 use Rattle.dotenvy_format.specs.Loads.{load_result, override_result}
 use Rattle.dotenvy_format.specs.Run.{Mode, Keep, Replace, Loaded, run, sets, has_nul, after_declaration}
 use Rattle.dotenvy_format.specs.Value.{Piece, Text, Name, LastBackslash as lone_backslash}
@@ -60,16 +60,18 @@ faults_met mode env remembered (Declares key pieces ∷ entries) =
           rw on (faults_met mode (after_declaration mode env key value) (with_value remembered key value) entries)
     ]
 
--- where a mode and a rule answer the same, the rule loads where no fault is found
-by_rule : (mode : Mode) (rule : LookUp → LookUp → List Entry → Loaded) (env : Names) (numbered : List (ℕ × Entry)) →
-    (run mode no_values no_values (unnumbered numbered)).answer
-    ≡ (rule no_values no_values (unnumbered numbered)).answer → LoadsIfNoFault rule env numbered
-by_rule mode rule env numbered same =
-    rw (found_faults env no_names numbered, ← same) (faults_met mode no_values no_values (unnumbered numbered))
+-- where a mode and a rule return the same, whatever the environment, the rule loads where no fault is found
+by_rule : (mode : Mode) (rule : LookUp → LookUp → List Entry → Loaded) (names : Names) (numbered : List (ℕ × Entry)) →
+    ((env remembered : LookUp) → (run mode env remembered (unnumbered numbered)).answer
+    ≡ (rule env remembered (unnumbered numbered)).answer) → LoadsIfNoFault rule names numbered
+by_rule mode rule names numbered same env remembered =
+    rw (found_faults names no_names numbered, ← same env remembered)
+    (faults_met mode env remembered (unnumbered numbered))
 
 -- no fault is found exactly where both loads return Ok, but for a NUL
 pub faults_stop_loads : FaultsStopLoads
-faults_stop_loads env numbered = (
-  by_rule Keep load_result env numbered (run-keep no_values no_values (unnumbered numbered)).answer,
-  by_rule Replace override_result env numbered (run-replace no_values no_values (unnumbered numbered)).answer,
+faults_stop_loads names numbered = (
+  by_rule Keep load_result names numbered (λ env remembered. (run-keep env remembered (unnumbered numbered)).answer),
+  by_rule Replace override_result names numbered
+      (λ env remembered. (run-replace env remembered (unnumbered numbered)).answer),
 )

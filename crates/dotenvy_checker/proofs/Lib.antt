@@ -4,3 +4,5 @@ mod KnownNames
 mod ReadLines
 mod CheckedReads
 mod FoundFaults
+mod NumberedEntries
+mod CheckedLoads

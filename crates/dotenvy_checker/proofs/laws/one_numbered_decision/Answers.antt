@@ -1,0 +1,5 @@
+use Rattle.dotenvy_checker.proofs.NumberedEntries.{one_numbered_decision}
+use Rattle.dotenvy_checker.proofs.laws.one_numbered_decision.Goals as goal
+
+pub returns : goal.returns
+returns c = one_numbered_decision
