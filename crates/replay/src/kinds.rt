@@ -4,7 +4,7 @@ use crate::answer::push_answer;
 use crate::scene::Scene;
 use crate::{
     check, check_run, command, cut, file, layers, notation, reads, refused, refused_call,
-    refused_reads, refused_words, rest, scene, search, used, written,
+    refused_reads, refused_words, rest, scene, search, stopped, used, written,
 };
 use anyhow::{Context, Result, bail};
 use comparison::{Comparison, differences};
@@ -39,6 +39,7 @@ fn play_library(
         "file" => file::play(answers, fields),
         "used" => used::play(answers, fields),
         "rest" => rest::play(answers, fields),
+        "stopped" => stopped::play(answers, fields),
         "written" => written::play_written(answers, fields),
         "pair" => written::play_pair(answers, fields),
         "list" => written::play_list(answers, fields),

@@ -23,6 +23,7 @@ mod rest;
 mod row;
 mod scene;
 mod search;
+mod stopped;
 mod used;
 mod words;
 mod written;

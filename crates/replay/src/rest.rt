@@ -28,8 +28,8 @@ struct Got {
     loaded: Vec<String>,
 }
 
-// One more load of what is left.
-fn load_rest(
+/// One more load of what is left.
+pub fn load_rest(
     file: &mut Iter<PlayedReader<'_>>,
     into: &mut Environment,
     replaces: bool,

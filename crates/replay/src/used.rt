@@ -10,6 +10,24 @@ use std::alloc::Global;
 use support::answers::{loaded, next_item};
 use support::reader::{Cut, PlayedReader, Step, steps};
 
+/// The items that are taken under this environment, and `none` where there is none.
+pub fn take_items(
+    alloc: Global,
+    entries: &mut Iter<PlayedReader<'_>>,
+    count: usize,
+    under: &str,
+) -> Result<Vec<String>> {
+    let under = environment(alloc, under)?;
+    let mut items = Vec::new(alloc);
+    for _ in 0..count {
+        items.push(match next_item(alloc, entries, &under)? {
+            Some(item) => item,
+            None => String::from_str(alloc, "none")?,
+        })?;
+    }
+    Ok(items)
+}
+
 // An iterator that was used.
 #[derive(Drop)]
 struct Used<'a> {
@@ -28,19 +46,6 @@ struct Got {
 }
 
 impl Used<'_> {
-    // The items that are taken, and `none` where there is none.
-    fn take(&self, alloc: Global, entries: &mut Iter<PlayedReader<'_>>) -> Result<Vec<String>> {
-        let under = environment(alloc, self.under)?;
-        let mut items = Vec::new(alloc);
-        for _ in 0..self.taken {
-            items.push(match next_item(alloc, entries, &under)? {
-                Some(item) => item,
-                None => String::from_str(alloc, "none")?,
-            })?;
-        }
-        Ok(items)
-    }
-
     // What a load of the rest answers and leaves.
     fn load(
         &self,
@@ -56,7 +61,7 @@ impl Used<'_> {
     fn play(&self, alloc: Global, cut: Cut, replaces: bool) -> Result<Got> {
         let reader = PlayedReader::new(&self.steps, cut);
         let mut entries = Iter::with_dialect(alloc, reader, self.dialect)?;
-        let items = self.take(alloc, &mut entries)?;
+        let items = take_items(alloc, &mut entries, self.taken, self.under)?;
         Ok(Got {
             items,
             load: self.load(alloc, entries, replaces)?,
