@@ -16,7 +16,6 @@
 //!
 //! - A reader is read whole before its first item, and what names in values mean is settled then.
 //! - A value with a NUL that would be set is [`Error::Nul`], where that crate panics.
-//! - There are no macros.
 //!
 //! Setting variables while other threads read them is as unsafe as it is with `std::env::set_var`: load before you
 //! start threads.
