@@ -1,0 +1,4 @@
+pub mod PieceLists
+pub mod Taken
+pub mod WholeReadings
+pub mod WrittenPieces
