@@ -44,11 +44,13 @@ IsRunFault (Usage usage) = ⊥
 IsRunFault (Load error) = Unit {0}
 IsRunFault (Start fault) = Unit {0}
 
--- a status, or an error of a start, is what came of the start of a command of these words, with some names set
-abbrev pub RunsCommand : {A : Type 0} → (Made → Result ExitStatus SystemError → Type 0) →
-    List (List ℕ) → Result ℕ (Failure A) → Type 0
-RunsCommand ends words (Ok status) = (names : Texts) × IsOfStart ends words names (Ok status)
-RunsCommand ends words (Err (Start fault)) =
-    (names : Texts) × IsOfStart ends words names (Err fault)
-RunsCommand ends words (Err (Usage usage)) = Unit {0}
-RunsCommand ends words (Err (Load error)) = Unit {0}
+-- a status, or an error of a start, is what came of the start of a command of these words, with
+-- names set that were loaded so
+abbrev pub RunsCommand : {A : Type 0} → (Texts → Type 0) →
+    (Made → Result ExitStatus SystemError → Type 0) → List (List ℕ) → Result ℕ (Failure A) → Type 0
+RunsCommand loads ends words (Ok status) =
+    (names : Texts) × loads names × IsOfStart ends words names (Ok status)
+RunsCommand loads ends words (Err (Start fault)) =
+    (names : Texts) × loads names × IsOfStart ends words names (Err fault)
+RunsCommand loads ends words (Err (Usage usage)) = Unit {0}
+RunsCommand loads ends words (Err (Load error)) = Unit {0}

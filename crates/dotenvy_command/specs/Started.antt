@@ -29,12 +29,16 @@ made_of command = record {
   variable = command_var command;
 }
 
+-- the command sets these names to their values, and no other
+abbrev pub SetsNames : Texts → Made → Type 0
+SetsNames names made = (name : List ℕ) → made.variable name ≡ option_map Some (fin.get names name)
+
 -- the command has these words, inherits what the process has, and sets these names to their values, and no other
 pub record IsMadeOf (words : List (List ℕ)) (names : Texts) (made : Made) : Type 0 where
   pub spelled : made.words ≡ words
   pub directory : made.directory ≡ None
   pub inherits : made.inherits_none ≡ false
-  pub sets : (name : List ℕ) → made.variable name ≡ option_map Some (fin.get names name)
+  pub sets : SetsNames names made
 
 -- the status is that of the command, or 1 if it has none
 abbrev pub EndsWith : Option ℤ → ℕ → Type 0

@@ -4,6 +4,7 @@
 pub mod command_line;
 pub mod failure;
 pub mod laws;
+pub mod loaded;
 pub mod prepared;
 pub mod process_words;
 pub mod run;

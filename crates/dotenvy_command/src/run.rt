@@ -10,15 +10,12 @@ ghost use Rattle.dotenvy_command.specs.Words.{CommandLine as Line, Usage as Refu
 
 use crate::command_line::{CommandLine, command_line};
 use crate::failure::{Failure, Usage};
+use crate::loaded::Loader;
 use crate::prepared::Starter;
 use crate::start::start;
-use dotenvy::{Dialect, Environment, Sink, Source};
+use dotenvy::{Dialect, Sink, Source};
 use dotenvy_items::written::list_lent;
-use env_layers::Layers;
 use std::alloc::{Alloc, Allocator};
-use std::env::Env;
-use std::fs::Files;
-use std::path::Path;
 
 /// Does what the words ask for, and returns the status to end with (docs/COMMAND.md).
 ///
@@ -26,7 +23,7 @@ use std::path::Path;
 /// `.env`, to the environment of the process, starts the command in that environment, and waits for its end.
 ///
 /// With the word `--list` and a reader of the lines `B=2`, `A=1` and `A=3` it writes the lines `A="1"` and `B="2"`.
-pub fn run<A: Allocator + Clone, R: Files + Env + Starter + Alloc<A = A>, S: Source, W: Sink>(
+pub fn run<A: Allocator + Clone, R: Loader<A> + Starter + Alloc<A = A>, S: Source, W: Sink>(
     rt: &R,
     words: &[String<A>],
     reader: &mut S,
@@ -53,9 +50,11 @@ pub fn run<A: Allocator + Clone, R: Files + Env + Starter + Alloc<A = A>, S: Sou
         → (IsEarly result ⊎ IfErr result IsRunFault)
         × (reader.new ≡ reader.old) × (writer.new ≡ writer.old) }
 
-    // Its status, or the error of its start, is that of the command that the words ask for.
+    // Its status, or the error of its start, is that of the command that the words ask for, in the environment that is
+    // loaded from the files that they name.
     ensures runs { (line : Line) → AsksCommand (texts words.now) line
-        → RunsCommand (R.ends rt.now) line.command result }
+        → RunsCommand (R.loads rt.now line.files line.dialect) (R.ends rt.now) line.command
+        result }
 {
     let line = command_line(rt.alloc(), words)?;
     if line.list {
@@ -81,35 +80,20 @@ fn list<A: Allocator + Clone, S: Source, W: Sink>(
 }
 
 // Starts the command of the line in the environment of its files. The line has to have a command.
-fn run_command<A: Allocator + Clone, R: Files + Env + Starter + Alloc<A = A>>(
+fn run_command<A: Allocator + Clone, R: Loader<A> + Starter + Alloc<A = A>>(
     rt: &R,
     line: &CommandLine<A>,
 ) -> Result<u8, Failure<A>>
     ensures fault { line.now.command.items ≢ [] → IfErr result IsRunFault }
-    ensures runs { RunsCommand (R.ends rt.now) (texts line.now.command.items) result }
+    ensures runs { RunsCommand (R.loads rt.now (texts line.now.files.items) line.now.dialect)
+        (R.ends rt.now) (texts line.now.command.items) result }
 {
     let Some((program, arguments)) = line.command.split_first() else {
         return Err(Failure::Usage(Usage::MissingCommand));
     };
-    let env = loaded(rt, line.files.as_slice(), line.dialect)?;
+    let env = rt.load(line.files.as_slice(), line.dialect)?;
     match start(rt, program.as_str(), arguments, &env) {
         Ok(status) => Ok(status),
         Err(fault) => Err(Failure::Start(fault)),
     }
-}
-
-// The environment of the process, plus the names of each file, or of `.env`. A name that has a value keeps it.
-fn loaded<A: Allocator + Clone, R: Files + Env + Alloc<A = A>>(
-    rt: &R,
-    files: &[String<A>],
-    dialect: Dialect,
-) -> dotenvy::Result<Environment<A>, A> {
-    let mut layers = Layers::new(Environment::from_process(rt)?);
-    if files.is_empty() {
-        layers.add_file(rt, Path::new(".env"), dialect)?;
-    }
-    'files: for file in files {
-        layers.add_file(rt, Path::new(file.as_str()), dialect)?;
-    }
-    Ok(layers.into_environment())
 }

@@ -1,4 +1,5 @@
 pub mod PieceLists
+pub mod ScriptRuns
 pub mod Taken
 pub mod WholeReadings
 pub mod WrittenPieces

@@ -1,4 +1,5 @@
 pub mod Pieces
 pub mod Readings
+pub mod Scripts
 pub mod Turns
 pub mod Writings

@@ -6,4 +6,5 @@
 pub mod readings;
 pub mod sink;
 pub mod source;
+pub mod starts;
 pub mod written;
