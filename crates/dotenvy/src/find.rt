@@ -1,5 +1,6 @@
 //! A file found in the current directory or above it, opened.
 ghost use Rattle.std.specs.Prelude.{◌≡◌, IfErr, IfOk, None};
+ghost use Rattle.std.specs.Fs.{file_type, IsFile};
 ghost use Rattle.std.specs.Path.{path_bytes, path_buf_bytes};
 ghost use Rattle.dotenvy_base.specs.Errors.{IsFileFault, IsSystemFault};
 ghost use Rattle.dotenvy_base.specs.Find.{IsPathOf};
@@ -14,7 +15,7 @@ use dotenvy_format::dialect::Dialect;
 use dotenvy_items::iter::Iter;
 use std::alloc::{Alloc, Allocator};
 use std::env::Env;
-use std::fs::{File, Files};
+use std::fs::{File, Files, Metadata};
 use std::io::ErrorKind;
 use std::path::{Path, PathBuf};
 use std::{env, fs, io};
@@ -141,7 +142,17 @@ pub(crate) fn open<A: Allocator, R: Files>(rt: &R, path: Path<'_>) -> Result<Pla
 
 // What the file system says of a path. Links are followed.
 fn look_at<R: Files>(rt: &R, path: Path<'_>) -> Look {
-    match fs::metadata(rt, path) {
+    look_of(fs::metadata(rt, path))
+}
+
+// What an answer of the file system says. Only a regular file is a file, whatever else is known of it, and a fault is
+// told as it came: which faults end a search is for the search.
+fn look_of(answer: io::Result<Metadata>) -> Look
+    ensures file { IfOk answer (λ found. IsFile (file_type found) → result ≡ Look.File) }
+    ensures other { IfOk answer (λ found. ¬ (IsFile (file_type found)) → result ≡ Look.Other) }
+    ensures fault { IfErr answer (λ fault. result ≡ Look.Fault fault) }
+{
+    match answer {
         Ok(found) if found.is_file() => Look::File,
         Ok(_) => Look::Other,
         Err(fault) => Look::Fault(fault),

@@ -1,15 +1,13 @@
 -- What a call of `add` adds: a load that was accepted, one that was refused, or nothing for want of memory.
 use Rattle.std.proofs.Common.{◌≡◌, [], ◌∷◌, Option, Some, None, Err, refl, sym, inl, inr}
-use Rattle.dotenvy.specs.Dialect.TheVariants.{V15}
 use Rattle.dotenvy.specs.Error.{Error}
 use Rattle.dotenvy.specs.Entries.{Fails, Memory}
 use Rattle.dotenvy.specs.Environment.{Texts}
 use Rattle.dotenvy.specs.Errors.{IsMemory}
 use Rattle.dotenvy.specs.Items.{LookUp}
-use Rattle.dotenvy.specs.Iter.{fresh}
+use Rattle.dotenvy.specs.Iter.{IterState}
 use Rattle.dotenvy.specs.LoadsRest.{Leaves}
 use Rattle.dotenvy.specs.Meaning.{values_of, recalled_of}
-use Rattle.dotenvy.specs.Source.{Told}
 use Rattle.std.specs.Option.{option_or}
 use Rattle.env_layers.specs.declared.layers.Mode.{Mode}
 use Rattle.env_layers.specs.declared.layers.Mode.TheVariants.{Keep, Override}
@@ -28,14 +26,14 @@ left_by_none Keep old remembered error is =
 left_by_none Override old remembered error is = record { values = λ name. refl; is_answer = is }
 
 -- a call that is refused memory adds nothing
-pub adds_none : {A : Type 0} (mode : Mode) (told : Told) (old : Texts) (error : Error A) → IsMemory error →
-    AddsLayer mode told old (Err error) old
-adds_none mode told old error is = record {
+pub adds_none : {A : Type 0} (mode : Mode) (file : IterState) (old : Texts) (error : Error A) → IsMemory error →
+    AddsLayer mode file old (Err error) old
+adds_none mode file old error is = record {
   loaded = old;
   loads = λ a is_left entries left. (
     Fails Memory ∷ [],
     inr (inl (record { front = []; back = entries; cut = refl; ends = refl })),
-    left_by_none mode old (recalled_of (fresh told V15).remembered) error is,
+    left_by_none mode old (recalled_of file.remembered) error is,
   );
   stands = refl;
 }

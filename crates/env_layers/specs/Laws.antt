@@ -9,6 +9,7 @@ use Rattle.dotenvy.specs.Environment.{Texts}
 use Rattle.dotenvy.specs.Errors.{IsMemoryErr}
 use Rattle.dotenvy.specs.Input.{most_reads}
 use Rattle.dotenvy.specs.Items.{LookUp, no_values}
+use Rattle.dotenvy.specs.Iter.{fresh}
 use Rattle.dotenvy.specs.Marks.{without_mark}
 use Rattle.dotenvy.specs.Meaning.{values_of}
 use Rattle.dotenvy.specs.Run.{Loaded}
@@ -31,7 +32,7 @@ pub record Adds (A : Type 0) (old : Texts) (layer : Layer) (new : Texts) : Type 
   pub answer : Result (Unit {0}) (Error A)
   pub told : Told
   pub tells : TellsAll told layer.bytes
-  pub adds : AddsLayer layer.mode told old answer new
+  pub adds : AddsLayer layer.mode (fresh told V15) old answer new
   pub few : length layer.bytes < most_reads
   pub not_refused : ¬ (IsMemoryErr answer)
   pub accepted : layer.accepted ≡ is_ok answer

@@ -5,12 +5,13 @@ ghost use Rattle.std.specs.List.{list_all};
 ghost use Rattle.std.specs.Path.{path_bytes, path_buf_bytes};
 ghost use Rattle.dotenvy.specs.Environment.{KeepsNames};
 ghost use Rattle.dotenvy.specs.Find.{IsPathOf};
+ghost use Rattle.dotenvy.specs.Iter.{fresh, IsOpen};
 ghost use Rattle.dotenvy.specs.LoadsRest.{ChangesOnlyKeys, OnlyAdds};
 ghost use Rattle.env_layers.specs.Layers.{AddsLayer};
 ghost use Rattle.env_layers.specs.Missing.{absent_names, lent_texts, AnswersRequire, HoldsTexts};
 
 use crate::missing::Missing;
-use dotenvy::{Dialect, Environment, Result, Source, from_read, from_read_override, open_filename};
+use dotenvy::{Dialect, Environment, Iter, Result, Source, open_filename};
 use std::alloc::{Alloc, AllocError, Allocator, Global};
 use std::env::Env;
 use std::fs::Files;
@@ -88,18 +89,13 @@ impl<A: Allocator + Clone> Layers<A> {
     /// layers.add(alloc, Bytes::new(b"HOST=db.local\n"), Mode::Override)?;
     /// ```
     pub fn add<R: Source + Drop>(&mut self, alloc: A, reader: R, mode: Mode) -> Result<(), A>
-        ensures told { AddsLayer mode (R.told reader) self.old.names result self.new.names }
+        ensures told { AddsLayer mode (fresh (R.told reader) Dialect.V15)
+            self.old.names result self.new.names }
         ensures refused { OnErr result (self.new ≡ self.old) }
         ensures keeps { mode ≡ Mode.Keep → KeepsNames self.old.names self.new.names }
         ensures changes { ChangesOnlyKeys self.old self.new }
     {
-        let mut layered = self.env.try_clone()?;
-        match mode {
-            Mode::Keep => from_read(alloc, reader, &mut layered)?,
-            Mode::Override => from_read_override(alloc, reader, &mut layered)?,
-        }
-        self.env = layered;
-        Ok(())
+        self.add_rest(Iter::new(alloc, reader)?, mode)
     }
 
     /// Searches for the file of a name in the current directory and in those above it, and adds it as a layer: a name
@@ -140,14 +136,26 @@ impl<A: Allocator + Clone> Layers<A> {
         ensures keeps { mode ≡ Mode.Keep → KeepsNames self.old.names self.new.names }
         ensures changes { ChangesOnlyKeys self.old self.new }
     {
-        let mut copy = self.env.try_clone()?;
         let (path, file) = open_filename(rt, filename, dialect)?;
-        match mode {
-            Mode::Keep => file.load(&mut copy)?,
-            Mode::Override => file.load_override(&mut copy)?,
-        }
-        self.env = copy;
+        self.add_rest(file, mode)?;
         Ok(path)
+    }
+
+    // Adds what an iterator has left as a layer: all of it, or nothing where the load of it stops.
+    fn add_rest<R: Source + Drop>(&mut self, file: Iter<R, A>, mode: Mode) -> Result<(), A>
+        requires { IsOpen file }
+        ensures told { AddsLayer mode file self.old.names result self.new.names }
+        ensures refused { OnErr result (self.new ≡ self.old) }
+        ensures keeps { mode ≡ Mode.Keep → KeepsNames self.old.names self.new.names }
+        ensures changes { ChangesOnlyKeys self.old self.new }
+    {
+        let mut layered = self.env.try_clone()?;
+        match mode {
+            Mode::Keep => file.load(&mut layered)?,
+            Mode::Override => file.load_override(&mut layered)?,
+        }
+        self.env = layered;
+        Ok(())
     }
 
     /// Whether each of these names has a value, be it the empty one. It takes no memory where each has.
