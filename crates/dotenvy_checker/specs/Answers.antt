@@ -1,11 +1,14 @@
 -- What the code returns for words, and how a run ends.
-use Rattle.std.specs.Prelude.{ℕ, ◌≡◌, ◌++◌, List, map, find, Option, Some, None, Result, Ok, Err}
+use Rattle.std.specs.Prelude.{ℕ, ◌≡◌, ◌++◌, Bool, true, List, map, find, Option, Some, None}
+use Rattle.std.specs.Prelude.{Result, Ok, Err}
 use Rattle.std.specs.Prelude.{codes, string_bytes}
 use Rattle.std.specs.Option.{option_map}
 use Rattle.std.specs.declared.string.String.{String}
 use Rattle.dotenvy_base.specs.Errors.{error_text}
 use Rattle.dotenvy_checker.specs.declared.failure.Failure.{Failure}
 use Rattle.dotenvy_checker.specs.declared.failure.Failure.TheVariants.{UnknownOption, Write, Memory}
+use Rattle.dotenvy_checker.specs.declared.failure.Stop.{Stop}
+use Rattle.dotenvy_checker.specs.declared.failure.Stop.TheVariants as stop
 use Rattle.dotenvy_checker.specs.declared.words.Words.{Words}
 use Rattle.dotenvy_checker.specs.Words.{Asked, asked_of, is_unknown}
 
@@ -43,6 +46,13 @@ abbrev pub IsMemoryFailure : {A : Type 0} → Failure A → Type 0
 IsMemoryFailure (UnknownOption word) = ⊥
 IsMemoryFailure (Write error) = ⊥
 IsMemoryFailure (Memory refused) = Unit {0}
+
+-- what a check that stopped comes to: a file that could not be read has a fault, and a report that could not be written
+-- ends the run
+abbrev pub CountsStop : {A : Type 0} → Stop A → Result (Unit {0}) (Failure A) → Bool → Type 0
+CountsStop (stop.Read error) result faults = faults ≡ true
+CountsStop (stop.Write error) result faults = result ≡ Err (Write error)
+CountsStop (stop.Memory refused) result faults = faults ≡ true
 
 -- what is printed of a failure; nothing is said of an error whose own text is not specified
 abbrev pub failure_text : {A : Type 0} → Failure A → Option (List ℕ)

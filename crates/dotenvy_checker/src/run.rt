@@ -1,7 +1,11 @@
 //! What the program does once it has its words, over any writer and runtime.
 
-ghost use Rattle.std.specs.Prelude.{◌≡◌, ◌<◌, true, find, IfErr, IfOk, IfSome, IsErrAnd, None};
-ghost use Rattle.dotenvy_checker.specs.Answers.{texts, IsOfWord, IsOfWords};
+ghost use Rattle.std.specs.Prelude.{◌≡◌, ◌<◌, ◌||◌, true, find, Err, IfErr, IfOk, IfSome};
+ghost use Rattle.std.specs.Prelude.{IsErrAnd, None, Ok, OnErr, OnOk};
+ghost use Rattle.dotenvy_base.specs.Errors.{IsMemory, or_memory};
+ghost use Rattle.dotenvy_base.specs.Source.{nothing_told};
+ghost use Rattle.dotenvy_items.specs.Iter.{fresh};
+ghost use Rattle.dotenvy_checker.specs.Answers.{texts, CountsStop, IsOfWord, IsOfWords};
 ghost use Rattle.dotenvy_checker.specs.Words.{is_unknown};
 
 use crate::check::{Found, check};
@@ -14,6 +18,8 @@ use dotenvy_base::output::{MOST_WRITES, write_all};
 use std::alloc::{Alloc, AllocError, Allocator};
 use std::env::Env;
 use std::fs::{File, Files};
+use std::io;
+use std::io::Read;
 use std::path::Path;
 
 /// Checks each file that the words name, in order, or `.env`, and returns the status to end with: 0 if no file has a
@@ -73,8 +79,21 @@ fn open<A: Allocator + Clone, R: Files + Alloc<A = A>>(
     path: Path<'_>,
     dialect: Dialect,
 ) -> dotenvy::Result<Iter<Plain<R::File>, A>, A> {
-    match File::open(rt, path) {
-        Ok(file) => Iter::with_dialect(rt.alloc(), Plain::new(file), dialect),
+    opened(rt.alloc(), File::open(rt, path), dialect)
+}
+
+// An iterator over the file that an opening gave, or why there is none: each fault of an opening is one.
+fn opened<F: Read + Drop, A: Allocator + Clone>(
+    alloc: A,
+    answer: io::Result<F>,
+    dialect: Dialect,
+) -> dotenvy::Result<Iter<Plain<F>, A>, A>
+    ensures file { IfOk result (λ file. file ≡ fresh nothing_told dialect) }
+    ensures memory { OnOk answer (IfErr result IsMemory) }
+    ensures fault { IfErr answer (λ fault. result ≡ Err (or_memory (Error.Io fault))) }
+{
+    match answer {
+        Ok(file) => Iter::with_dialect(alloc, Plain::new(file), dialect),
         Err(fault) => Err(or_memory(Error::Io(fault))),
     }
 }
@@ -107,19 +126,33 @@ impl<'a, A: Allocator + Clone, W: Sink> CheckedFiles<'a, A, W> {
         }
     }
 
-    // Checks a file, if it could be opened.
+    // Checks a file, if it could be opened. One that could not counts as a fault.
     fn check<R: Source + Drop>(
         &mut self,
         name: &str,
         file: dotenvy::Result<Iter<R, A>, A>,
     ) -> Result<(), Failure<A>>
-        ensures { IfErr result (λ failure. ¬ (IsOfWords failure)) }
+        ensures unopened { OnErr file (self.new.found.faults ≡ true) }
+        ensures error { IfErr result (λ failure. ¬ (IsOfWords failure)) }
     {
-        let file = match file {
-            Ok(file) => file,
-            Err(error) => return self.say_unread(name, &error),
+        let checked = match file {
+            Ok(file) => check(file, name, &self.env, self.writer),
+            Err(error) => Err(Stop::Read(error)),
         };
-        match check(file, name, &self.env, self.writer) {
+        self.count(name, checked)
+    }
+
+    // Counts what was found in a file. Each fault of reading it is a fault of the file, and is written.
+    fn count(&mut self, name: &str, checked: Result<Found, Stop<A>>) -> Result<(), Failure<A>>
+        ensures ok { OnOk checked (result ≡ Ok tt) }
+        ensures found { IfOk checked (λ found. self.new.found ≡ record {
+          faults = self.old.found.faults || found.faults;
+          warnings = self.old.found.warnings || found.warnings;
+        }) }
+        ensures stopped { IfErr checked (λ stop. CountsStop stop result self.new.found.faults) }
+        ensures error { IfErr result (λ failure. ¬ (IsOfWords failure)) }
+    {
+        match checked {
             Ok(found) => self.found = self.found.and(found),
             Err(Stop::Read(fault)) => self.say_unread(name, &fault)?,
             Err(Stop::Memory(refused)) => self.say_unread(name, &Error::Memory(refused))?,
