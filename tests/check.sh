@@ -2,7 +2,7 @@
 # Calls the built program dotenvy_check on real files: ones that can't be opened or read, a FIFO, links, the search for
 # `.env`, words that are no text, and standard output and error that are closed or full. `tests/check.sh PROGRAM` calls
 # another program. Without a word it is the one that `rt ci`, or `rt run` in crates/dotenvy_check, has built.
-# It takes a second or two. The last line is `N passed, M failed`.
+# It takes a few seconds. The last line is `N passed, M failed`.
 #
 # shellcheck disable=SC2016 # dollars in single quotes belong to files and reports
 set -euo pipefail
@@ -126,6 +126,32 @@ check_words() {
     check 'a file without a name' 1 "$(unread '' 'No such file or directory (os error 2)')$nl" ''
     call ./-x
     check 'a file whose name begins with a dash' 1 "$(unread ./-x 'No such file or directory (os error 2)')$nl" ''
+    local number all=
+    for number in $(seq 300); do
+        all+=$(unread "absent$number.env" 'No such file or directory (os error 2)')$nl
+    done
+    # Each number is a word of its own.
+    # shellcheck disable=SC2046
+    call $(seq 300 | sed 's/.*/absent&.env/')
+    check 'three hundred files' 1 "$all" ''
+}
+
+# Calls the program with twenty thousand names in its environment.
+call_with_many_names() (
+    local number
+    for number in $(seq 20000); do
+        export "CHECKED$number=1"
+    done
+    status=0
+    "$program" "$@" >"$room/output" 2>"$room/errors" || status=$?
+    exit "$status"
+)
+
+check_many_names() {
+    printf 'A=$CHECKED1$CHECKED20000\nB=$CHECKED\n' >many_names.env
+    status=0
+    call_with_many_names many_names.env || status=$?
+    check 'names of a large environment have values' 0 "$(no_value many_names.env 2 CHECKED)$nl" ''
 }
 
 # Checks a file between two others, which are checked all the same.
@@ -175,9 +201,9 @@ check_streams() {
     check 'standard input by its name' 1 "${bad//bad.env//dev/stdin}" ''
     call bad.env <&-
     check 'closed standard input' 1 "$bad" ''
-    seq 5000 | sed 's/.*/A/' >many.env
+    seq 20000 | sed 's/.*/A/' >many.env
     call many.env
-    check 'faults on 5000 lines' 1 "$(seq 5000 | sed "s/.*/many.env:&: error: Error parsing line: 'A', error at line index: 1/")$nl" ''
+    check 'faults on 20000 lines' 1 "$(seq 20000 | sed "s/.*/many.env:&: error: Error parsing line: 'A', error at line index: 1/")$nl" ''
 }
 
 # The search begins in the current directory.
@@ -236,6 +262,7 @@ check_outputs() {
 
 check_statuses
 check_words
+check_many_names
 check_files
 check_streams
 check_search

@@ -331,6 +331,57 @@ static void print_layout(void) {
     printf("\n");
 }
 
+/* Twenty thousand names in a file of over a megabyte, and as many others in a block of over 64 kilobytes. */
+enum { NAMES = 20000, VALUE = 60, LINE = 7 + VALUE + 1, TEXT = 6 + VALUE, ENTRY = 9 };
+
+/* A name of a letter and five digits. */
+static void put_name(uint8_t *at, char letter, unsigned number) {
+    at[0] = (uint8_t)letter;
+    for (size_t place = 5; place > 0; place--, number /= 10) at[place] = (uint8_t)('0' + number % 10);
+}
+
+/* The lines of the file, each with this byte at its end, and the keys and values that they stand for. */
+static void put_lines(uint8_t *file, uint8_t *texts, uint8_t end) {
+    memset(file, 'v', NAMES * LINE);
+    memset(texts, 'v', NAMES * TEXT);
+    for (size_t i = 0; i < NAMES; i++) {
+        put_name(file + i * LINE, 'N', 10000 + (unsigned)i);
+        file[i * LINE + 6] = '=';
+        file[i * LINE + LINE - 1] = end;
+        put_name(texts + i * TEXT, 'N', 10000 + (unsigned)i);
+    }
+}
+
+static void test_many_names(void) {
+    size_t left_len = NAMES * (ENTRY + LINE);
+    uint8_t *file = malloc(NAMES * LINE), *texts = malloc(NAMES * TEXT), *block = malloc(NAMES * ENTRY);
+    uint8_t *left = malloc(left_len);
+    struct dotenvy_item *all = malloc(NAMES * sizeof *all);
+    put_lines(file, texts, '\n');
+    for (size_t i = 0; i < NAMES; i++) {
+        memcpy(block + i * ENTRY, "M00000=v", ENTRY);
+        put_name(block + i * ENTRY, 'M', 10000 + (unsigned)i);
+    }
+
+    struct dotenvy_counts counts =
+        dotenvy_items(file, NAMES * LINE, block, NAMES * ENTRY, 0, all, NAMES, left, NAMES * TEXT);
+    CHECK(counts.status == DOTENVY_OK && counts.fits && counts.items == NAMES && counts.text_len == NAMES * TEXT);
+    CHECK(memcmp(left, texts, NAMES * TEXT) == 0);
+    CHECK(all[NAMES - 1].status == DOTENVY_OK && all[NAMES - 1].key_at == (NAMES - 1) * TEXT
+          && all[NAMES - 1].key_len == 6 && all[NAMES - 1].text_len == VALUE && all[NAMES - 1].last_line == NAMES);
+
+    struct dotenvy_answer a = dotenvy_load(file, NAMES * LINE, block, NAMES * ENTRY, 0, left, left_len);
+    CHECK(a.status == DOTENVY_OK && a.fits && a.block_len == left_len && a.text_len == 0);
+    put_lines(file, texts, '\0');
+    CHECK(memcmp(left, block, NAMES * ENTRY) == 0 && memcmp(left + NAMES * ENTRY, file, NAMES * LINE) == 0);
+    CHECK(blocks == 0);
+    free(file);
+    free(texts);
+    free(block);
+    free(left);
+    free(all);
+}
+
 int main(int argc, char **argv) {
     if (argc == 2 && strcmp(argv[1], "layout") == 0) {
         print_layout();
@@ -341,6 +392,7 @@ int main(int argc, char **argv) {
     test_refused_options();
     test_items();
     test_refused_memory();
+    test_many_names();
     test_layout_of_archive();
     CHECK(blocks == 0);
     printf("%u passed, %u failed\n", passed, failed);

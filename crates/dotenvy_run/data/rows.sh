@@ -68,7 +68,7 @@ PATH=/bin:/usr/bin row ' --list'
 
 # Many words, of which only what comes of them is shown.
 # shellcheck disable=SC2016 # the shell that the program starts expands it
-row sh -c 'echo "$# $1 ${5000}"' sh $(seq 5000) | tail -n 2
+row sh -c 'echo "$# $1 ${5000}, beside $(ls rows.sh)"' sh $(seq 5000) | tail -n 2
 (
     for _ in $(seq 300); do
         set -- "$@" -ffirst.env
@@ -196,6 +196,16 @@ for output in '>&-' '>/dev/full'; do
         ended
     done
 done
+
+# The reader of standard output goes, while the list is longer than a pipe holds.
+echo '> --list, whose reader goes'
+seq 30000 | sed 's/.*/A&=1/' | { "$program" --list 2>faults; ended >ending; } | :
+cat ending
+
+# A text of more than 2,000 bytes is printed whole.
+echo '> - and 2000 zeros'
+"$program" "-$(printf '%02000d' 0)" 2>faults
+ended | sed "s/0\{2000\}'\$/(2000 zeros)'/"
 
 # Standard error that is closed, or full: the text is lost, and the status tells that there was a fault.
 mute() {
