@@ -1,9 +1,8 @@
 -- What was written of pairs comes back, over any source that tells it.
-use Rattle.std.proofs.Common.{◌≡◌, ◌∙◌, ◌<◌, ℕ, true, false, cond, List, [], ◌∷◌, ◌++◌, length, map, refl, sym, ap, arith}
+use Rattle.std.proofs.Common.{◌≡◌, ◌<◌, ℕ, true, false, cond, List, [], ◌∷◌, ◌++◌, map, refl, arith}
 use Rattle.std.proofs.Common.{append-nil, append_assoc}
-use Rattle.std.specs.Prelude.{Some, None, Result, Ok, Err, IsTrue, ◌==◌, ◌≢◌, nat_eq}
-use Rattle.std.specs.List.{list_all, starts_with}
-use Rattle.std.specs.Str.{encode_utf8_all}
+use Rattle.std.specs.Prelude.{None, Err, nat_eq}
+use Rattle.std.specs.List.{list_all}
 use Rattle.std.specs.FinMap as fin
 use Rattle.std.specs.declared.io.ErrorKind.TheVariants.{Interrupted}
 use Rattle.std.proofs.lemmas.Bool.{and_parts}
@@ -12,23 +11,22 @@ use Rattle.std.proofs.lemmas.Option.{none-some}
 use Rattle.std.proofs.lemmas.Str.{encodes-append, encode_ascii}
 use Rattle.dotenvy_format.specs.declared.dialect.Dialect.{Dialect}
 use Rattle.dotenvy_format.specs.Characters.{begins_key, continues_key}
-use Rattle.dotenvy_format.specs.Entries.{Entry, Nul, HasEntries}
-use Rattle.dotenvy_format.specs.Items.{LookUp, items}
-use Rattle.dotenvy_format.specs.Loads.{Declared, declared_from, last_value, override_look_up, override_result}
-use Rattle.dotenvy_format.specs.Marks.{byte_order_mark, without_mark}
+use Rattle.dotenvy_format.specs.Entries.{Nul, HasEntries}
+use Rattle.dotenvy_format.specs.Items.{LookUp}
+use Rattle.dotenvy_format.specs.Loads.{Declared, declared_from, override_look_up, override_result}
+use Rattle.dotenvy_format.specs.Marks.{without_mark}
 use Rattle.dotenvy_format.specs.Run.{has_nul}
 use Rattle.dotenvy_format.specs.Written.{AreWritable, written_bytes, written_pair, written_text}
 use Rattle.dotenvy_format.proofs.lines.EntriesOnce.{reads_back_once}
-use Rattle.dotenvy_format.proofs.writing.ReadBack.{character_pieces, meaning-characters}
+use Rattle.dotenvy_format.proofs.writing.ReadBack.{meaning-characters}
 use Rattle.dotenvy_format.proofs.writing.ReadBackLines.{AreKeys, pair_entry, written_entries}
 use Rattle.dotenvy_format.proofs.writing.WrittenTexts.{keys_of, written_scalars}
 use Rattle.dotenvy_base.specs.Source.{Ahead, Told}
-use Rattle.dotenvy_lines.specs.Input.{most_reads}
 use Rattle.dotenvy_items.specs.Iteration.{IsReadable}
 use Rattle.dotenvy_items.specs.Meaning.{values_of, recalled_of}
 use Rattle.dotenvy_items.proofs.Iterations.{items_in_order}
 use Rattle.dotenvy_items.proofs.WholeLoads.{fresh_takes_all, override_takes_all}
-use Rattle.dotenvy.specs.Laws.{GivesWritten, LoadsWritten, TellsWritten, until_nul, with_last_values, written_in_turn}
+use Rattle.dotenvy.specs.Laws.{GivesWritten, LoadsWritten, TellsWritten, until_nul, written_in_turn}
 
 -- pairs that are written one after the other are written as all of them at once
 in_turn : (pairs : List (List ℕ × List ℕ)) → written_in_turn pairs ≡ written_bytes pairs

@@ -10,7 +10,7 @@ use Rattle.dotenvy.specs.Environment.{Texts}
 use Rattle.dotenvy_command.specs.declared.failure.Failure.{Failure}
 use Rattle.dotenvy_command.specs.declared.failure.Failure.TheVariants.{Usage, Load, Start}
 use Rattle.dotenvy_command.specs.Ends.{RunsCommand}
-use Rattle.dotenvy_command.specs.Started.{EndsWith, IsMadeOf, Made, SetsNames}
+use Rattle.dotenvy_command.specs.Started.{EndsWith, Made, SetsNames}
 use Rattle.witnesses.specs.Scripts.{EndsByScript, IsChosen, RunsByScript}
 
 -- what a command is given is what its environment has

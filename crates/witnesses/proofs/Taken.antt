@@ -1,5 +1,5 @@
 -- The items that were taken so far, and those of a whole source.
-use Rattle.std.proofs.Common.{◌≡◌, List, [], ◌∷◌, ◌++◌, refl, sym}
+use Rattle.std.proofs.Common.{◌≡◌, List, [], ◌∷◌, ◌++◌, refl}
 use Rattle.std.specs.Prelude.{Some, None}
 use Rattle.dotenvy.specs.Environment.{Texts}
 use Rattle.dotenvy.specs.Errors.{IsMemoryErr}

@@ -1,6 +1,6 @@
 -- A source of pieces, read or loaded by a fresh iterator to its end or its fault.
-use Rattle.std.proofs.Common.{◌≡◌, ℕ, List, [], arith, refl}
-use Rattle.std.specs.Prelude.{Option, Some, None, Result}
+use Rattle.std.proofs.Common.{◌≡◌, List, arith, refl}
+use Rattle.std.specs.Prelude.{Result}
 use Rattle.std.specs.FinMap as fin
 use Rattle.dotenvy.specs.Dialect.{Dialect}
 use Rattle.dotenvy.specs.Environment.{Texts}
@@ -10,7 +10,7 @@ use Rattle.dotenvy.specs.Iteration.{CanRead, GivesItems, IsReadable, NoneRefused
 use Rattle.dotenvy.specs.Laws.{ItemsInOrder, LoadsAllLeft}
 use Rattle.dotenvy.specs.LoadsRest.{LoadsRest, Rule}
 use Rattle.dotenvy.specs.NextItem.{Item}
-use Rattle.dotenvy.specs.Source.{Ahead, Told}
+use Rattle.dotenvy.specs.Source.{Ahead}
 use Rattle.witnesses.specs.Readings.{AreAllItems, LoadsAll}
 use Rattle.witnesses.proofs.WrittenPieces.{told_of}
 

@@ -1,12 +1,11 @@
 -- Pairs that were written to a sink of turns, and what the pieces of these bytes tell.
-use Rattle.std.proofs.Common.{◌≡◌, ◌∙◌, ◌<◌, ℕ, true, ◌&&◌, List, [], ◌∷◌, ◌++◌, length, map, refl, sym, ap, inl, inr, append-nil, append_assoc}
-use Rattle.std.specs.Prelude.{Option, Some, None, Result, Ok, Err, IsTrue, string_bytes}
+use Rattle.std.proofs.Common.{◌≡◌, ◌∙◌, ◌<◌, ℕ, List, [], ◌∷◌, ◌++◌, length, map, refl, ap, inl, inr, append-nil, append_assoc}
+use Rattle.std.specs.Prelude.{Some, None, Result, Ok, string_bytes}
 use Rattle.std.specs.Str.{chars}
 use Rattle.std.specs.declared.string.String.{String}
 use Rattle.std.proofs.lemmas.Str.{IsUtf8-string_bytes, scalars-chars}
 use Rattle.dotenvy.specs.Error.{Error}
 use Rattle.dotenvy.specs.Input.{most_reads}
-use Rattle.dotenvy.specs.Keys.{is_key}
 use Rattle.dotenvy.specs.Dialect.{Dialect}
 use Rattle.dotenvy.specs.Environment.{Texts}
 use Rattle.dotenvy.specs.Errors.{IsMemoryErr}

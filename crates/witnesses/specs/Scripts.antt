@@ -26,7 +26,8 @@ EndsByScript name value given other made result =
 abbrev pub RunsByScript : {A : Type 0} → Texts → List ℕ → List ℕ → ExitStatus → ExitStatus →
     Result ℕ (Failure A) → Type 0
 RunsByScript names name value given other (Ok status) =
-    IsChosen (fin.get names name ≡ Some value) given other (λ exit. EndsWith (exit_code exit) status)
+    IsChosen (fin.get names name ≡ Some value) given other
+    (λ exit. EndsWith (exit_code exit) status)
 RunsByScript names name value given other (Err (Start fault)) = error_kind fault ≡ OutOfMemory
 RunsByScript names name value given other (Err (Usage usage)) = Unit {0}
 RunsByScript names name value given other (Err (Load error)) = Unit {0}

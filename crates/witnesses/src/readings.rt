@@ -15,7 +15,8 @@ use std::alloc::{AllocError, Global};
 /// A pair, or the fault in its place.
 pub type Item = Result<(String, String)>;
 
-/// All items of these pieces: the pairs and the faults of their bytes, and last the fault at their end, if there is one.
+/// All items of these pieces: the pairs and the faults of their bytes, and last the fault at their end, if there is
+/// one.
 ///
 /// After the last item nothing comes: to load what is left changes nothing, and is no error.
 pub fn items_of(
@@ -24,7 +25,8 @@ pub fn items_of(
     dialect: Dialect,
     env: &mut Environment,
 ) -> Result<Vec<Item>>
-    ensures all { IfOk result (λ given. AreAllItems dialect env.old.names source.entry given.items) }
+    ensures all { IfOk result
+        (λ given. AreAllItems dialect env.old.names source.entry given.items) }
     ensures memory { IfErr result IsMemory }
     ensures same { env.new ≡ env.old }
 {

@@ -1,4 +1,3 @@
-use Rattle.dotenvy_command.specs.Answers.{texts}
 use Rattle.witnesses.proofs.ScriptRuns.{runs_by_script}
 use Rattle.witnesses.proofs.starts.run_script.Goals as goal
 

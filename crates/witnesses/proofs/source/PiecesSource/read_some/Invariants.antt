@@ -1,4 +1,4 @@
-use Rattle.std.proofs.Common.{◌≡◌, ◌++◌, ℕ, length}
+use Rattle.std.proofs.Common.{◌≡◌, ◌++◌, length}
 use Rattle.witnesses.specs.Pieces.{bytes_of, fault_of}
 use Rattle.witnesses.proofs.source.PiecesSource.read_some.Given as goal
 
