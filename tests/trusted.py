@@ -1,0 +1,89 @@
+#!/usr/bin/env python3
+"""Compares docs/CONTRACTS.md, "What is trusted", with what the toolchain says when it has proved the product.
+
+usage: tests/trusted.py [FILE]
+
+It has `rt check --list-axioms` check the programs and the library for C, and takes from its lines which C functions of
+the toolchain are assumed, and the words of the verdict. FILE has what `rt ci` printed, and its verdicts count too. The
+page has to list exactly these functions for each crate, and to explain each word; where it gives a value, that has
+to be the value. Call it once the crates are proved, or it proves them. The last line is `N passed, M failed`.
+"""
+
+import pathlib
+import re
+import subprocess
+import sys
+
+TOP = pathlib.Path(__file__).resolve().parent.parent
+PAGE = TOP / "docs" / "CONTRACTS.md"
+CRATES = ("dotenvy_run", "dotenvy_check", "dotenvy_c")
+
+# What `rt check` takes from an earlier check; no verdict of the gate has it.
+OWN = "incremental=trusted"
+
+
+def section():
+    """The part of the page that says what is trusted."""
+    return PAGE.read_text(encoding="utf-8").partition("\n## What is trusted\n")[2]
+
+
+def explained():
+    """The words of a verdict that the page explains, each with its value, or with None where it may have any."""
+    cells = re.findall(r"^\| (`[^|]*) \|", section(), re.M)
+    pairs = [word.partition("=") for cell in cells for word in re.findall(r"`([\w-]+=\S*?)`", cell)]
+    return {word: None if value in ("N", "SUM") else value for word, _, value in pairs}
+
+
+def listed(crate):
+    """The C functions that the page lists for a crate."""
+    lines = re.findall(r"^- ([^:]*): (.*)$", section(), re.M)
+    names = " ".join(names for crates, names in lines if f"`{crate}`" in crates)
+    return set(re.findall(r"`(\w+(?:::\w+)+)`", names))
+
+
+def said(crate):
+    """What the check of a proved crate prints."""
+    command = ["rt", "check", "--list-axioms"]
+    return subprocess.run(command, cwd=TOP / "crates" / crate, stdout=subprocess.PIPE, text=True, check=False).stdout
+
+
+def verdicts(text):
+    """The verdict lines in what was printed."""
+    return re.findall(r"^logic=.*", text, re.M)
+
+
+def word_faults(lines):
+    """Each word of these verdicts that the page doesn't explain, or to which it gives another value."""
+    known = explained()
+    for word, _, value in {tuple(part.partition("=")) for line in lines for part in line.split() if part != OWN}:
+        if word not in known:
+            yield f"the page doesn't explain `{word}={value}`"
+        elif known[word] not in (None, value):
+            yield f"the page says `{word}={known[word]}`, and a verdict `{word}={value}`"
+
+
+def crate_faults(crate, text):
+    """What differs between the page and the report of a crate."""
+    reached = set(re.findall(r"^\s*(\S+)\s+reached$", text, re.M))
+    if not verdicts(text) or not reached:
+        yield "it isn't proved, or reaches no C function"
+    yield from (f"the page lacks {name}" for name in sorted(reached - listed(crate)))
+    yield from (f"nothing reaches {name}" for name in sorted(listed(crate) - reached))
+
+
+def main():
+    """Prints a line for each crate, and one for the words."""
+    texts = {crate: said(crate) for crate in CRATES}
+    checks = [(f"the C functions of {crate}", list(crate_faults(crate, text))) for crate, text in texts.items()]
+    lines = [line for text in texts.values() for line in verdicts(text)]
+    lines += [line for file in sys.argv[1:] for line in verdicts(pathlib.Path(file).read_text(encoding="utf-8"))]
+    checks.append(("the words of the verdicts", sorted(word_faults(lines))))
+    for what, faults in checks:
+        print(f"{'FAILED' if faults else 'passed'}: {what}" + "".join("\n    " + fault for fault in faults))
+    failed = sum(bool(faults) for _, faults in checks)
+    print(f"{len(checks) - failed} passed, {failed} failed")
+    sys.exit(1 if failed else 0)
+
+
+if __name__ == "__main__":
+    main()
