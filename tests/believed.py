@@ -240,7 +240,7 @@ def contract_lines(files, all_roots):
     for root in all_roots:
         label = f"[`{root.name}`](CONTRACTS.md{root.place})" if root.place else f"`{root.name}`"
         names = ", ".join(f"`{name}`" for name in sorted({name for _, name in root.cited(files)}, key=str.lower))
-        yield f"- {label}: {names or 'none'}\n"
+        yield f"- {label}: {names or '`none`'}\n"
 
 
 class Wanted:
