@@ -10,7 +10,8 @@
 # - docs/DEFINITIONS.md has the definitions on which the headline rests, and this is seen of each of its contracts;
 # - docs/CONTRACTS.md names rows and tests that exist where something is only tested;
 # - docs/speed.svg is the chart of the figures in bench/speed.tsv;
-# - each link of the pages leads to a file and a heading, and each page that is named is a link.
+# - each link of the pages leads to a file and a heading, and each page that is named is a link;
+# - each mutant changes the function that its name says.
 # It takes a few seconds, and no proof. The last line is `N passed, M failed`.
 set -euo pipefail
 cd "$(dirname "$0")/.."
@@ -114,6 +115,14 @@ has_chart() {
     python3 -B bench/chart.py | cmp - docs/speed.svg
 }
 
+# Prints the mutants that don't.
+change_named_functions() {
+    if ! python3 tests/mutants.py >"$room/mutants"; then
+        grep -v '^passed' "$room/mutants"
+        return 1
+    fi
+}
+
 check_blocks() {
     local line
     cut_blocks "$1" rust
@@ -165,6 +174,7 @@ check "that check sees what leaves the headline's table, or a contract of it" py
 check "docs/CONTRACTS.md names rows and tests that exist" python3 tests/tested_by.py
 check "docs/speed.svg is the chart of bench/speed.tsv" has_chart
 check "each link of the pages leads somewhere" python3 tests/links.py
+check "each mutant changes the function that its name says" change_named_functions
 check_contracts docs/CONTRACTS.md crates/dotenvy_base/src/environment.rt
 
 echo "$passed passed, $failed failed"
