@@ -130,8 +130,7 @@ check_words() {
     for number in $(seq 300); do
         all+=$(unread "absent$number.env" 'No such file or directory (os error 2)')$nl
     done
-    # Each number is a word of its own.
-    # shellcheck disable=SC2046
+    # shellcheck disable=SC2046 # each number is a word of its own
     call $(seq 300 | sed 's/.*/absent&.env/')
     check 'three hundred files' 1 "$all" ''
 }
