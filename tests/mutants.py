@@ -104,7 +104,8 @@ class Mutant:
         if not found:
             return "refused at no goal: " + said
         place = self.goal_place(found.group(1), int(found.group(2)))
-        if place not in self.changed:
+        # What is in no function, such as a constant, is refused wherever it is used.
+        if place not in self.changed and all(function for _, function in self.changed):
             return f"refused at a goal of {place[0]}.{place[1]}: {said}"
         return None
 
