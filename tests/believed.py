@@ -8,6 +8,7 @@ page and code differ, and ends with status 1 if they do. With --write it rewrite
 """
 
 import functools
+import itertools
 import pathlib
 import re
 import sys
@@ -52,6 +53,11 @@ class File:
         for line in self.lines[start:end]:
             for case in line.partition(" : ")[0].split() if " : " in line else []:
                 self.owners[case] = owner
+
+    def head(self):
+        """The comment at the top."""
+        comment = itertools.takewhile(lambda line: line.startswith("-- "), self.lines)
+        return " ".join(line.removeprefix("-- ") for line in comment)
 
     def cited(self, files, module, name):
         """The definitions that one of this file cites."""
@@ -226,8 +232,7 @@ def sections_of(files, words):
         path = "crates/" + crate + "/" + "/".join(parts) + ".antt"
         names = ", ".join(f"`{name}`" for _, name in sorted(places))
         count = sum(end - start for (start, end), _ in places)
-        head = files[module].lines[0].removeprefix("-- ")
-        sections[path] = f"### [`{parts[-1]}`](../{path}), {count} lines\n\n{head}\n\n{names}\n"
+        sections[path] = f"### [`{parts[-1]}`](../{path}), {count} lines\n\n{files[module].head()}\n\n{names}\n"
     return sections
 
 
