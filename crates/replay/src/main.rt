@@ -32,13 +32,14 @@ use anyhow::{Context, Result, bail};
 use comparison::tell_differences;
 use counts::Counts;
 use kinds::play;
-use row::Row;
+use row::{Row, with_numbers};
 use std::process::ExitCode;
 use std::{env, fs};
 
 /// Plays the row of a line, if it has one, and counts it.
 fn play_line(rt: HostRuntime, line: &str, counts: &mut Counts) -> Result<()> {
-    let Some(row) = Row::parse(rt.alloc(), line)? else {
+    let line = with_numbers(rt.alloc(), line)?;
+    let Some(row) = Row::parse(rt.alloc(), line.as_str())? else {
         return Ok(());
     };
     let mut answers = Vec::new(rt.alloc());

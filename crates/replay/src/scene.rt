@@ -9,6 +9,7 @@ use anyhow::{Context, Result, bail};
 use comparison::Comparison;
 use dotenvy::{Environment, Error};
 use std::alloc::{Allocator, Global};
+use std::fs::File;
 use std::os::unix::fs::symlink;
 use std::path::PathBuf;
 use std::{env, fs};
@@ -85,12 +86,19 @@ impl Scene {
         Ok(self.folder.join(self.rt.alloc(), name.as_str())?)
     }
 
+    // Makes a file of so many NULs, which the disk does not hold.
+    fn write_sparse(&self, name: &str, length: &str) -> Result<()> {
+        let file = File::create(&self.rt, self.path(name)?)?;
+        Ok(file.set_len(length.parse()?)?)
+    }
+
     /// Plays a step on the folder or the system, and tells whether this was one.
     pub fn play(&mut self, step: &str) -> Result<bool> {
         let (word, rest) = word_and_rest(step);
         let (name, more) = word_and_rest(rest);
         match word {
             "write" => fs::write(&self.rt, self.path(name)?, bytes(self.rt.alloc(), more)?)?,
+            "sparse" => self.write_sparse(name, more)?,
             "folder" => fs::create_dir(&self.rt, self.path(name)?)?,
             "link" => symlink(&self.rt, more, self.path(name)?)?,
             "enter" => env::set_current_dir(&self.rt, self.path(name)?)?,
@@ -111,7 +119,7 @@ impl Scene {
 
     // Gives the process this entry, so many times.
     fn push_entries(&mut self, count: usize, written: &str) -> Result<()> {
-        let entry = bytes(self.rt.alloc(), written)?;
+        let entry = bytes(self.rt.alloc(), self.placed(written)?.as_str())?;
         for _ in 0..count {
             self.system.entries.push(entry.clone()?)?;
         }

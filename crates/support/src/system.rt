@@ -123,7 +123,14 @@ impl Env for PlayedSystem {
         Err(FillError::NotPresent)
     }
 
-    fn var(&self, _name: &str, _buf: &mut [u8]) -> Result<usize, FillError> {
+    fn var(&self, name: &str, buf: &mut [u8]) -> Result<usize, FillError> {
+        for entry in &self.entries {
+            if let Some(rest) = entry.strip_prefix(name.as_bytes())
+                && let Some(value) = rest.strip_prefix(b"=")
+            {
+                return fill(value, buf);
+            }
+        }
         Err(FillError::NotPresent)
     }
 
