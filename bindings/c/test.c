@@ -287,7 +287,7 @@ static uint64_t number_at(const void *from, size_t at, size_t size) {
     return number;
 }
 
-/* The bytes that the archive writes, read at the offsets of bindings/layout.txt and not by the header's structs. */
+/* The bytes that the archive writes, read at the offsets of bindings/rust/layout.txt and not by the header's structs. */
 static void test_layout_of_archive(void) {
     struct dotenvy_answer a = load(BYTES("B=$A\nC=x y\n"), BYTES("A=9"), 0, BUFFER);
     CHECK(sizeof a == 32 && number_at(&a, 0, 4) == 1 && number_at(&a, 4, 1) == 1 && number_at(&a, 8, 8) == 2);
@@ -307,7 +307,7 @@ static void test_layout_of_archive(void) {
 #define FIELD(type, field) \
     printf(" " #field "=%d:%d", (int)offsetof(struct type, field), (int)sizeof(((struct type *)0)->field))
 
-/* Prints the layout of the header's structs, as bindings/layout.txt has it. */
+/* Prints the layout of the header's structs, as bindings/rust/layout.txt has it. */
 static void print_layout(void) {
     printf("answer %d", (int)sizeof(struct dotenvy_answer));
     FIELD(dotenvy_answer, status);

@@ -46,7 +46,7 @@ built() {
 
 check "the test builds with the toolchain alone" built
 run "$folder/test"
-check "the header's structs have the layout of layout.txt" cmp <("$folder/test" layout) ../layout.txt
+check "the header's structs have the layout of layout.txt" cmp <("$folder/test" layout) ../rust/layout.txt
 
 if cc --version >"$folder/version" 2>&1; then
     check "the test builds with cc" cc -std=c11 -Wall -Wextra -Wpedantic -Werror -I . test.c "$archive" -o "$folder/by_cc"

@@ -49,7 +49,7 @@ def defined_names(elf):
     return names
 
 
-LAYOUT = Path(__file__).resolve().parents[2] / "layout.txt"
+LAYOUT = Path(__file__).resolve().parents[2] / "rust" / "layout.txt"
 
 
 class InFolder(unittest.TestCase):

@@ -203,7 +203,7 @@ mod tests {
     use super::*;
     use std::mem::{offset_of, size_of};
 
-    // A line of bindings/layout.txt: each field with its offset and its size.
+    // A line of layout.txt: each field with its offset and its size.
     macro_rules! layout {
         ($name:literal, $type:ident: $($field:ident),*) => {{
             let size_of_field = |at: usize, size: usize, name: &str| format!(" {name}={at}:{size}");
