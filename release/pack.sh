@@ -1,6 +1,7 @@
 #!/usr/bin/env bash
-# Packs what release/build.sh built, and release/prove_library.sh wrote to release/out, into a folder: the archive for Linux, the wheel, the crate, the pack for Rattle, and
-# SHA256SUMS. The bytes depend on the commit and the toolchain alone, and neither on the clone's place nor on the time.
+# Packs what release/build.sh built, and release/prove_library.sh wrote to crates/dotenvy/out/release, into a folder: the
+# archive for Linux, the wheel, the crate, the pack for Rattle, and SHA256SUMS. The bytes depend on the commit and the
+# toolchain alone, and neither on the clone's place nor on the time.
 #
 # usage: release/pack.sh FOLDER
 set -euo pipefail
@@ -33,7 +34,7 @@ pack_wheel() {
 # The crate as `cargo package` writes it, which also builds it.
 pack_crate() {
     local crate=$room/crate
-    cp -rL bindings/rust "$crate"
+    cp -r bindings/rust "$crate"
     rm -rf "$crate/target" "$crate/Cargo.lock"
     mkdir "$crate/lib"
     cp "$room/$name/lib/libdotenvy.a" "$crate/lib/"
@@ -50,7 +51,7 @@ pack_for_rattle() {
     local pack rlib crate
     pack=dotenvy-$version-$(rt version | cut -d ' ' -f 1)
     mkdir -p "$room/$pack/rlibs"
-    for rlib in release/out/*.rlib; do
+    for rlib in crates/dotenvy/out/release/*.rlib; do
         crate=$(basename "$rlib" .rlib)
         cp -r "$rlib" "$room/$pack/rlibs/"
         mkdir -p "$room/$pack/rattle/$crate"

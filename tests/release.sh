@@ -75,7 +75,8 @@ packs_the_same() {
         cp "$file" "$other/$file"
     done
     cp -r bindings/out "$other/bindings/"
-    cp -r release/out "$other/release/"
+    mkdir -p "$other/crates/dotenvy/out"
+    cp -r crates/dotenvy/out/release "$other/crates/dotenvy/out/"
     (umask 077 && cd "$other" && release/pack.sh "$room/again") && cmp "$dist/SHA256SUMS" "$room/again/SHA256SUMS"
 }
 
