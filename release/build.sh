@@ -53,7 +53,7 @@ say_how_far() {
         wait "$sleeper"
         seconds=$((seconds + 20))
         far=$(tail -n "+$first" "$log" | sed -n 's/^so far: \([0-9]* of [0-9]* functions\) checked.*/\1/p' | tail -n 1)
-        echo "  ${far:-nothing} checked after $seconds seconds"
+        echo "  ${far:+$far checked after }$seconds seconds"
     done
 }
 
