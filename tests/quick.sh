@@ -94,7 +94,7 @@ sample_of() {
     cases.rows | failing_readers.rows) step=5 ;;
     esac
     awk -F '|' -v step="$step" '
-        /^#/ || /^$/ || /%\([0-9][0-9][0-9][0-9]+\*/ || length > 10000 { next }
+        /^#/ || /^$/ || /%\(([0-9]+\.\.)?[0-9][0-9][0-9][0-9]+\*/ || length > 10000 { next }
         seen[$1]++ % step == 0
     ' "$2/$1"
 }
