@@ -117,18 +117,21 @@ make_repository() {
     printf 'HOST=db.local\n' >crates/hello/service.env
 }
 
+proves_and_runs() {
+    (cd "$room/hello/crates/hello" && "$1" run) >"$room/said" 2>"$room/errors"
+}
+
 # Proves and runs it, in less than two minutes of one processor.
 runs_hello() {
-    local wall user system
-    TIMEFORMAT='%R %U %S'
-    { time (cd "$room/hello/crates/hello" && "$1" run) >"$room/said" 2>"$room/errors"; } 2>"$room/time" || {
+    local wall user system TIMEFORMAT='%R %U %S'
+    { time proves_and_runs "$1"; } 2>"$room/time" || {
         tail -n 20 "$room/errors"
         return 1
     }
     read -r wall user system <"$room/time"
     echo "proved and run in $wall seconds, of the processors $user and $system"
     grep -qx 'port 8080' "$room/said" && grep -q '^logic=proved' "$room/errors" &&
-        awk -v user="$user" -v kernel="$system" 'BEGIN { exit user + kernel >= 120 }'
+        awk -v user="$user" -v kernel="$system" 'BEGIN { exit user == "" || user + kernel >= 120 }'
 }
 
 has_no_source() {

@@ -31,13 +31,21 @@ prints() {
     return 1
 }
 
-# Whether a command takes less than this many seconds of the processor, whatever else the machine does.
+quietly() {
+    "$@" >said.txt 2>&1
+}
+
+# Whether a command succeeds, and takes less than this many seconds of the processor, whatever else the machine does.
 takes_less_than() {
-    local limit=$1 wall user system
+    local limit=$1 wall user system TIMEFORMAT='%R %U %S'
     shift
-    { read -r wall user system < <({ TIMEFORMAT='%R %U %S'; time "$@" >/dev/null 2>&4; } 2>&1); } 4>&2
+    { time quietly "$@"; } 2>times.txt || {
+        cat said.txt
+        return 1
+    }
+    read -r wall user system <times.txt
     echo "$wall seconds, of the processor $user and $system: $*"
-    awk -v limit="$limit" -v user="$user" -v kernel="$system" 'BEGIN { exit user + kernel >= limit }'
+    awk -v limit="$limit" -v user="$user" -v kernel="$system" 'BEGIN { exit user == "" || user + kernel >= limit }'
 }
 
 # The programs, the same for archive and wheel. The argument is their folder.
