@@ -9,7 +9,7 @@ folder=$(realpath -- "$1")
 cd "$(dirname "$0")/.."
 libraries=(dotenvy_format dotenvy_base dotenvy_lines dotenvy_items dotenvy)
 # A verdict of a crate builds the libraries below it from nothing. This one depends on the library alone.
-above=service_settings
+above=example_service_settings
 room=$(mktemp -d)
 trap 'rm -rf "$room"' EXIT
 

@@ -1,5 +1,5 @@
 #!/usr/bin/env -S python3 -B
-"""Prints the examples of docs/CHECK.md as rows (docs/ROWS.md), which are crates/replay/data/check_page.rows.
+"""Prints the examples of docs/CHECK.md as rows (docs/ROWS.md), which are crates/test_replay/data/check_page.rows.
 
 The first example is the block labelled `env`, and the block labelled `report` is what is reported of it. Rows, names
 and phrases of the tables are those of tests/grammar_rows.py. Each line of a table of warnings is a row of the file, and

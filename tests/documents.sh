@@ -1,11 +1,11 @@
 #!/usr/bin/env bash
 # Compares the documents with what is played, built and proved:
-# - crates/replay/data has the examples of docs/GRAMMAR.md, docs/CHECK.md, docs/OTHER_LIBRARIES.md and README.md as rows,
+# - crates/test_replay/data has the examples of docs/GRAMMAR.md, docs/CHECK.md, docs/OTHER_LIBRARIES.md and README.md as rows,
 #   those of the README with what the programs print;
-# - crates/replay/stdout has the number of rows of each file, and crates/replay/args names each;
-# - each block of Rust in README.md and docs/LIBRARY.md is in a source file of crates/examples, the other examples or
-#   crates/own_contracts, and so is each line beside one of the Rust crate;
-# - docs/LIBRARY.md has each public call with its signature, and the answers file of crates/own_contracts;
+# - crates/test_replay/stdout has the number of rows of each file, and crates/test_replay/args names each;
+# - each block of Rust in README.md and docs/LIBRARY.md is in a source file of crates/example_library, the other examples or
+#   crates/example_own_contracts, and so is each line beside one of the Rust crate;
+# - docs/LIBRARY.md has each public call with its signature, and the answers file of crates/example_own_contracts;
 # - docs/CONTRACTS.md has a contract of the code;
 # - docs/DEFINITIONS.md has the definitions on which the headline rests, and this is seen of each of its contracts;
 # - docs/CONTRACTS.md names rows and tests that exist where something is only tested;
@@ -36,7 +36,7 @@ check() {
 # Prints where these rows differ from those that their page gives now. With -B, a script that imports another one leaves
 # nothing in the repository.
 has_examples() {
-    python3 -B "tests/$1_rows.py" | diff - "crates/replay/data/$1.rows"
+    python3 -B "tests/$1_rows.py" | diff - "crates/test_replay/data/$1.rows"
 }
 
 # Writes each block of a document that has this label, such as rust, to a file of its own, whose name is the number of the
@@ -73,7 +73,7 @@ stands_in_examples() {
         if stands_in "$1" "$source"; then
             return 0
         fi
-    done < <(find crates/{examples,service_settings,layered_settings,lint_files,own_contracts}/src -name '*.rt')
+    done < <(find crates/{example_library,example_service_settings,example_layered_settings,example_lint_files,example_own_contracts}/src -name '*.rt')
     return 1
 }
 
@@ -83,7 +83,7 @@ lines_from_rust() {
     awk -F '`' '/^\| dotenvy 0.15.7 \| Here \|/ { inside = 1; next } !/^\|/ { inside = 0 } inside && NF > 2 { print $(NF - 1) }' \
         docs/LIBRARY.md >"$room/lines"
     while IFS= read -r line; do
-        if ! grep -rhqF -- "$line" crates/examples/src; then
+        if ! grep -rhqF -- "$line" crates/example_library/src; then
             echo "in no example: $line"
         fi
     done <"$room/lines"
@@ -95,20 +95,20 @@ has_lines_from_rust() {
     [ -s "$room/lines" ] && [ ! -s "$room/missing" ]
 }
 
-# Prints, for each file of rows, what replay prints where no row differs. A row is a line that isn't empty and no comment.
+# Prints, for each file of rows, what test_replay prints where no row differs. A row is a line that isn't empty and no comment.
 right_counts() {
     local name
     while IFS= read -r name; do
-        echo "$name: $(grep -c '^[^#]' "crates/replay/data/$name") rows, 0 differ"
-    done <crates/replay/args
+        echo "$name: $(grep -c '^[^#]' "crates/test_replay/data/$name") rows, 0 differ"
+    done <crates/test_replay/args
 }
 
 has_right_counts() {
-    right_counts | diff - crates/replay/stdout
+    right_counts | diff - crates/test_replay/stdout
 }
 
 plays_each_file() {
-    diff <(ls crates/replay/data) <(sort crates/replay/args)
+    diff <(ls crates/test_replay/data) <(sort crates/test_replay/args)
 }
 
 has_chart() {
@@ -134,7 +134,7 @@ check_blocks() {
 # docs/LIBRARY.md has one answers file, as it is in the crate.
 has_answers() {
     cut_blocks docs/LIBRARY.md antt
-    cat "$room"/blocks/* | diff - crates/own_contracts/proofs/find_settings/Answers.antt
+    cat "$room"/blocks/* | diff - crates/example_own_contracts/proofs/find_settings/Answers.antt
 }
 
 # A file without white space and without lines of comment.
@@ -157,18 +157,18 @@ check_contracts() {
     done
 }
 
-check "crates/replay/data/grammar.rows has the examples of docs/GRAMMAR.md" has_examples grammar
-check "crates/replay/data/check_page.rows has the examples of docs/CHECK.md" has_examples check_page
-check "crates/replay/data/other_libraries.rows has the examples of docs/OTHER_LIBRARIES.md" has_examples other_libraries
-check "crates/replay/data/readme.rows has the examples of README.md" has_examples readme
-check "crates/replay/stdout has the number of rows of each file" has_right_counts
-check "crates/replay/args names each file of rows" plays_each_file
+check "crates/test_replay/data/grammar.rows has the examples of docs/GRAMMAR.md" has_examples grammar
+check "crates/test_replay/data/check_page.rows has the examples of docs/CHECK.md" has_examples check_page
+check "crates/test_replay/data/other_libraries.rows has the examples of docs/OTHER_LIBRARIES.md" has_examples other_libraries
+check "crates/test_replay/data/readme.rows has the examples of README.md" has_examples readme
+check "crates/test_replay/stdout has the number of rows of each file" has_right_counts
+check "crates/test_replay/args names each file of rows" plays_each_file
 for document in README.md docs/LIBRARY.md; do
     check_blocks "$document"
 done
 check "docs/LIBRARY.md, each line beside one of the Rust crate is in an example" has_lines_from_rust
 check "docs/LIBRARY.md has each public call with its signature" python3 tests/signatures.py
-check "docs/LIBRARY.md has the answers file of crates/own_contracts" has_answers
+check "docs/LIBRARY.md has the answers file of crates/example_own_contracts" has_answers
 check "docs/DEFINITIONS.md has what has to be believed, and no more" python3 -B tests/believed.py
 check "that check sees what leaves the headline's table, or a contract of it" python3 -B tests/try_believed.py
 check "docs/CONTRACTS.md names rows and tests that exist" python3 tests/tested_by.py

@@ -1,5 +1,5 @@
 #!/usr/bin/env python3
-"""Prints the examples of docs/GRAMMAR.md as rows (docs/ROWS.md), which are crates/replay/data/grammar.rows.
+"""Prints the examples of docs/GRAMMAR.md as rows (docs/ROWS.md), which are crates/test_replay/data/grammar.rows.
 
 Each line of a table of examples is a row, or two. A row's name is that of its section, and the number of the example in
 it: `comments-7`. What a row wants is what the page says, and `*` where it says nothing. A table or a phrase that isn't

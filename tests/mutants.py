@@ -18,7 +18,9 @@ import sys
 CRATES = pathlib.Path(__file__).resolve().parent.parent / "crates"
 FUNCTION = re.compile(r"( *)(?:pub(?:\(\w+\))? )?(?:unsafe )?(?:extern \"C\" )?fn (\w+)")
 SAID = re.compile(r"^(?:rt: )?must-fail (\w+)/(\S+\.edit): (.*)$", re.M)
-REFUSED = re.compile(r"refused, as it must be: (?:note: )?(?:\./)?(\S+?):(\d+):\d+: .*?(?:\(|error: )`([^`]*)`")
+# What is printed is cut at some length, perhaps within the name of the goal.
+REFUSED = re.compile(
+    r"refused, as it must be: (?:note: )?(?:\./)?(\S+?):(\d+):\d+: .*?(?:\(|error: |depends on )`([^`]*)(?:`|$)")
 
 
 def functions(text):

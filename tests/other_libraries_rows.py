@@ -1,5 +1,5 @@
 #!/usr/bin/env -S python3 -B
-"""Prints the examples of docs/OTHER_LIBRARIES.md as rows (docs/ROWS.md): crates/replay/data/other_libraries.rows.
+"""Prints the examples of docs/OTHER_LIBRARIES.md as rows (docs/ROWS.md): crates/test_replay/data/other_libraries.rows.
 
 Rows, names and phrases are those of tests/grammar_rows.py and tests/check_page_rows.py. Where a table says what to
 write instead, each of its lines is two rows: one for the line, and one for what to write instead, whose name ends with

@@ -104,24 +104,24 @@ kinds_of() {
     grep -hv -e '^#' -e '^$' "$@" | cut -d '|' -f 1 | sort -u
 }
 
-# Makes files of the rows that are played, and the text that replay must write of them.
+# Makes files of the rows that are played, and the text that test_replay must write of them.
 make_sample() {
     local data=$1 wanted=$2 name
     mkdir "$data"
     while IFS= read -r name; do
-        sample_of "$name" crates/replay/data >"$data/$name"
+        sample_of "$name" crates/test_replay/data >"$data/$name"
         echo "$name: $(wc -l <"$data/$name") rows, 0 differ"
-    done <crates/replay/args >"$wanted"
+    done <crates/test_replay/args >"$wanted"
 }
 
 # Tells which part of the rows the sample is, and whether it has rows of every kind.
 has_all_kinds() {
     local all played kinds
-    all=$(cat crates/replay/data/*.rows | grep -cv -e '^#' -e '^$')
+    all=$(cat crates/test_replay/data/*.rows | grep -cv -e '^#' -e '^$')
     played=$(cat "$1"/*.rows | wc -l)
     kinds=$(kinds_of "$1"/*.rows | wc -l)
     echo "rows: $played of $all, of $kinds kinds"
-    diff -u --label all --label played <(kinds_of crates/replay/data/*.rows) <(kinds_of "$1"/*.rows)
+    diff -u --label all --label played <(kinds_of crates/test_replay/data/*.rows) <(kinds_of "$1"/*.rows)
 }
 
 # Builds the program of this folder without a proof, and runs it: `build_and_run DATA [WORD..]`. It runs in a folder
@@ -207,7 +207,7 @@ play_part() {
     passed=0
     failed=0
     case $name in
-    replay) check "$name" play "$own/data" "$own/stdout" ;;
+    test_replay) check "$name" play "$own/data" "$own/stdout" ;;
     dotenvy_run) check "$name" play_dotenvy_run ;;
     *) check "$name" play data stdout ;;
     esac >"$own/said" 2>&1
@@ -232,17 +232,17 @@ count python3 tests/words.py
 count tests/manual_page.sh
 
 # The rows take longest, so they come first.
-parts=(replay)
+parts=(test_replay)
 for main in crates/*/src/main.rt; do
     name=${main#crates/}
     name=${name%%/*}
-    if [ "$name" != replay ]; then
+    if [ "$name" != test_replay ]; then
         parts+=("$name")
     fi
 done
 mkdir "${parts[@]/#/$room/}"
-make_sample "$room/replay/data" "$room/replay/stdout"
-check 'the sample has rows of every kind' has_all_kinds "$room/replay/data"
+make_sample "$room/test_replay/data" "$room/test_replay/stdout"
+check 'the sample has rows of every kind' has_all_kinds "$room/test_replay/data"
 echo "building ${#parts[@]} programs, $builds side by side: ${parts[*]}"
 for name in "${parts[@]}"; do
     while [ "$(jobs -pr | wc -l)" -ge "$builds" ]; do

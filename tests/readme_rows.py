@@ -1,5 +1,5 @@
 #!/usr/bin/env -S python3 -B
-"""Prints the examples of README.md as rows (docs/ROWS.md), which are crates/replay/data/readme.rows.
+"""Prints the examples of README.md as rows (docs/ROWS.md), which are crates/test_replay/data/readme.rows.
 
 Each block labelled `env` is the file service.env, and the block labelled `console` after it calls the programs on this
 file. What the first file gives is the column "Gives" of the table below it, from top to bottom, in the phrases of

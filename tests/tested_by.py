@@ -1,9 +1,9 @@
 #!/usr/bin/env python3
 """Sees that each line of docs/CONTRACTS.md, "Only tested", names rows or tests that exist.
 
-A line has them in square brackets: `FILE: NAME` for rows of crates/replay/data/FILE.rows, where `*` stands for any
-text, and `worked: MODULE::TEST` for a test of the crate worked. What the stored run of the program tests is one script,
-so the lines from there on name nothing. Prints what is wrong, and ends with status 1 if anything is.
+A line has them in square brackets: `FILE: NAME` for rows of crates/test_replay/data/FILE.rows, where `*` stands for any
+text, and `test_worked: MODULE::TEST` for a test of that crate. What the stored run of the program tests is one
+script, so the lines from there on name nothing. Prints what is wrong, and ends with status 1 if anything is.
 """
 
 import fnmatch
@@ -13,8 +13,8 @@ import sys
 
 TOP = pathlib.Path(__file__).resolve().parent.parent
 PAGE = TOP / "docs" / "CONTRACTS.md"
-DATA = TOP / "crates" / "replay" / "data"
-TESTS = TOP / "crates" / "worked" / "src"
+DATA = TOP / "crates" / "test_replay" / "data"
+TESTS = TOP / "crates" / "test_worked" / "src"
 
 
 def lines():
@@ -32,7 +32,7 @@ def row_names(file):
 
 def exists(file, name):
     """Whether there is such a row, or such a test."""
-    if file == "worked":
+    if file == "test_worked":
         *modules, test = name.split("::")
         path = TESTS.joinpath(*modules).with_suffix(".rt")
         return path.exists() and f"#[test]\nfn {test}(" in path.read_text(encoding="utf-8")

@@ -1,4 +1,4 @@
-"""Reads rows, the test cases of crates/replay/data (docs/ROWS.md), and plays those of files through the library."""
+"""Reads rows, the test cases of crates/test_replay/data (docs/ROWS.md), and plays those of files."""
 
 from __future__ import annotations
 
@@ -9,7 +9,7 @@ from typing import NamedTuple
 
 from dotenvy import _library
 
-DATA = Path(__file__).resolve().parents[3] / "crates/replay/data"
+DATA = Path(__file__).resolve().parents[3] / "crates/test_replay/data"
 _FAULT = re.compile(r"fault at (\d+): (.*)", re.DOTALL)
 _STATUS_OF_KIND = {"InvalidData": _library.NOT_UTF8, "Other": _library.TOO_MANY_READS}
 

@@ -141,7 +141,7 @@ pub fn from_filename_iter<A: Allocator + Clone, R: Files + Env + Alloc<A = A>>(
     Ok(file)
 }
 
-/// [`from_filename`] of `.env`. It leaves the environment's mark alone: that is for the first use (see [`var`](crate::var)).
+/// [`from_filename`] of `.env`. The `loaded` flag stays as it is: only the first use sets it (see [`var`](crate::var)).
 ///
 /// ```
 /// let mut environment = Environment::from_process(&rt)?;

@@ -1,8 +1,8 @@
 //! A file found in the current directory or above it, opened.
-ghost use Rattle.std.specs.Prelude.{◌≡◌, IfErr, IfOk, None};
+ghost use Rattle.std.specs.Prelude.{◌≡◌, Err, IfErr, IfOk, IsOk, None, OnOk};
 ghost use Rattle.std.specs.Fs.{file_type, IsFile};
 ghost use Rattle.std.specs.Path.{path_bytes, path_buf_bytes};
-ghost use Rattle.dotenvy_base.specs.Errors.{IsFileFault, IsSystemFault};
+ghost use Rattle.dotenvy_base.specs.Errors.{IsFileFault, or_memory};
 ghost use Rattle.dotenvy_base.specs.Find.{IsPathOf};
 ghost use Rattle.dotenvy_base.specs.Source.{nothing_told};
 ghost use Rattle.dotenvy_items.specs.Iter.{fresh};
@@ -16,7 +16,7 @@ use dotenvy_items::iter::Iter;
 use std::alloc::{Alloc, Allocator};
 use std::env::Env;
 use std::fs::{File, Files, Metadata};
-use std::io::ErrorKind;
+use std::io::{ErrorKind, Read};
 use std::path::{Path, PathBuf};
 use std::{env, fs, io};
 
@@ -36,16 +36,29 @@ pub fn find_filename<A: Allocator + Clone, R: Files + Env + Alloc<A = A>>(
         IsPathOf (path_bytes filename.entry) (path_buf_bytes path)) }
     ensures fault { IfErr result IsFileFault }
 {
-    match search_from_current(rt, filename) {
+    let directory = match env::current_dir(rt) {
+        Ok(directory) => directory,
+        Err(fault) => return Err(or_memory(Error::Io(fault))),
+    };
+    match search::find(
+        rt.alloc(),
+        directory.as_path(),
+        filename,
+        &mut |path| { look_of(fs::metadata(rt, path)) },
+    ) {
         Ok(path) => Ok(path),
+        Err(error) if error.not_found() => Err(Error::Io(io::Error::new(
+            ErrorKind::NotFound,
+            "no such file in the current directory or above it",
+        ))),
         Err(error) => Err(or_memory(error)),
     }
 }
 
 /// Searches for the file of a name in the current directory and in those above it, and opens it. Links are followed.
 ///
-/// Returns the path that was found, and a fresh iterator over the file, in this dialect; nothing is read yet, and nothing
-/// is set (docs/GRAMMAR.md, "Finding the file"). The errors are those of [`from_filename`](crate::from_filename).
+/// Returns the path that was found, and a fresh iterator over the file, in this dialect (docs/GRAMMAR.md, "Finding the
+/// file"). Nothing is read yet, and nothing is set. The errors are those of [`from_filename`](crate::from_filename).
 ///
 /// ```
 /// let (path, mut file) = open_filename(&rt, Path::new(".env"), Dialect::V15)?;
@@ -61,92 +74,31 @@ pub fn open_filename<A: Allocator + Clone, R: Files + Env + Alloc<A = A>>(
     ensures file { IfOk result (λ found. found.1 ≡ fresh nothing_told dialect) }
     ensures fault { IfErr result IsFileFault }
 {
-    match search_and_open(rt, filename, dialect) {
-        Ok(found) => Ok(found),
-        Err(error) => Err(or_memory(error)),
-    }
-}
-
-// As `open_filename`, but a fault of a system that had no memory is left as it is.
-fn search_and_open<A: Allocator + Clone, R: Files + Env + Alloc<A = A>>(
-    rt: &R,
-    filename: Path<'_>,
-    dialect: Dialect,
-) -> Result<(PathBuf<A>, Iter<Plain<R::File>, A>), A>
-    ensures path { IfOk result
-        (λ found. IsPathOf (path_bytes filename.entry) (path_buf_bytes found.0)) }
-    ensures file { IfOk result (λ found. found.1 ≡ fresh nothing_told dialect) }
-    ensures fault { IfErr result IsSystemFault }
-{
-    let path = search_from_current(rt, filename)?;
+    let path = find_filename(rt, filename)?;
     let file = open(rt, path.as_path())?;
     Ok((path, Iter::with_dialect(rt.alloc(), file, dialect)?))
-}
-
-// As `find_filename`, but a fault of a system that had no memory is left as it is.
-fn search_from_current<A: Allocator + Clone, R: Files + Env + Alloc<A = A>>(
-    rt: &R,
-    filename: Path<'_>,
-) -> Result<PathBuf<A>, A>
-    ensures path { IfOk result (λ path.
-        IsPathOf (path_bytes filename.entry) (path_buf_bytes path)) }
-    ensures fault { IfErr result IsSystemFault }
-{
-    let directory = env::current_dir(rt)?;
-    search_up(rt, directory.as_path(), filename)
-}
-
-// The path of the file of this name in this directory or above it. Its own text says where nothing was found.
-fn search_up<A: Allocator + Clone, R: Files + Alloc<A = A>>(
-    rt: &R,
-    directory: Path<'_>,
-    filename: Path<'_>,
-) -> Result<PathBuf<A>, A>
-    ensures path { IfOk result (λ path.
-        IsPathOf (path_bytes filename.entry) (path_buf_bytes path)) }
-    ensures fault { IfErr result IsSystemFault }
-{
-    match search::find(
-        rt.alloc(),
-        directory,
-        filename,
-        &mut |path| { look_at(rt, path) },
-    ) {
-        Ok(path) => Ok(path),
-        Err(error) => Err(from_current(error)),
-    }
-}
-
-// The same error, but for that of a search that found nothing, whose text says where it began.
-fn from_current<A: Allocator>(error: Error<A>) -> Error<A>
-    ensures { IsSystemFault error → IsSystemFault result }
-{
-    match error {
-        Error::Io(fault) if fault.kind() == ErrorKind::NotFound => Error::Io(io::Error::new(
-            ErrorKind::NotFound,
-            "no such file in the current directory or above it",
-        )),
-        error => error,
-    }
 }
 
 /// Opens a file for reading.
 pub(crate) fn open<A: Allocator, R: Files>(rt: &R, path: Path<'_>) -> Result<Plain<R::File>, A>
     ensures fault { IfErr result IsFileFault }
 {
-    match File::open(rt, path) {
+    opened(File::open(rt, path))
+}
+
+// The file that an opening gave, or why there is none: each fault of an opening is one.
+fn opened<F: Read, A: Allocator>(answer: io::Result<F>) -> Result<Plain<F>, A>
+    ensures file { OnOk answer (IsOk result) }
+    ensures fault { IfErr answer (λ fault. result ≡ Err (or_memory (Error.Io fault))) }
+{
+    match answer {
         Ok(file) => Ok(Plain::new(file)),
         Err(fault) => Err(or_memory(Error::Io(fault))),
     }
 }
 
-// What the file system says of a path. Links are followed.
-fn look_at<R: Files>(rt: &R, path: Path<'_>) -> Look {
-    look_of(fs::metadata(rt, path))
-}
-
-// What an answer of the file system says. Only a regular file is a file, whatever else is known of it, and a fault is
-// told as it came: which faults end a search is for the search.
+// What a result of the file system says. Only a regular file is a file, whatever else is known of it. A fault is passed
+// on as it came: which faults end a search is for the search.
 fn look_of(answer: io::Result<Metadata>) -> Look
     ensures file { IfOk answer (λ found. IsFile (file_type found) → result ≡ Look.File) }
     ensures other { IfOk answer (λ found. ¬ (IsFile (file_type found)) → result ≡ Look.Other) }

@@ -7,18 +7,18 @@ ghost use Rattle.dotenvy.specs.FirstUse.{AnswersVar};
 ghost use Rattle.dotenvy_items.specs.LoadsRest.{ChangesKeys};
 
 use crate::files::dotenv;
-use dotenvy_base::environment::{Environment, Vars, mark_loaded, snapshot};
+use dotenvy_base::environment::{Environment, Vars, mark_loaded};
 use dotenvy_base::errors::{Error, Result, VarError};
 use std::alloc::{Alloc, Allocator};
 use std::env::Env;
 use std::fs::Files;
 use std::path::PathBuf;
 
-/// The value of a name, after the first use: the first call of `var` or [`vars`] with an environment loads `.env` into it
-/// by [`dotenv`], and sets its mark (docs/GRAMMAR.md, "Finding the file").
+/// The value of a name, after the first use: the first call of `var` or [`vars`] with an environment loads `.env` into
+/// it by [`dotenv`], and sets its `loaded` flag (docs/GRAMMAR.md, "Finding the file").
 ///
-/// A fault of that load is passed by: what stands before it is set. The error is `EnvVar` where the name has no value,
-/// and else `Memory`. Memory that was refused within the load leaves the mark as it was, and the next use loads again.
+/// A fault of that load is ignored: what is before it in the file is set. The error is `EnvVar` if the name has no
+/// value, and otherwise `Memory`. If an allocation of the load failed, the flag stays, and the next use loads again.
 ///
 /// ```
 /// let mut environment = Environment::from_process(&rt)?;
@@ -64,7 +64,8 @@ pub fn vars<A: Allocator + Clone, R: Files + Env + Alloc<A = A>>(
     ensures pairs { IfOk result (λ pairs. pairs ≡ fin.entries env.new.names) }
     ensures memory { IfErr result IsMemory }
 {
-    load_once(rt, env).and_then(|()| snapshot(env))
+    load_once(rt, env)?;
+    Ok(env.try_clone()?.into_iter())
 }
 
 // Loads `.env` where the mark isn't set, and sets it, unless memory was refused within the load.

@@ -22,12 +22,6 @@ pub use files::{
 pub use find::{find_filename, open_filename};
 pub use first_use::{var, vars};
 
-/// Environments: names with their values.
-pub mod environment {
-    pub use dotenvy_base::environment::{Environment, Pairs, Vars, is_name};
-    pub use dotenvy_items::keys::is_key;
-}
-
 /// The search for a file, over what the caller sees at a path.
 pub mod search {
     pub use dotenvy_base::search::{Look, find};

@@ -1,9 +1,9 @@
 -- The pairs of an environment are good ones, each by itself.
 use Rattle.std.proofs.Common.{◌≡◌, ℕ, cond, List, [], ◌∷◌, T, refl, ◌∙◌}
 use Rattle.std.proofs.lemmas.Option.{none-some}
-use Rattle.std.proofs.lemmas.Cmp.{nat_list_cmp_total}
+use Rattle.std.proofs.lemmas.Cmp.{nat_list_cmp_total, tied_itself}
 use Rattle.std.specs.Prelude.{Some, None, IsTrue}
-use Rattle.std.specs.Ordering.{is_eq, is_lt, nat_cmp, ordering_reverse}
+use Rattle.std.specs.Ordering.{is_eq, is_lt, nat_cmp}
 use Rattle.std.specs.Cmp.Lexicographic.{slice_cmp}
 use Rattle.std.specs.FinMap.{find, entries, is_sorted, entries_sorted, get-entries}
 use Rattle.std.specs.FinMap.Entries.{below_all}
@@ -12,13 +12,6 @@ use Rattle.dotenvy_base.specs.Environment.{Env, IsEnvironment, AreGood, name_ok,
 use Rattle.dotenvy_base.proofs.Basics.{left_holds, right_holds}
 use Rattle.dotenvy_base.proofs.TextMaps.{by_name}
 use Rattle.std.proofs.lemmas.Bool.{and_from}
-
--- a name ties with itself
-ties_itself : (name : List ℕ) → slice_cmp nat_cmp name name ≡ Equal
-ties_itself name =
-    elim (slice_cmp nat_cmp name name) as (λ r. r ≡ ordering_reverse r → r ≡ Equal)
-    [ Less ↦ λ e. cc | Equal ↦ λ e. refl | Greater ↦ λ e. cc ]
-    (nat_list_cmp_total.antisymm name name)
 
 -- a name below all others is none of them
 below_none : (name : List ℕ) (pairs : List (List ℕ × List ℕ)) → T (below_all (slice_cmp nat_cmp) name pairs) →
@@ -45,7 +38,7 @@ all_good : (pairs : List (List ℕ × List ℕ)) → T (is_sorted (slice_cmp nat
     AreGood pairs
 all_good [] sorted good = refl
 all_good (pair ∷ pairs) sorted good =
-    let own = good pair.0 pair.1 (rw (ties_itself pair.0) refl) in
+    let own = good pair.0 pair.1 (rw (tied_itself nat_list_cmp_total pair.0) refl) in
     let later = all_good pairs (right_holds _ _ sorted)
     (λ name value is. good name value (found_later pair pairs name value (left_holds _ _ sorted) is)) in
     and_from _ _ (and_from _ _ own.0 own.1) later

@@ -7,7 +7,7 @@ use Rattle.std.specs.List.{list_any, before_last, suffix_len}
 use Rattle.dotenvy_base.specs.declared.search.Look.{Look}
 use Rattle.std.proofs.lemmas.List.{length-take}
 use Rattle.dotenvy_base.specs.Search.{slash, is_slash, path_in, parent_part, parent_of, Ascends}
-use Rattle.dotenvy_base.specs.Search.{Answer, ends_search, AreAsked, search_answer, Searches, Sees}
+use Rattle.dotenvy_base.specs.Search.{SearchEnd, ends_search, AreAsked, search_answer, Searches, Sees}
 use Rattle.std.proofs.lemmas.Bool.{cond_both}
 use Rattle.std.proofs.lemmas.Option.{none-some, same_Some}
 
@@ -108,7 +108,7 @@ search_exists directory name looks =
     (k.0, record { directories = directory ∷ a.0; ascends = a.1; are_asked = k.1; answers = refl }, k.2)
 
 -- where the same is at the candidates, a search asks one list of them and has one answer
-pub one_search : (directory name : List ℕ) (looks : ℕ → Look) (a b : List (List ℕ × Look)) (x y : Answer) →
+pub one_search : (directory name : List ℕ) (looks : ℕ → Look) (a b : List (List ℕ × Look)) (x y : SearchEnd) →
     Searches directory name a x → Searches directory name b y → Sees looks a → Sees looks b → (b ≡ a) × (y ≡ x)
 one_search directory name looks a b x y s t h k =
     let d = one_ascent directory t.directories s.directories t.ascends s.ascends in

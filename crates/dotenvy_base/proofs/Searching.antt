@@ -19,7 +19,7 @@ use Rattle.dotenvy_base.specs.declared.search.Look.{Look}
 use Rattle.dotenvy_base.specs.declared.search.Look.TheVariants.{File, Other, Fault}
 use Rattle.dotenvy_base.specs.Errors.{IsMemoryErr}
 use Rattle.dotenvy_base.specs.Search.{path_in, parent_of, Ascends, is_not_found, ends_search}
-use Rattle.dotenvy_base.specs.Search.{AreAsked, Answer, FoundAt, FoundNowhere, EndedBy}
+use Rattle.dotenvy_base.specs.Search.{AreAsked, SearchEnd, FoundAt, FoundNowhere, EndedBy}
 use Rattle.dotenvy_base.specs.Search.{search_answer, Searches}
 use Rattle.dotenvy_base.specs.Find.{LookStep, AsksInTurn, AnswersSearch, Finds, IsPathOf}
 use Rattle.std.proofs.lemmas.Bool.{cond-true, not-false, not-true}
@@ -61,13 +61,13 @@ answer_past path Other asked h = refl
 answer_past path (Fault fault) asked h = cond-true _ _ _ (not-false _ h)
 
 -- what is still to be asked, from a directory on or from none
-abbrev pub SearchesOn : Option (List ℕ) → List ℕ → List (List ℕ × Look) → Answer → Type 0
+abbrev pub SearchesOn : Option (List ℕ) → List ℕ → List (List ℕ × Look) → SearchEnd → Type 0
 SearchesOn None name asked answer = (asked ≡ []) × (answer ≡ FoundNowhere)
 SearchesOn (Some directory) name asked answer = Searches directory name asked answer
 
 -- a search that goes on after a directory is one from that directory
 searches_past : (directory name : List ℕ) (above : Option (List ℕ)) (look : Look) (asked : List (List ℕ × Look))
-    (answer : Answer) → parent_of directory ≡ above → ends_search look ≡ false → SearchesOn above name asked answer →
+    (answer : SearchEnd) → parent_of directory ≡ above → ends_search look ≡ false → SearchesOn above name asked answer →
     Searches directory name ((path_in directory name, look) ∷ asked) answer
 searches_past directory name None look asked answer e h s = record {
   directories = directory ∷ [];
@@ -92,16 +92,10 @@ searches_ended directory name look h = let a = ascent_exists directory in
 no_calls : {F : Type 0} (step : LookStep F) (look : F) → AsksInTurn step look [] look
 no_calls step look = record { calls = []; are_asked = refl; steps = refl }
 
--- one call was made
-one_call : {F : Type 0} (step : LookStep F) (before after : F) (path : Path) (look : Look) (asked : List ℕ) →
-    step before path look after → path_bytes path ≡ asked → AsksInTurn step before ((asked, look) ∷ []) after
-one_call step before after path look asked call p =
-    record { calls = (path, look) ∷ []; are_asked = rw p refl; steps = (after, call, refl) }
-
 -- so far the search was asked: what is asked from here on completes it
 pub record Asking {F : Type 0} (step : LookStep F) (start : F) (directory name : List ℕ) (above : Option (List ℕ))
     (look : F) : Type 0 where
-  pub completes : (asked later : List (List ℕ × Look)) (answer : Answer) (end : F) →
+  pub completes : (asked later : List (List ℕ × Look)) (answer : SearchEnd) (end : F) →
       SearchesOn above name (asked ++ later) answer → AsksInTurn step look asked end →
       (front : List (List ℕ × Look)) ×
       Searches directory name (front ++ later) answer × AsksInTurn step start front end
@@ -124,7 +118,7 @@ module _ {F : Type 0} {step : LookStep F} {start : F} {directory name : List ℕ
 
   -- what was asked so far, and what was asked last, is what the search asks
   finds : {A : Type 0} {above : Option (List ℕ)} {look end : F} {result : Result (PathBuf A) (Error A)}
-      (asked later : List (List ℕ × Look)) (answer : Answer) → Asking step start directory name above look →
+      (asked later : List (List ℕ × Look)) (answer : SearchEnd) → Asking step start directory name above look →
       SearchesOn above name (asked ++ later) answer → AsksInTurn step look asked end →
       IsMemoryErr result ⊎ ((later ≡ []) × AnswersSearch answer result) → Finds step start end directory name result
   finds asked later answer asking s a outcome =
@@ -151,10 +145,10 @@ module _ {F : Type 0} {step : LookStep F} {start : F} {directory name : List ℕ
       path_bytes path ≡ path_in place name → step before path look after → ends_search look ≡ true →
       AnswersSearch (search_answer ((path_in place name, look) ∷ [])) result →
       Finds step start after directory name result
-  finds_ended {before = before} {after} {place} {path} {look} asking p call h answers =
+  finds_ended {after = after} {place} {path} {look} asking p call h answers =
       let last = (path_in place name, look) ∷ [] in
       finds last [] (search_answer last) asking (searches_ended place name look h)
-      (one_call step before after path look (path_in place name) call p) (inr (refl, answers))
+      (record { calls = (path, look) ∷ []; are_asked = rw p refl; steps = (after, call, refl) }) (inr (refl, answers))
 
   -- no directory is left
   pub finds_none : {A : Type 0} {look : F} {result : Result (PathBuf A) (Error A)} →
@@ -197,7 +191,7 @@ found_among name (d ∷ directories) ((first, Fault fault) ∷ asked) path a h =
     [ true ↦ λ x e. found_among name directories asked path (went_on false _ _ x refl) e | false ↦ λ x e. cc ] a.1 h
 
 -- where the answer is no error, no allocation failed
-not_cut : {A Later : Type 0} (path : PathBuf A) (answer : Answer) →
+not_cut : {A Later : Type 0} (path : PathBuf A) (answer : SearchEnd) →
     IsMemoryErr {T = PathBuf A} {A = A} (Ok path) ⊎ (Later × AnswersSearch {A = A} answer (Ok path)) →
     AnswersSearch {A = A} answer (Ok path)
 not_cut path answer (inl memory) = absurd memory
@@ -209,7 +203,7 @@ pub finds_a_path : {F A : Type 0} (step : LookStep F) (before after : F) (direct
 finds_a_path {A} step before after directory name path finds =
     at finds.answer (not_cut path finds.answer finds.outcome) finds.searches
   where
-    at : (answer : Answer) → AnswersSearch {A = A} answer (Ok path) →
+    at : (answer : SearchEnd) → AnswersSearch {A = A} answer (Ok path) →
         Searches directory name (finds.asked ++ finds.later) answer → IsPathOf name (path_buf_bytes path)
     at (FoundAt found) e s = let p =
         found_among name s.directories (finds.asked ++ finds.later) found s.are_asked (sym s.answers) in (p.0, e ∙ p.1)

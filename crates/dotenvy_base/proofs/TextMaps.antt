@@ -26,7 +26,7 @@ use Rattle.std.specs.declared.cmp.Ordering.{Ordering}
 use Rattle.std.specs.declared.cmp.Ordering.TheVariants.{Less, Equal, Greater}
 use Rattle.dotenvy_base.proofs.Basics.{both_hold}
 use Rattle.dotenvy_base.specs.Environment.{text_entries, Texts, Env, IsEnvironment, KeepsNames}
-use Rattle.dotenvy_base.specs.Environment.{name_ok, value_ok, pair_ok}
+use Rattle.dotenvy_base.specs.Environment.{name_ok, value_ok, pair_ok, env_of}
 
 -- the byte order of names
 abbrev pub bytes_cmp : List ℕ → List ℕ → Ordering
@@ -168,12 +168,36 @@ insert-absent {A} k v es = rw (insert-strings, get-strings) (of_found _ refl)
         (by_name (λ b. cond b (Some (string_bytes w)) (get (of_strings es) q) ≡ get (of_strings es) q) q
         (string_bytes k) (λ same. rw (same, get-strings, e) refl) refl))
 
--- it keeps a good map good
-pub good-absent : (m : Texts) (loaded absent : Bool) (k v : List ℕ) →
-    IsEnvironment (record { names = m; loaded = loaded }) → IsTrue (name_ok k) → IsTrue (value_ok v) →
-    IsEnvironment (record { names = cond absent m (insert m k v); loaded = loaded })
-good-absent m loaded true k v good name value = good
-good-absent m loaded false k v good name value = good-insert m loaded k v good name value
+-- the strings after such an insertion are an environment again
+pub good-entered : {A : Type 0} (k v : String A) (old : List (String A × String A)) (loaded : Bool)
+    {new : List (String A × String A)} →
+    new ≡ insert_entry string_cmp old k (unwrap_or (lookup (is_at (string_cmp k)) old) v) →
+    IsEnvironment (env_of old loaded) → IsTrue (name_ok (string_bytes k)) → IsTrue (value_ok (string_bytes v)) →
+    IsEnvironment (env_of new loaded)
+good-entered k v old loaded entered good name value = rw (entered, insert-absent)
+    (elim (contains_key (of_strings old) (string_bytes k)) as (λ b. IsEnvironment (record {
+      names = cond b (of_strings old) (insert (of_strings old) (string_bytes k) (string_bytes v));
+      loaded = loaded;
+    })) [ true ↦ good | false ↦ good-insert (of_strings old) loaded _ _ good name value ])
+
+-- they are the same environment, if the name was there
+pub kept-entered : {A : Type 0} (k v : String A) (old : List (String A × String A))
+    {new : List (String A × String A)} {loaded : Bool} {env : Env} →
+    new ≡ insert_entry string_cmp old k (unwrap_or (lookup (is_at (string_cmp k)) old) v) →
+    env_of old loaded ≡ env → contains_key env.names (string_bytes k) ≡ true → env_of new loaded ≡ env
+kept-entered k v old entered is there =
+    let here = rw (← is) at there in rw (entered, insert-absent, here) is
+
+-- they are the environment with the pair, if the name was absent
+pub absent-entered : {A : Type 0} (k v : String A) (old : List (String A × String A))
+    {new : List (String A × String A)} {loaded : Bool} {env : Env} →
+    new ≡ insert_entry string_cmp old k (unwrap_or (lookup (is_at (string_cmp k)) old) v) →
+    env_of old loaded ≡ env → contains_key env.names (string_bytes k) ≡ false →
+    env_of new loaded ≡ record env { names = insert env.names (string_bytes k) (string_bytes v) }
+absent-entered k v old entered is absent =
+    let here = rw (← is) at absent in
+    rw (entered, insert-absent, here)
+    (ap (λ e. record { names = insert e.names (string_bytes k) (string_bytes v); loaded = e.loaded }) is)
 
 -- a new name leaves the others
 pub keeps_insert : (m n : Texts) (k v : List ℕ) → KeepsNames m n → is_some (get n k) ≡ false →

@@ -29,16 +29,12 @@ pub record OneWrite (before after : SinkTold) (rest : List ℕ) (r : Result ℕ 
   pub fault : after.last_fault ≡ fault_after before.last_fault rest r
   pub calls : TellsCall before.calls after.calls (call_of (length rest) r)
 
--- a fault of a write of some bytes is the last
-fault_told : (last : Option ErrorKind) {xs : List ℕ} (e : Error) → xs ≢ [] →
-    fault_after last xs (Err e) ≡ Some (error_kind e)
-fault_told last {xs = []} e some = absurd (some refl)
-fault_told last {xs = x ∷ xs} e some = refl
-
--- after a write that took none of some bytes, the last fault is WriteZero
-zero_told : (last : Option ErrorKind) {xs : List ℕ} → xs ≢ [] → fault_after last xs (Ok 0) ≡ Some WriteZero
-zero_told last {xs = []} some = absurd (some refl)
-zero_told last {xs = x ∷ xs} some = refl
+-- after a write of some bytes the last fault is the same, whichever these are
+told_of_some : (last : Option ErrorKind) (xs : List ℕ) (r : Result ℕ Error) → xs ≢ [] →
+    fault_after last xs r ≡ fault_after last (0 ∷ []) r
+told_of_some last [] r some = absurd (some refl)
+told_of_some last (x ∷ xs) (Ok n) some = refl
+told_of_some last (x ∷ xs) (Err e) some = refl
 
 -- after a write that took something, the last fault is the one that was last before it
 fault_kept : (last : Option ErrorKind) {n : ℕ} (xs : List ℕ) → n ≢ 0 → fault_after last xs (Ok n) ≡ last
@@ -135,7 +131,7 @@ sending_again {before} {mid} {after} {rest = rest} {e = e} s w some interrupted 
   front = s.front;
   cut = s.cut;
   appended = appended_same before.held mid.held after.held s.front rest e s.appended w.bytes;
-  taken = λ none. inl (w.fault ∙ fault_told mid.last_fault e some ∙ ap Some interrupted);
+  taken = λ none. inl (w.fault ∙ told_of_some mid.last_fault rest (Err e) some ∙ ap Some interrupted);
   made = made_more s.made w.calls interrupted;
 }
 
@@ -220,7 +216,7 @@ module _ {A W : Type 0} (sink : W → SinkTold) {most : ℕ} {old : W} {bytes re
       Sends {A = A} sink most old new bytes (Err (Io e))
   sends_failed {mid} {new} {e} s w few some differs =
       sends_fault s w few some (appended_same (sink old).held _ _ s.front rest e s.appended w.bytes) (differs, refl)
-      (w.fault ∙ fault_told (sink mid).last_fault e some, differs)
+      (w.fault ∙ told_of_some (sink mid).last_fault rest (Err e) some, differs)
 
   -- where a write took nothing, the call answers WriteZero
   pub sends_zero : {mid new : W} {e : Error} → Sending (sink old) (sink mid) bytes rest count →
@@ -229,7 +225,7 @@ module _ {A W : Type 0} (sink : W → SinkTold) {most : ℕ} {old : W} {bytes re
   sends_zero {mid} s w few some kind =
       sends_fault s w few some (rw append-nil at (appended_more (sink old).held _ _ s.front rest 0 s.appended w.bytes))
       (refl, kind) (
-        w.fault ∙ zero_told (sink mid).last_fault some ∙ ap Some (sym kind),
+        w.fault ∙ told_of_some (sink mid).last_fault rest (Ok 0) some ∙ ap Some (sym kind),
         λ same. (let f : WriteZero ≡ Interrupted = sym kind ∙ same in cc),
       )
 

@@ -26,14 +26,14 @@ env_code =
     (λ e. (e.names, e.loaded)) (λ p. record { names = p.0; loaded = p.1 }) (λ _. refl)
 
 -- the byte between a name and its value
-abbrev pub equals_sign : ℕ
-equals_sign = 61
+abbrev pub name_separator : ℕ
+name_separator = 61
 
 -- the bytes are a name: they are not empty, and have no `=` and no NUL
 abbrev pub name_ok : List ℕ → Bool
 name_ok [] = false
 name_ok (b ∷ bs) =
-    not (list_any (λ c. c == equals_sign) (b ∷ bs)) && not (list_any (λ c. c == 0) (b ∷ bs))
+    not (list_any (λ c. c == name_separator) (b ∷ bs)) && not (list_any (λ c. c == 0) (b ∷ bs))
 
 -- the bytes are a value: they have no NUL
 abbrev pub value_ok : List ℕ → Bool

@@ -12,11 +12,8 @@ use Rattle.dotenvy_base.specs.declared.errors.Error.TheVariants.{LineParse, Io, 
 
 -- the error is an `Io` for which P holds
 abbrev pub IsIoOf : {A : Type 0} → (IoError → Type 0) → Error A → Type 0
-IsIoOf P (LineParse _ _) = ⊥
 IsIoOf P (Io e) = P e
-IsIoOf P (EnvVar _) = ⊥
-IsIoOf P (Nul _) = ⊥
-IsIoOf P (Memory _) = ⊥
+IsIoOf P _ = ⊥
 
 -- the error is an `Io` of kind `NotFound`
 abbrev pub IsNotFound : {A : Type 0} → Error A → Type 0
@@ -24,11 +21,8 @@ IsNotFound e = IsIoOf (λ fault. error_kind fault ≡ NotFound) e
 
 -- the error says that an allocation failed
 abbrev pub IsMemory : {A : Type 0} → Error A → Type 0
-IsMemory (LineParse _ _) = ⊥
-IsMemory (Io _) = ⊥
-IsMemory (EnvVar _) = ⊥
-IsMemory (Nul _) = ⊥
 IsMemory (Memory _) = Unit {0}
+IsMemory _ = ⊥
 
 -- what is printed of a `LineParse` with this text and this place
 abbrev pub line_parse_text : List ℕ → ℕ → List ℕ
@@ -45,11 +39,8 @@ error_text (Memory _) = Some (codes "out of memory")
 
 -- the error says that the value of this key has a NUL
 abbrev pub IsNulOf : {A : Type 0} → List ℕ → Error A → Type 0
-IsNulOf key (LineParse _ _) = ⊥
-IsNulOf key (Io _) = ⊥
-IsNulOf key (EnvVar _) = ⊥
 IsNulOf key (Nul text) = string_bytes text ≡ key
-IsNulOf key (Memory _) = ⊥
+IsNulOf key _ = ⊥
 
 -- the call failed because an allocation failed
 abbrev pub IsMemoryErr : {T A : Type 0} → Result T (Error A) → Type 0
@@ -60,10 +51,7 @@ IsMemoryErr (Err e) = IsMemory e
 abbrev pub IsLineParseOf : {A : Type 0} → List ℕ → ℕ → Error A → Type 0
 IsLineParseOf text index (LineParse found place) =
     (chars (string_bytes found) ≡ text) × (place ≡ index)
-IsLineParseOf text index (Io _) = ⊥
-IsLineParseOf text index (EnvVar _) = ⊥
-IsLineParseOf text index (Nul _) = ⊥
-IsLineParseOf text index (Memory _) = ⊥
+IsLineParseOf text index _ = ⊥
 
 -- an error of this kind says that the system is out of memory
 abbrev pub is_out_of_memory : ErrorKind → Bool
@@ -72,24 +60,11 @@ is_out_of_memory _ = false
 
 -- the same error, except that an `Io` which says out of memory becomes `Memory`
 abbrev pub or_memory : {A : Type 0} → Error A → Error A
-or_memory (LineParse text place) = LineParse text place
 or_memory (Io fault) = if is_out_of_memory (error_kind fault) then Memory alloc_error else Io fault
-or_memory (EnvVar e) = EnvVar e
-or_memory (Nul key) = Nul key
-or_memory (Memory e) = Memory e
+or_memory e = e
 
--- the error is one of the system, such as that of a file, or a failed allocation
-abbrev pub IsSystemFault : {A : Type 0} → Error A → Type 0
-IsSystemFault (LineParse _ _) = ⊥
-IsSystemFault (Io _) = Unit {0}
-IsSystemFault (EnvVar _) = ⊥
-IsSystemFault (Nul _) = ⊥
-IsSystemFault (Memory _) = Unit {0}
-
--- the same, of an error that `or_memory` returned: an `Io` never says out of memory
+-- the error is one of the system, such as that of a file, or a failed allocation; an `Io` never says out of memory
 abbrev pub IsFileFault : {A : Type 0} → Error A → Type 0
-IsFileFault (LineParse _ _) = ⊥
 IsFileFault (Io fault) = is_out_of_memory (error_kind fault) ≡ false
-IsFileFault (EnvVar _) = ⊥
-IsFileFault (Nul _) = ⊥
 IsFileFault (Memory _) = Unit {0}
+IsFileFault _ = ⊥

@@ -8,7 +8,7 @@ use Rattle.dotenvy_base.specs.declared.errors.Error.{Error}
 use Rattle.dotenvy_base.specs.declared.errors.Error.TheVariants.{Io}
 use Rattle.dotenvy_base.specs.declared.search.Look.{Look}
 use Rattle.dotenvy_base.specs.Errors.{IsMemoryErr, IsNotFound}
-use Rattle.dotenvy_base.specs.Search.{Answer, FoundAt, EndedBy, FoundNowhere, Searches, path_in}
+use Rattle.dotenvy_base.specs.Search.{SearchEnd, FoundAt, EndedBy, FoundNowhere, Searches, path_in}
 
 -- a path that was asked for, as bytes, with what the look returned
 abbrev pub seen : Path × Look → List ℕ × Look
@@ -27,7 +27,7 @@ pub record AsksInTurn {F : Type 0} (step : LookStep F) (before : F) (asked : Lis
   pub steps : FoldsTo (λ look call next. step look call.0 call.1 next) before calls after
 
 -- the result says the answer of the search: the path found, the fault that ended it, or an error of kind `NotFound`
-abbrev pub AnswersSearch : {A : Type 0} → Answer → Result (PathBuf A) (Error A) → Type 0
+abbrev pub AnswersSearch : {A : Type 0} → SearchEnd → Result (PathBuf A) (Error A) → Type 0
 AnswersSearch (FoundAt path) result = IsOkAnd result (λ found. path_buf_bytes found ≡ path)
 AnswersSearch (EndedBy fault) result = result ≡ Err (Io fault)
 AnswersSearch FoundNowhere result = IsErrAnd result IsNotFound
@@ -37,7 +37,7 @@ pub record Finds {F A : Type 0} (step : LookStep F) (before after : F) (director
     (result : Result (PathBuf A) (Error A)) : Type 0 where
   pub asked : List (List ℕ × Look)
   pub later : List (List ℕ × Look)
-  pub answer : Answer
+  pub answer : SearchEnd
   pub searches : Searches directory name (asked ++ later) answer
   pub asks : AsksInTurn step before asked after
   pub outcome : IsMemoryErr result ⊎ ((later ≡ []) × AnswersSearch answer result)

@@ -7,8 +7,8 @@ use Rattle.dotenvy_base.specs.Search as search
 abbrev pub HasOneSearch : Type 0
 HasOneSearch =
     (directory name : List ℕ) (looks : ℕ → Look) →
-    (asked : List (List ℕ × Look)) × (answer : search.Answer)
+    (asked : List (List ℕ × Look)) × (answer : search.SearchEnd)
     × search.Searches directory name asked answer × search.Sees looks asked
-    × ((others : List (List ℕ × Look)) (other : search.Answer) →
+    × ((others : List (List ℕ × Look)) (other : search.SearchEnd) →
     search.Searches directory name others other → search.Sees looks others →
     (others ≡ asked) × (other ≡ answer))

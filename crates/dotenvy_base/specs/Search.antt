@@ -76,13 +76,13 @@ AreAsked (path ∷ paths) ((first, look) ∷ asked) =
     ⊎ (IsTrue (not (ends_search look)) × AreAsked paths asked))
 
 -- the answer of a search: the path of a file, the fault that ended it, or that there is no such file
-pub data Answer : Type 0 where
-  FoundAt : List ℕ → Answer
-  EndedBy : IoError → Answer
-  FoundNowhere : Answer
+pub data SearchEnd : Type 0 where
+  FoundAt : List ℕ → SearchEnd
+  EndedBy : IoError → SearchEnd
+  FoundNowhere : SearchEnd
 
 -- the answer that follows from the paths asked for and what is at each
-abbrev pub search_answer : List (List ℕ × Look) → Answer
+abbrev pub search_answer : List (List ℕ × Look) → SearchEnd
 search_answer [] = FoundNowhere
 search_answer ((path, File) ∷ candidates) = FoundAt path
 search_answer ((path, Other) ∷ candidates) = search_answer candidates
@@ -90,7 +90,7 @@ search_answer ((path, Fault fault) ∷ candidates) =
     if is_not_found (error_kind fault) then search_answer candidates else EndedBy fault
 
 -- a search for the name, from the directory up, asks for these paths, finds this at each, and has this answer
-pub record Searches (directory name : List ℕ) (asked : List (List ℕ × Look)) (answer : Answer) :
+pub record Searches (directory name : List ℕ) (asked : List (List ℕ × Look)) (answer : SearchEnd) :
     Type 0 where
   pub directories : List (List ℕ)
   pub ascends : Ascends directory directories

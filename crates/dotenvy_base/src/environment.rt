@@ -65,12 +65,6 @@ fn is_value(text: &str) -> bool
     !text.as_bytes().contains(&0)
 }
 
-fn is_pair(name: &str, value: &str) -> bool
-    ensures { result ≡ pair_ok (name.now, value.now) }
-{
-    is_name(name) && is_value(value)
-}
-
 impl<A: Allocator> Environment<A> {
     /// An environment with no names, whose `loaded` flag is not set. It allocates nothing; names that are set later are
     /// kept in `alloc`.
@@ -108,7 +102,7 @@ impl<A: Allocator> Environment<A> {
     {
         let mut env = Environment::new(alloc);
         for (name, value) in list {
-            if is_pair(&name, &value) && !env.contains(&name) {
+            if is_name(&name) && is_value(&value) && !env.contains(&name) {
                 env.set(name, value)?;
             }
         }
@@ -255,25 +249,6 @@ impl<A: Allocator> Environment<A> {
     }
 }
 
-// Inserts a pair if its key is absent, and returns whether it was. The map is searched once.
-fn insert_absent<A: Allocator + Clone>(
-    entries: &mut BTreeMap<String<A>, String<A>, A>,
-    key: String<A>,
-    value: String<A>,
-) -> Result<bool, A>
-    ensures ok { OnOk result (entries.new.entries ≡ insert_entry string_cmp entries.old.entries key
-        (unwrap_or (get string_cmp entries.old key) value)) }
-    ensures absent { IfOk result
-        (λ absent. absent ≡ not (is_some (get string_cmp entries.old key))) }
-    ensures err { OnErr result ((entries.new.entries ≡ entries.old.entries)
-        × (get string_cmp entries.old key ≡ None)) }
-    ensures memory { IfErr result IsMemory }
-{
-    let len = entries.len();
-    entries.entry(key)?.or_insert(value);
-    Ok(entries.len() != len)
-}
-
 /// Sets the value of one name if it is absent, and returns whether it was. A name that is there keeps its value.
 ///
 /// It requires a valid name (see [`is_name`]). If the name is absent, the errors are those of [`Environment::set`]. If
@@ -303,8 +278,10 @@ pub fn set_absent<A: Allocator + Clone>(
             Err(Error::Nul(key))
         };
     }
-    let absent = insert_absent(&mut env.entries, key, value)?;
-    Ok(absent)
+    // The map is searched once.
+    let len = env.entries.len();
+    env.entries.entry(key)?.or_insert(value);
+    Ok(env.entries.len() != len)
 }
 
 /// Sets the `loaded` flag of an environment. Only the first use does this, after its load.
@@ -312,16 +289,6 @@ pub fn mark_loaded<A: Allocator>(env: &mut Environment<A>)
     ensures { env.new ≡ record env.old { loaded = true } }
 {
     env.loaded = true;
-}
-
-/// A copy of the names of an environment with their values, in the byte order of the names. The error is `Memory`.
-pub fn snapshot<A: Allocator + Clone>(env: &Environment<A>) -> Result<Vars<A>, A>
-    ensures pairs { IfOk result (λ pairs. pairs ≡ fin.entries env.now.names) }
-    ensures memory { IfErr result IsMemory }
-{
-    Ok(Vars {
-        pairs: env.entries.clone()?.into_iter(),
-    })
 }
 
 /// Two environments are equal if they have the same names with the same values, and the same `loaded` flag.
@@ -380,6 +347,25 @@ impl<'a, A: Allocator> IntoIterator for &'a Environment<A> {
 
     fn into_iter(self) -> Pairs<'a, A> {
         self.iter()
+    }
+}
+
+/// The names with their values, in the byte order of the names, without a copy.
+impl<A: Allocator> IntoIterator for Environment<A> {
+    type Item = (String<A>, String<A>);
+
+    type IntoIter = Vars<A>;
+
+    ghost use Rattle.std.specs.Prelude.{◌≡◌};
+    ghost use Rattle.std.specs.FinMap as fin;
+
+    ghost into_iter_gives = { λ env vars. vars ≡ fin.entries env.names };
+
+    fn into_iter(self) -> Vars<A> {
+        let Environment { entries, loaded: _ } = self;
+        Vars {
+            pairs: entries.into_iter(),
+        }
     }
 }
 

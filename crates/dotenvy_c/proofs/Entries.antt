@@ -11,7 +11,7 @@ use Rattle.std.proofs.lemmas.List.{map_push, append_assoc, append-nil}
 use Rattle.std.proofs.lemmas.List.Elements.{All-from_get_or}
 use Rattle.std.proofs.lemmas.List.Splits.{slice_split_none, slice_split_first}
 use Rattle.std.proofs.lemmas.List.Sums.{position_or_len_is}
-use Rattle.dotenvy.specs.Environment.{name_ok, text_entries, value_ok}
+use Rattle.dotenvy.specs.Environment.{name_separator, name_ok, text_entries, value_ok}
 use Rattle.memchr.specs.Find.{IsFirstByte, is_byte}
 use Rattle.dotenvy_c.specs.Block.{is_nul, is_equals, entry_of, entry_pairs, block_pairs, is_block_pair}
 
@@ -87,8 +87,10 @@ more_fits name value left rest is named valued others =
     rw (is, named, valued, name_utf8, value_utf8) others
 
 -- with one entry more in front of those that are left the block is the same
-pub one_more : (block grown whole : List ℕ) (name value : List ℕ) (left rest : List (List ℕ × List ℕ)) →
-    left ≡ (name, value) ∷ rest → grown ≡ block ++ entry_of (name, value) →
+pub one_more : (block name value : List ℕ) {grown whole : List ℕ} (left rest : List (List ℕ × List ℕ)) →
+    left ≡ (name, value) ∷ rest → grown ≡ (((block ++ name) ++ name_separator ∷ []) ++ value) ++ 0 ∷ [] →
     block ++ flat_map entry_of left ≡ whole → grown ++ flat_map entry_of rest ≡ whole
-one_more block grown whole name value left rest is added before =
-    rw (added, append_assoc block (entry_of (name, value)) (flat_map entry_of rest)) (rw is at before)
+one_more block name value {grown = grown} left rest is adds before =
+    let joins : grown ++ flat_map entry_of rest ≡ block ++ (entry_of (name, value) ++ flat_map entry_of rest) =
+    rw adds (simp append_assoc) in
+    joins ∙ rw is at before

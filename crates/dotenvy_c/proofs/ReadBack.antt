@@ -16,7 +16,7 @@ use Rattle.std.proofs.lemmas.List.Splits.{slice_split_at}
 use Rattle.std.proofs.lemmas.List.Sums.{position_or_len_is}
 use Rattle.std.proofs.lemmas.Bool.{and_parts, or_parts, not-true}
 use Rattle.std.proofs.lemmas.Cmp.{nat_list_cmp_total}
-use Rattle.dotenvy.specs.Environment.{Texts, equals_sign, name_ok, pair_ok, value_ok}
+use Rattle.dotenvy.specs.Environment.{Texts, name_separator, name_ok, pair_ok, value_ok}
 use Rattle.dotenvy_c.specs.Block.{FitsBlock, block_names, block_of, entry_of, entry_pairs}
 use Rattle.dotenvy_c.proofs.Entries.{one_pair}
 use Rattle.dotenvy_c.specs.Block.{is_block_pair, is_equals, is_nul}
@@ -37,7 +37,7 @@ all_fail p (b ∷ bs) h =
 
 -- the name, the sign and the value of an entry, without its NUL
 abbrev body_of : List ℕ × List ℕ → List ℕ
-body_of (name, value) = name ++ equals_sign ∷ value
+body_of (name, value) = name ++ name_separator ∷ value
 
 -- a name has no equals sign, and no NUL
 name_clean : (name : List ℕ) → name_ok name ≡ true →
@@ -51,25 +51,25 @@ name_clean (b ∷ bs) h =
 body_no_nul : (name value : List ℕ) → name_ok name ≡ true → value_ok value ≡ true →
     All (λ b. is_nul b ≡ false) (body_of (name, value))
 body_no_nul name value named valued =
-    All-append (λ b. is_nul b ≡ false) name (equals_sign ∷ value) (name_clean name named).1
-    (All-cons (λ b. is_nul b ≡ false) equals_sign value refl (all_fail is_nul value (not-true _ valued)))
+    All-append (λ b. is_nul b ≡ false) name (name_separator ∷ value) (name_clean name named).1
+    (All-cons (λ b. is_nul b ≡ false) name_separator value refl (all_fail is_nul value (not-true _ valued)))
 
 -- the first equals sign is after the name
 first_equals : (name value : List ℕ) → name_ok name ≡ true →
     position_or_len is_equals (body_of (name, value)) ≡ length name
 first_equals name value named =
-    let size = length-append name (equals_sign ∷ value) in
+    let size = length-append name (name_separator ∷ value) in
     position_or_len_is is_equals (body_of (name, value)) (length name) 0 (omega (arith, size))
-    (λ k below. ap is_equals (get_or_append_left name (equals_sign ∷ value) 0 k below)
+    (λ k below. ap is_equals (get_or_append_left name (name_separator ∷ value) 0 k below)
     ∙ All-get_or (λ b. is_equals b ≡ false) name k 0 below (name_clean name named).0)
-    (λ within. ap is_equals (get_or-append_seam name equals_sign value 0))
+    (λ within. ap is_equals (get_or-append_seam name name_separator value 0))
 
 -- an entry of UTF-8 is UTF-8
 body_utf8 : (name value : List ℕ) → is_utf8 name ≡ true → is_utf8 value ≡ true → IsUtf8 (body_of (name, value))
 body_utf8 name value named valued =
-    IsUtf8-append name (equals_sign ∷ value) (IsUtf8-from_is_utf8 name named)
-    (IsUtf8-append (equals_sign ∷ []) value
-    (IsUtf8-from_ascii (equals_sign ∷ []) (IsAscii-cons equals_sign [] (lit< tt) IsAscii-nil))
+    IsUtf8-append name (name_separator ∷ value) (IsUtf8-from_is_utf8 name named)
+    (IsUtf8-append (name_separator ∷ []) value
+    (IsUtf8-from_ascii (name_separator ∷ []) (IsAscii-cons name_separator [] (lit< tt) IsAscii-nil))
     (IsUtf8-from_is_utf8 value valued))
 
 -- the pair of an entry
@@ -78,9 +78,9 @@ body_pair : (name value : List ℕ) → is_block_pair (name, value) ≡ true →
 body_pair name value fits =
     let parts = fits_parts name value fits in
     let at = first_equals name value parts.0.0 in
-    let size = length-append name (equals_sign ∷ value) in
+    let size = length-append name (name_separator ∷ value) in
     one_pair (body_of (name, value)) (body_utf8 name value parts.1.0 parts.1.1) (omega (arith, at, size))
-    ∙ rw (at, take-append_seam name (equals_sign ∷ value), drop-append-add name (equals_sign ∷ value) 1) refl
+    ∙ rw (at, take-append_seam name (name_separator ∷ value), drop-append-add name (name_separator ∷ value) 1) refl
 
 -- a block that begins with an entry is cut after it
 cut_entry : (name value rest : List ℕ) → is_block_pair (name, value) ≡ true →

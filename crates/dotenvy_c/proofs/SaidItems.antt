@@ -21,7 +21,7 @@ use Rattle.dotenvy_items.proofs.Iterations.{items_in_order}
 use Rattle.dotenvy_c.specs.File.{file_told, fresh_file}
 use Rattle.dotenvy_c.specs.Items.{TellsItems, ToldItem}
 use Rattle.dotenvy_c.specs.Said.{SayTold, SaysTold}
-use Rattle.dotenvy_c.specs.Told.{Told, error_told, item_told, kind_status}
+use Rattle.dotenvy_c.specs.Told.{ToldResult, error_told, item_told, kind_status}
 
 -- the items that C is told of
 given_of : (names : Texts) (s : IterState) (told : List ToldItem) → TellsItems names s told → List (Item Global)
@@ -36,12 +36,12 @@ gives names s [] tells = tells
 gives names s (first ∷ later) (t, tells, others) = (t, tells.next, gives names t later others)
 
 -- an error that is told is no refused memory
-pub not_refused_error : (error : Error Global) (told : Told) → error_told error ≡ Some told → ¬ (IsMemory error)
+pub not_refused_error : (error : Error Global) (told : ToldResult) → error_told error ≡ Some told → ¬ (IsMemory error)
 not_refused_error (Memory e) told tells = λ h. none-some told tells
 not_refused_error error told tells = λ h. h
 
 -- nor is an item
-not_refused : (item : Item Global) (told : Told) → item_told item ≡ Some told → ¬ (IsMemoryErr item)
+not_refused : (item : Item Global) (told : ToldResult) → item_told item ≡ Some told → ¬ (IsMemoryErr item)
 not_refused (Ok pair) told tells = λ h. h
 not_refused (Err error) told tells = not_refused_error error told tells
 
@@ -54,11 +54,11 @@ none_refused names s (first ∷ later) (t, tells, others) =
     (not_refused tells.item first.0 tells.tells, none_refused names t later others)
 
 -- what is told is what is said to be told
-told_is : {one told : Told} → Some one ≡ Some told → one ≡ told
+told_is : {one told : ToldResult} → Some one ≡ Some told → one ≡ told
 told_is e = cc
 
 -- an error as it is told says the failure that the error says
-pub error_says : (error : Error Global) (told : Told) (said : Failure) → error_told error ≡ Some told →
+pub error_says : (error : Error Global) (told : ToldResult) (said : Failure) → error_told error ≡ Some told →
     SaysItem {A = Global} (Err error) (Err said) → SaysTold told (Err said)
 error_says (LineParse line place) told (said_line text index) tells says =
     rw (← (told_is tells)) (refl, refl, says.0, says.1)
@@ -69,7 +69,7 @@ error_says (Memory e) told said tells says = absurd (none-some told tells)
 error_says error told said tells says = absurd says
 
 -- an item as it is told says what the item says
-item_says : (item : Item Global) (told : Told) (said : Result (List ℕ × List ℕ) Failure) →
+item_says : (item : Item Global) (told : ToldResult) (said : Result (List ℕ × List ℕ) Failure) →
     item_told item ≡ Some told → SaysItem item said → SaysTold told said
 item_says (Ok pair) told (Ok (key, value)) tells says = rw (← (told_is tells)) (refl, says.0, says.1, refl)
 item_says (Err error) told (Err failure) tells says = error_says error told failure tells says

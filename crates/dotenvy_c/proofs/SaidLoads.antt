@@ -28,9 +28,9 @@ use Rattle.dotenvy_items.proofs.WholeLoads.{load_takes_all, override_takes_all}
 use Rattle.dotenvy_c.specs.Block.{block_names}
 use Rattle.dotenvy_c.specs.File.{file_told, fresh_file}
 use Rattle.dotenvy_c.specs.Load.{LoadsFile}
-use Rattle.dotenvy_c.specs.Options.{dialect_of, has_option, rule_of}
-use Rattle.dotenvy_c.specs.Said.{SaysAnswer, SaysLoad}
-use Rattle.dotenvy_c.specs.Told.{Told, outcome_told}
+use Rattle.dotenvy_c.specs.Options.{dialect_of, has_option, rule_asked}
+use Rattle.dotenvy_c.specs.Said.{SaysLoadAnswer, SaysLoad}
+use Rattle.dotenvy_c.specs.Told.{ToldResult, outcome_told}
 use Rattle.dotenvy_c.proofs.SaidItems.{error_says, not_refused_error}
 
 -- where nothing is remembered, no name has a remembered text
@@ -45,29 +45,30 @@ takes_all true = override_takes_all
 takes_all false = load_takes_all
 
 -- a result that is told is no refused memory
-outcome_not_refused : (outcome : Result (Unit {0}) (Error Global)) (told : Told) → outcome_told outcome ≡ Some told →
+outcome_not_refused : (outcome : Result (Unit {0}) (Error Global)) (told : ToldResult) →
+    outcome_told outcome ≡ Some told →
     ¬ (IsMemoryErr outcome)
 outcome_not_refused (Ok done) told tells = λ h. h
 outcome_not_refused (Err error) told tells = not_refused_error error told tells
 
 -- a result as it is told says what the result says
-answer_says : (outcome : Result (Unit {0}) (Error Global)) (told : Told) (said : Result (Unit {0}) Failure) →
-    outcome_told outcome ≡ Some told → IsAnswer said outcome → SaysAnswer told said
+answer_says : (outcome : Result (Unit {0}) (Error Global)) (told : ToldResult) (said : Result (Unit {0}) Failure) →
+    outcome_told outcome ≡ Some told → IsAnswer said outcome → SaysLoadAnswer told said
 answer_says (Ok done) told (Ok r) tells is =
-    subst (λ o. SaysAnswer o (Ok r)) (ap (λ o. unwrap_or o told) tells) (refl, refl, refl, refl)
+    subst (λ o. SaysLoadAnswer o (Ok r)) (ap (λ o. unwrap_or o told) tells) (refl, refl, refl, refl)
 answer_says (Ok done) told (Err failure) tells is = absurd is
 answer_says (Err error) told (Ok r) tells is = absurd is
 answer_says (Err error) told (Err failure) tells is = error_says error told failure tells is
 
-pub loads_all_entries : (options : ℕ) (file block : List ℕ) (names : Texts) (entries : List Entry) (told : Told) →
+pub loads_all_entries : (options : ℕ) (file block : List ℕ) (names : Texts) (entries : List Entry) (told : ToldResult) →
     length file < most_reads → HasEntries (dialect_of options) (without_mark file) entries →
     LoadsFile options file block names told →
-    SaysLoad (rule_of options (values_of (block_names block)) no_values entries) names told
+    SaysLoad (rule_asked options (values_of (block_names block)) no_values entries) names told
 loads_all_entries options file block names entries told few has load =
     let a : Ahead = record { bytes = file; fault = None } in
     let readable : IsReadable a =
     record { few = few; not_interrupted = λ e. none-some Interrupted e } in
-    let rule : Rule = rule_of options in
+    let rule : Rule = rule_asked options in
     let leaves : Leaves (rule (values_of (block_names block)) (recalled_of fin.empty) (entries ++ [])) names
     load.outcome =
     takes_all (has_option options 1) (fresh_file file (dialect_of options)) a (block_names block) names load.outcome

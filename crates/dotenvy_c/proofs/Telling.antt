@@ -1,20 +1,15 @@
 -- The items that were told so far, and those of a whole file.
-use Rattle.std.proofs.Common.{ℕ, ◌≡◌, ◌≤◌, ◌+◌, Bool, List, [], ◌∷◌, ◌++◌, length, refl, ap, ◌∙◌}
+use Rattle.std.proofs.Common.{ℕ, ◌≡◌, ◌+◌, List, [], ◌∷◌, ◌++◌, length, refl}
 use Rattle.std.proofs.Common.{length-append, append-nil, add_assoc, add-zero, zero-add}
-use Rattle.std.specs.Prelude.{Some, None, IsTrue, ◌↔◌}
+use Rattle.std.specs.Prelude.{Some, None}
 use Rattle.std.proofs.lemmas.Grind.{flat_map-append}
 use Rattle.std.specs.declared.alloc.Global.{Global}
 use Rattle.dotenvy.specs.Environment.{Texts}
 use Rattle.dotenvy.specs.Iter.{IterState}
 use Rattle.dotenvy.specs.NextItem.{Item, NextItem}
-use Rattle.dotenvy_c.specs.declared.items.Item as rust
 use Rattle.dotenvy_c.specs.declared.items.Records.{Records}
-use Rattle.dotenvy_c.specs.Block.{block_names}
-use Rattle.dotenvy_c.specs.File.{fresh_file}
-use Rattle.dotenvy_c.specs.Options.{bytes_of, dialect_of}
-use Rattle.dotenvy_c.specs.Buffer.{written_if}
-use Rattle.dotenvy_c.specs.Items.{AddsItem, AnswersItems, HasRecords, TellsItem, TellsItems, ToldItem}
-use Rattle.dotenvy_c.specs.Items.{record_at, records_from, text_of, texts_of}
+use Rattle.dotenvy_c.specs.Items.{AddsItem, HasRecords, TellsItem, TellsItems, ToldItem}
+use Rattle.dotenvy_c.specs.Items.{record_at, records_from, item_text, texts_of}
 
 -- calls of `next_item` from s on gave these items, and left t
 abbrev pub TellsUpTo : Texts → IterState → List ToldItem → IterState → Type 0
@@ -48,14 +43,14 @@ records_more : (at : ℕ) (told : List ToldItem) (more : ToldItem) →
 records_more at [] more = rw add-zero refl
 records_more at (first ∷ told) more =
     rw (
-      records_more (at + length (text_of first)) told more,
-      length-append (text_of first) (texts_of told),
-      add_assoc at (length (text_of first)) (length (texts_of told)),
+      records_more (at + length (item_text first)) told more,
+      length-append (item_text first) (texts_of told),
+      add_assoc at (length (item_text first)) (length (texts_of told)),
     ) refl
 
 -- the texts with one more
 texts_more : (told : List ToldItem) (more : ToldItem) →
-    texts_of (told ++ more ∷ []) ≡ texts_of told ++ text_of more
+    texts_of (told ++ more ∷ []) ≡ texts_of told ++ item_text more
 texts_more told more = simp (flat_map-append, append-nil)
 
 -- nothing was taken yet
@@ -67,14 +62,14 @@ none_taken names s records no_items no_text = record { told = []; tells = refl; 
 pub one_taken : {names : Texts} {s t u : IterState} {old new : Records} {item : Item Global} {lines : ℕ × ℕ} →
     HasTaken names s t old → NextItem names t (Some item) u → u.item_lines ≡ lines →
     AddsItem item lines old new → HasTaken names s u new
-one_taken {names = names} {s = s} {t = t} {u = u} {old = old} {item = item} {lines = lines} before next on adds =
+one_taken {names = names} {s = s} {t = t} {u = u} {item = item} {lines = lines} before next on adds =
     let more : ToldItem = (adds.told, lines) in record {
       told = before.told ++ more ∷ [];
       tells =
           tells_more names s t u before.told more before.tells
           (record { item = item; next = next; tells = adds.tells; lines = on });
-      items = rw (adds.adds.items, before.items, before.text, records_more 0 before.told more, zero-add) refl;
-      text = rw (adds.adds.text, before.text, texts_more before.told more) refl;
+      items = rw (adds.items, before.items, before.text, records_more 0 before.told more, zero-add) refl;
+      text = rw (adds.text, before.text, texts_more before.told more) refl;
     }
 
 -- all were taken
@@ -88,28 +83,6 @@ all_taken {names = names} {s = s} {t = t} {u = u} before none = record {
 }
 
 -- there are as many records as items
-length-records_from : (at : ℕ) (told : List ToldItem) → length (records_from at told) ≡ length told
+pub length-records_from : (at : ℕ) (told : List ToldItem) → length (records_from at told) ≡ length told
 length-records_from at [] = refl
-length-records_from at (first ∷ told) = rw (length-records_from (at + length (text_of first)) told) refl
-
--- records and texts, written where both fit, answer a call for items
-pub answered_items : {options : ℕ} {file block : List ℕ} {records : Records} →
-    HasRecords (block_names block) (fresh_file (bytes_of options file) (dialect_of options)) records →
-    (fits : Bool) (count text_len : ℕ) (old_items new_items : List rust.Item) (old new : List ℕ) →
-    count ≡ length records.items.items → text_len ≡ length records.text.items →
-    (IsTrue fits ↔ ((length records.items.items ≤ length old_items) × (length records.text.items ≤ length old))) →
-    new_items ≡ written_if fits records.items.items old_items → new ≡ written_if fits records.text.items old →
-    AnswersItems options file block
-    (record { status = 0; fits = fits; items = count; text_len = text_len }) old_items new_items old new
-answered_items {records = records} has fits count text_len old_items new_items old new counted measured wide items
-    texts =
-    let size = ap length has.items ∙ length-records_from 0 has.told in record {
-      told = has.told;
-      tells = has.tells;
-      status = refl;
-      items = counted ∙ size;
-      text_len = measured ∙ ap length has.text;
-      fits = rw (size, has.text) at wide;
-      records = rw (← has.items) items;
-      texts = rw (← has.text) texts;
-    }
+length-records_from at (first ∷ told) = rw (length-records_from (at + length (item_text first)) told) refl

@@ -6,7 +6,7 @@ use Rattle.std.specs.List.{list_all, position_or_len, flat_map, slice_split, bef
 use Rattle.std.specs.List.{after_first}
 use Rattle.std.specs.Str.{is_utf8}
 use Rattle.std.specs.FinMap as fin
-use Rattle.dotenvy.specs.Environment.{Texts, equals_sign, pair_ok}
+use Rattle.dotenvy.specs.Environment.{Texts, name_separator, pair_ok}
 
 -- the byte after each entry
 abbrev pub is_nul : ℕ → Bool
@@ -14,7 +14,7 @@ is_nul b = b == 0
 
 -- the byte between a name and its value
 abbrev pub is_equals : ℕ → Bool
-is_equals b = b == equals_sign
+is_equals b = b == name_separator
 
 -- the name and the value of an entry, around its first `=`; an entry without one has no pair, nor
 -- has one that is not UTF-8
@@ -34,7 +34,7 @@ block_names block = fin.from_entries (filter pair_ok (block_pairs block))
 
 -- an entry of a block
 abbrev pub entry_of : List ℕ × List ℕ → List ℕ
-entry_of (name, value) = name ++ equals_sign ∷ (value ++ 0 ∷ [])
+entry_of (name, value) = name ++ name_separator ∷ (value ++ 0 ∷ [])
 
 -- the block that stands for an environment, in byte order of the names
 abbrev pub block_of : Texts → List ℕ

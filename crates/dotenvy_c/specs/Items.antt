@@ -12,13 +12,13 @@ use Rattle.dotenvy_c.specs.declared.items.Counts.{Counts}
 use Rattle.dotenvy_c.specs.declared.items.Records.{Records}
 use Rattle.dotenvy_c.specs.Block.{block_names}
 use Rattle.dotenvy_c.specs.File.{fresh_file}
-use Rattle.dotenvy_c.specs.Options.{bytes_of, dialect_of}
+use Rattle.dotenvy_c.specs.Options.{bytes_asked, dialect_of}
 use Rattle.dotenvy_c.specs.Buffer.{written_if}
-use Rattle.dotenvy_c.specs.Told.{Told, item_told}
+use Rattle.dotenvy_c.specs.Told.{ToldResult, item_told}
 
 -- what C is told of an item, and the first and the last physical line that it is on
 abbrev pub ToldItem : Type 0
-ToldItem = Told × (ℕ × ℕ)
+ToldItem = ToldResult × (ℕ × ℕ)
 
 -- what C is told of a call of `next_item` from s to t
 pub record TellsItem (names : Texts) (s : IterState) (told : ToldItem) (t : IterState)
@@ -35,8 +35,8 @@ TellsItems names s (told ∷ later) =
     (t : IterState) × TellsItem names s told t × TellsItems names t later
 
 -- the key and the text of an item, one after the other
-abbrev pub text_of : ToldItem → List ℕ
-text_of told = told.0.key ++ told.0.text
+abbrev pub item_text : ToldItem → List ℕ
+item_text told = told.0.key ++ told.0.text
 
 -- the record of an item whose key begins here
 abbrev pub record_at : ℕ → ToldItem → rust.Item
@@ -53,11 +53,11 @@ record_at at (told, (first, last)) = record {
 -- the records of items whose texts begin here
 abbrev pub records_from : ℕ → List ToldItem → List rust.Item
 records_from at [] = []
-records_from at (told ∷ later) = record_at at told ∷ records_from (at + length (text_of told)) later
+records_from at (told ∷ later) = record_at at told ∷ records_from (at + length (item_text told)) later
 
 -- the keys and texts of items
 abbrev pub texts_of : List ToldItem → List ℕ
-texts_of = flat_map text_of
+texts_of = flat_map item_text
 
 -- the records of the items that are left of s, under these names
 pub record HasRecords (names : Texts) (s : IterState) (records : Records) : Type 0 where
@@ -75,16 +75,13 @@ abbrev pub RefusesItems : ℕ → Counts → List rust.Item → List rust.Item �
 RefusesItems status counts old_items new_items old new =
     (counts ≡ refused_items status) × (new_items ≡ old_items) × (new ≡ old)
 
--- a told item was added to records
-pub record AddsTold (told : ToldItem) (old new : Records) : Type 0 where
-  pub items : new.items.items ≡ old.items.items ++ record_at (length old.text.items) told ∷ []
-  pub text : new.text.items ≡ old.text.items ++ text_of told
-
 -- an item that is on these lines was added to records, as it is told
 pub record AddsItem (item : Item Global) (lines : ℕ × ℕ) (old new : Records) : Type 0 where
-  pub told : Told
+  pub told : ToldResult
   pub tells : item_told item ≡ Some told
-  pub adds : AddsTold (told, lines) old new
+  pub items :
+      new.items.items ≡ old.items.items ++ record_at (length old.text.items) (told, lines) ∷ []
+  pub text : new.text.items ≡ old.text.items ++ item_text (told, lines)
 
 -- the answer to a call for the items of a file under the environment of a block: their records and
 -- their texts stand in the buffers where both fit, and their numbers are told
@@ -92,7 +89,7 @@ pub record AnswersItems (options : ℕ) (file block : List ℕ) (counts : Counts
     (old_items new_items : List rust.Item) (old new : List ℕ) : Type 0 where
   pub told : List ToldItem
   pub tells :
-      TellsItems (block_names block) (fresh_file (bytes_of options file) (dialect_of options)) told
+      TellsItems (block_names block) (fresh_file (bytes_asked options file) (dialect_of options)) told
   pub status : counts.status ≡ 0
   pub items : counts.items ≡ length told
   pub text_len : counts.text_len ≡ length (texts_of told)

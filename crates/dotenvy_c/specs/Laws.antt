@@ -11,9 +11,9 @@ use Rattle.dotenvy_c.specs.Block.{FitsBlock, block_names, block_of}
 use Rattle.dotenvy_c.specs.File.{fresh_file}
 use Rattle.dotenvy_c.specs.Items.{TellsItems, ToldItem}
 use Rattle.dotenvy_c.specs.Load.{LoadsFile}
-use Rattle.dotenvy_c.specs.Options.{dialect_of, rule_of}
+use Rattle.dotenvy_c.specs.Options.{dialect_of, rule_asked}
 use Rattle.dotenvy_c.specs.Said.{SaysLoad, SayTold}
-use Rattle.dotenvy_c.specs.Told.{Told}
+use Rattle.dotenvy_c.specs.Told.{ToldResult}
 
 -- the block of an environment stands for that environment
 abbrev pub BlockReadsBack : Type 0
@@ -31,7 +31,7 @@ ItemsAreTold =
 -- told
 abbrev pub LoadsAreTold : Type 0
 LoadsAreTold =
-    (options : ℕ) (file block : List ℕ) (names : Texts) (entries : List Entry) (told : Told) →
+    (options : ℕ) (file block : List ℕ) (names : Texts) (entries : List Entry) (told : ToldResult) →
     length file < most_reads → HasEntries (dialect_of options) (without_mark file) entries →
     LoadsFile options file block names told →
-    SaysLoad (rule_of options (values_of (block_names block)) no_values entries) names told
+    SaysLoad (rule_asked options (values_of (block_names block)) no_values entries) names told

@@ -8,9 +8,9 @@ use Rattle.dotenvy_c.specs.declared.load.Answer.{Answer}
 use Rattle.dotenvy_c.specs.declared.load.Loaded.{Loaded}
 use Rattle.dotenvy_c.specs.Block.{FitsBlock, block_names, block_of}
 use Rattle.dotenvy_c.specs.File.{fresh_file}
-use Rattle.dotenvy_c.specs.Options.{dialect_of, rule_of}
+use Rattle.dotenvy_c.specs.Options.{dialect_of, rule_asked}
 use Rattle.dotenvy_c.specs.Buffer.{written_if}
-use Rattle.dotenvy_c.specs.Told.{Told, outcome_told}
+use Rattle.dotenvy_c.specs.Told.{ToldResult, outcome_told}
 
 -- nothing was written, for the reason that this status names
 abbrev pub refusal : ℕ → Answer
@@ -18,11 +18,11 @@ refusal status = record { status = status; fits = false; index = 0; block_len = 
 
 -- a load of a file over the environment of a block, as the options ask, leaves these names and
 -- tells this of its result
-pub record LoadsFile (options : ℕ) (file block : List ℕ) (names : Texts) (told : Told)
+pub record LoadsFile (options : ℕ) (file block : List ℕ) (names : Texts) (told : ToldResult)
     : Type 0 where
   pub outcome : Result (Unit {0}) (Error Global)
   pub loads :
-      LoadsRest (rule_of options) (fresh_file file (dialect_of options)) (block_names block)
+      LoadsRest (rule_asked options) (fresh_file file (dialect_of options)) (block_names block)
       outcome names
   pub keys : ChangesKeys (block_names block) names
   pub fits_block : FitsBlock names
@@ -31,7 +31,7 @@ pub record LoadsFile (options : ℕ) (file block : List ℕ) (names : Texts) (to
 -- what is to be written of a load: its block, and the text of its error
 pub record IsLoaded (options : ℕ) (file block : List ℕ) (loaded : Loaded) : Type 0 where
   pub names : Texts
-  pub told : Told
+  pub told : ToldResult
   pub loads : LoadsFile options file block names told
   pub bytes : loaded.bytes.items ≡ block_of names ++ told.text
   pub block_len : loaded.block_len ≡ length (block_of names)
@@ -44,7 +44,7 @@ pub record IsLoaded (options : ℕ) (file block : List ℕ) (loaded : Loaded) : 
 pub record AnswersLoad (options : ℕ) (file block : List ℕ) (answer : Answer) (old new : List ℕ)
     : Type 0 where
   pub names : Texts
-  pub told : Told
+  pub told : ToldResult
   pub loads : LoadsFile options file block names told
   pub status : answer.status ≡ told.status
   pub index : answer.index ≡ told.index

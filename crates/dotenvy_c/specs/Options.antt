@@ -19,9 +19,9 @@ abbrev pub dialect_of : ℕ → Dialect
 dialect_of options = if has_option options 2 then Next else V15
 
 -- the rule of loads that is asked for: option 1 asks for that of `load_override`
-abbrev pub rule_of : ℕ → Rule
-rule_of options = if has_option options 1 then override_result else load_result
+abbrev pub rule_asked : ℕ → Rule
+rule_asked options = if has_option options 1 then override_result else load_result
 
 -- the bytes whose items are asked for: option 4 asks to drop a byte order mark
-abbrev pub bytes_of : ℕ → List ℕ → List ℕ
-bytes_of options file = if has_option options 4 then without_mark file else file
+abbrev pub bytes_asked : ℕ → List ℕ → List ℕ
+bytes_asked options file = if has_option options 4 then without_mark file else file

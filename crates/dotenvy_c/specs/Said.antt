@@ -6,10 +6,10 @@ use Rattle.dotenvy.specs.Environment.{Texts}
 use Rattle.dotenvy.specs.Meaning.{values_of}
 use Rattle.dotenvy.specs.Run.{Loaded}
 use Rattle.dotenvy_c.specs.Items.{ToldItem}
-use Rattle.dotenvy_c.specs.Told.{Told, kind_status}
+use Rattle.dotenvy_c.specs.Told.{ToldResult, kind_status}
 
 -- this is told of a pair, by its characters, or of a failure; refused memory is told of no item
-abbrev pub SaysTold : Told → Result (List ℕ × List ℕ) Failure → Type 0
+abbrev pub SaysTold : ToldResult → Result (List ℕ × List ℕ) Failure → Type 0
 SaysTold told (Ok (key, value)) =
     (told.status ≡ 0) × (chars told.key ≡ key) × (chars told.text ≡ value) × (told.index ≡ 0)
 SaysTold told (Err (LineParse text index)) =
@@ -21,15 +21,15 @@ SaysTold told (Err (Nul key)) =
 SaysTold told (Err Memory) = ⊥
 
 -- this is told of the result of a load
-abbrev pub SaysAnswer : Told → Result (Unit {0}) Failure → Type 0
-SaysAnswer told (Ok done) =
+abbrev pub SaysLoadAnswer : ToldResult → Result (Unit {0}) Failure → Type 0
+SaysLoadAnswer told (Ok done) =
     (told.status ≡ 0) × (told.key ≡ []) × (told.text ≡ []) × (told.index ≡ 0)
-SaysAnswer told (Err failure) = SaysTold told (Err failure)
+SaysLoadAnswer told (Err failure) = SaysTold told (Err failure)
 
 -- an environment has the values that a load leaves, and this is told of the load's result
-pub record SaysLoad (loaded : Loaded) (names : Texts) (told : Told) : Type 0 where
+pub record SaysLoad (loaded : Loaded) (names : Texts) (told : ToldResult) : Type 0 where
   pub values : (name : List ℕ) → values_of names name ≡ loaded.env name
-  pub answer : SaysAnswer told loaded.answer
+  pub answer : SaysLoadAnswer told loaded.answer
 
 -- this is told of these items: of all, and in order
 abbrev pub SayTold : List ToldItem → List (Result (List ℕ × List ℕ) Failure) → Type 0

@@ -3,7 +3,7 @@
 ghost use Rattle.std.specs.Prelude.{◌≡◌, ◌++◌, IfOk, OnOk, IfErr};
 ghost use Rattle.dotenvy.specs.Environment.{text_entries};
 ghost use Rattle.dotenvy.specs.Errors.{IsMemory};
-ghost use Rattle.dotenvy_c.specs.Block.{FitsBlock, block_names, block_of, block_pairs, entry_of, entry_pairs};
+ghost use Rattle.dotenvy_c.specs.Block.{FitsBlock, block_names, block_of, block_pairs, entry_pairs};
 
 use dotenvy::{Environment, Result};
 use memchr::memchr;
@@ -57,19 +57,6 @@ pub fn environment_of(alloc: Global, block: &[u8]) -> Result<Environment>
     Environment::from_pairs(alloc, pairs_in(alloc, block)?)
 }
 
-// Adds an entry at the end of a block.
-fn push_entry(block: &mut Vec<u8>, name: &str, value: &str) -> Result<()>
-    ensures ok { OnOk result
-        (block.new.items ≡ block.old.items ++ entry_of (name.now, value.now)) }
-    ensures memory { IfErr result IsMemory }
-{
-    block.extend_from_slice(name.as_bytes())?;
-    block.push(b'=')?;
-    block.extend_from_slice(value.as_bytes())?;
-    block.push(0)?;
-    Ok(())
-}
-
 /// The block that stands for an environment, in byte order of the names. The error is `Memory`.
 pub fn block_of(alloc: Global, environment: &Environment) -> Result<Vec<u8>>
     ensures block { IfOk result (λ block. block.items ≡ block_of environment.now.names) }
@@ -78,7 +65,10 @@ pub fn block_of(alloc: Global, environment: &Environment) -> Result<Vec<u8>>
 {
     let mut block = Vec::new(alloc);
     'pairs: for (name, value) in environment.iter() {
-        push_entry(&mut block, name.as_str(), value.as_str())?;
+        block.extend_from_slice(name.as_bytes())?;
+        block.push(b'=')?;
+        block.extend_from_slice(value.as_bytes())?;
+        block.push(0)?;
     }
     Ok(block)
 }

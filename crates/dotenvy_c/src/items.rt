@@ -1,19 +1,17 @@
 //! The items of a file, for C.
 
-ghost use Rattle.std.specs.Prelude.{◌≡◌, ◌≤◌, ◌+◌, ◌↔◌, true, false, IfOk, IfErr, IsTrue, OnOk, length};
+ghost use Rattle.std.specs.Prelude.{◌≡◌, ◌+◌, true, false, IfOk, IfErr, OnOk};
 ghost use Rattle.dotenvy.specs.Errors.{IsMemory};
 ghost use Rattle.dotenvy_c.specs.Block.{block_names};
 ghost use Rattle.dotenvy_c.specs.File.{fresh_file};
-ghost use Rattle.dotenvy_c.specs.Items.{AddsItem, AddsTold, AnswersItemsOr, HasRecords, RefusesItems, refused_items};
-ghost use Rattle.dotenvy_c.specs.Options.{are_among, bytes_of, dialect_of};
-ghost use Rattle.dotenvy_c.specs.Buffer.{written_if};
-ghost use Rattle.dotenvy_c.specs.Told.{told_of};
+ghost use Rattle.dotenvy_c.specs.Items.{AddsItem, AnswersItemsOr, HasRecords, RefusesItems, refused_items};
+ghost use Rattle.dotenvy_c.specs.Options.{are_among, bytes_asked, dialect_of};
 
 use crate::block::environment_of;
-use crate::buffer::write_front;
+use crate::buffer::write_if;
 use crate::options::{DROP_MARK, NEXT_DIALECT, are_among, dialect_of, has_option};
-use crate::status::{BAD_OPTION, DONE, NO_MEMORY, Told, item_told};
-use dotenvy::{Bytes, Environment, Error, Iter, Result};
+use crate::status::{BAD_OPTION, DONE, NO_MEMORY, item_told};
+use dotenvy::{Bytes, Error, Iter, Result};
 use std::alloc::{AllocError, Global};
 
 const BYTE_ORDER_MARK: [u8; 3] = [0xef, 0xbb, 0xbf];
@@ -72,11 +70,14 @@ fn refused_items(status: u32) -> Counts
     }
 }
 
-// Adds the record of an item. The error is `Memory`.
-fn add_told(records: &mut Records, told: Told<'_>, lines: (u64, u64)) -> Result<()>
-    ensures ok { OnOk result (AddsTold (told_of told.entry, lines) records.old records.new) }
+// Adds the record of an item that is on these lines, and its key and text. The error is `Memory`.
+fn add_item(records: &mut Records, item: Result<(String, String)>, lines: (u64, u64)) -> Result<()>
+    ensures ok { OnOk result (AddsItem item lines records.old records.new) }
     ensures memory { IfErr result IsMemory }
 {
+    let Some(told) = item_told(&item) else {
+        return Err(Error::Memory(AllocError));
+    };
     records.items.push(Item {
         status: told.status,
         key_at: records.text.len(),
@@ -91,20 +92,9 @@ fn add_told(records: &mut Records, told: Told<'_>, lines: (u64, u64)) -> Result<
     Ok(())
 }
 
-// Adds the record of an item that is on these lines, unless it is refused memory. The error is `Memory`.
-fn add_item(records: &mut Records, item: Result<(String, String)>, lines: (u64, u64)) -> Result<()>
-    ensures ok { OnOk result (AddsItem item lines records.old records.new) }
-    ensures memory { IfErr result IsMemory }
-{
-    match item_told(&item) {
-        Some(told) => add_told(records, told, lines),
-        None => Err(Error::Memory(AllocError)),
-    }
-}
-
 // The bytes whose items are asked for.
 fn bytes_of(file: &[u8], options: u32) -> &[u8]
-    ensures { result.now ≡ bytes_of options file.now }
+    ensures { result.now ≡ bytes_asked options file.now }
 {
     if has_option(options, DROP_MARK) && file.starts_with(&BYTE_ORDER_MARK) {
         &file[BYTE_ORDER_MARK.len()..]
@@ -113,50 +103,23 @@ fn bytes_of(file: &[u8], options: u32) -> &[u8]
     }
 }
 
-// The records of all items that a file has left. The error is `Memory`.
-fn records_of(
-    alloc: Global,
-    mut file: Iter<Bytes<'_>>,
-    environment: &Environment,
-) -> Result<Records>
-    ensures ok { IfOk result (HasRecords environment.now.names file.entry) }
-    ensures memory { IfErr result IsMemory }
-{
-    let mut records = Records {
-        items: Vec::new(alloc),
-        text: Vec::new(alloc),
-    };
-    'items: while let Some(item) = file.next_item(environment) {
-        add_item(&mut records, item, (file.first_line(), file.last_line()))?;
-    }
-    Ok(records)
-}
-
 // The records of all items of a file under the environment of a block. The error is `Memory`.
-fn records_over(alloc: Global, file: &[u8], block: &[u8], options: u32) -> Result<Records>
+fn records_of(alloc: Global, file: &[u8], block: &[u8], options: u32) -> Result<Records>
     ensures ok { IfOk result (HasRecords (block_names block.now)
-        (fresh_file (bytes_of options file.now) (dialect_of options))) }
+        (fresh_file (bytes_asked options file.now) (dialect_of options))) }
     ensures memory { IfErr result IsMemory }
 {
     let environment = environment_of(alloc, block)?;
     let bytes = Bytes::new(bytes_of(file, options));
-    let file = Iter::with_dialect(alloc, bytes, dialect_of(options))?;
-    records_of(alloc, file, &environment)
-}
-
-// Writes records and texts to the fronts of their buffers, where both fit, and tells whether they do.
-fn write_if_both_fit(records: &Records, items: &mut [Item], out: &mut [u8]) -> bool
-    ensures fits { IsTrue result ↔ ((length records.now.items.items ≤ length items.old)
-        × (length records.now.text.items ≤ length out.old)) }
-    ensures items { items.new ≡ written_if result records.now.items.items items.old }
-    ensures texts { out.new ≡ written_if result records.now.text.items out.old }
-{
-    let fits = records.items.len() <= items.len() && records.text.len() <= out.len();
-    if fits {
-        write_front(items, records.items.as_slice());
-        write_front(out, records.text.as_slice());
+    let mut file = Iter::with_dialect(alloc, bytes, dialect_of(options))?;
+    let mut records = Records {
+        items: Vec::new(alloc),
+        text: Vec::new(alloc),
+    };
+    'items: while let Some(item) = file.next_item(&environment) {
+        add_item(&mut records, item, (file.first_line(), file.last_line()))?;
     }
-    fits
+    Ok(records)
 }
 
 /// Writes the items of a file under the environment of a block: its pairs and its errors, in order. A name that a value
@@ -182,12 +145,15 @@ pub extern "C" fn dotenvy_items(
     if !are_among(options, NEXT_DIALECT + DROP_MARK) {
         return refused_items(BAD_OPTION);
     }
-    let Ok(records) = records_over(alloc, file, block, options) else {
+    let Ok(records) = records_of(alloc, file, block, options) else {
         return refused_items(NO_MEMORY);
     };
+    let fits = records.items.len() <= items.len() && records.text.len() <= out.len();
+    write_if(fits, items, records.items.as_slice());
+    write_if(fits, out, records.text.as_slice());
     Counts {
         status: DONE,
-        fits: write_if_both_fit(&records, items, out),
+        fits,
         items: records.items.len(),
         text_len: records.text.len(),
     }

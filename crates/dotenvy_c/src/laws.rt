@@ -16,8 +16,8 @@ pub fn items_are_told()
     ensures { ItemsAreTold }
 {}
 
-/// What `dotenvy_load` leaves and tells is what the file format says: the value of each name, and the error at which the
-/// load stops, if it stops. This holds of fewer than 2^32 bytes.
+/// What `dotenvy_load` leaves and tells is what the file format says: the value of each name, and the error at which
+/// the load stops, if it stops. This holds of fewer than 2^32 bytes.
 pub fn loads_are_told()
     ensures { LoadsAreTold }
 {}

@@ -1,15 +1,14 @@
 //! The two loads, for C.
 
-ghost use Rattle.std.specs.Prelude.{◌≡◌, ◌≤◌, ◌+◌, ◌⊎◌, ◌↔◌, IsTrue, IfOk, IfErr, true, false, length};
+ghost use Rattle.std.specs.Prelude.{◌≡◌, ◌+◌, ◌⊎◌, IfOk, IfErr, true, false};
 ghost use Rattle.dotenvy.specs.Errors.{IsMemory};
 ghost use Rattle.dotenvy.specs.Iter.{IsOpen};
 ghost use Rattle.dotenvy.specs.LoadsRest.{ChangesKeys, LoadsRest};
-ghost use Rattle.dotenvy_c.specs.Options.{are_among, dialect_of, rule_of};
+ghost use Rattle.dotenvy_c.specs.Options.{are_among, rule_asked};
 ghost use Rattle.dotenvy_c.specs.Load.{AnswersLoad, IsLoaded, refusal};
-ghost use Rattle.dotenvy_c.specs.Buffer.{written_if};
 
 use crate::block::{block_of, environment_of};
-use crate::buffer::write_front;
+use crate::buffer::write_if;
 use crate::options::{NEXT_DIALECT, OVERRIDE, are_among, dialect_of, has_option};
 use crate::status::{BAD_OPTION, NO_MEMORY, outcome_told};
 use dotenvy::{Bytes, Environment, Error, Iter, Result};
@@ -54,22 +53,10 @@ fn refusal(status: u32) -> Answer
     }
 }
 
-// Writes bytes to the front of the buffer, where they fit, and tells whether they do.
-fn write_if_fits(out: &mut [u8], bytes: &[u8]) -> bool
-    ensures fits { IsTrue result ↔ (length bytes.now ≤ length out.old) }
-    ensures written { out.new ≡ written_if result bytes.now out.old }
-{
-    let fits = bytes.len() <= out.len();
-    if fits {
-        write_front(out, bytes);
-    }
-    fits
-}
-
 // Loads what is left of a file by the rule that is asked for.
 fn load_file(file: Iter<Bytes<'_>>, options: u32, environment: &mut Environment) -> Result<()>
     ensures loads { IsOpen file.entry →
-        LoadsRest (rule_of options) file.entry environment.old.names result environment.new.names }
+        LoadsRest (rule_asked options) file.entry environment.old.names result environment.new.names }
     ensures keys { ChangesKeys environment.old.names environment.new.names }
 {
     if has_option(options, OVERRIDE) {
@@ -126,9 +113,11 @@ pub extern "C" fn dotenvy_load(
     let Ok(loaded) = load_over(alloc, file, block, options) else {
         return refusal(NO_MEMORY);
     };
+    let fits = loaded.bytes.len() <= out.len();
+    write_if(fits, out, loaded.bytes.as_slice());
     Answer {
         status: loaded.status,
-        fits: write_if_fits(out, loaded.bytes.as_slice()),
+        fits,
         index: loaded.index,
         block_len: loaded.block_len,
         text_len: loaded.text_len,

@@ -3,25 +3,13 @@
 
 use dotenvy::Plain;
 use dotenvy_checker::run::run;
-use dotenvy_command::process_words::{no_words_text, process_words};
+use dotenvy_program::program::run_program;
 use std::io;
 use std::process::ExitCode;
 
 fn main(rt: HostRuntime) -> ExitCode {
-    let words = match process_words(&rt) {
-        Ok(words) => words,
-        Err(fault) => {
-            let text = no_words_text(&fault);
-            let _ = eprintln!(rt; "error: {text}");
-            return ExitCode::FAILURE;
-        }
-    };
-    let mut writer = Plain::new(io::writer(&rt));
-    match run(&rt, words.as_slice(), &mut writer) {
-        Ok(status) => ExitCode::from(status),
-        Err(failure) => {
-            let _ = eprintln!(rt; "{failure}");
-            ExitCode::FAILURE
-        }
-    }
+    run_program(
+        &rt,
+        |words| run(&rt, words, &mut Plain::new(io::writer(&rt))),
+    )
 }

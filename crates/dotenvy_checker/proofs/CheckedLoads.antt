@@ -9,7 +9,7 @@ use Rattle.dotenvy_items.specs.Laws.{LoadsAllLeft}
 use Rattle.dotenvy_items.specs.LoadsRest.{IsAnswer, Rule}
 use Rattle.dotenvy_items.specs.Meaning.{values_of, recalled_of}
 use Rattle.dotenvy_items.proofs.WholeLoads.{load_takes_all, override_takes_all}
-use Rattle.dotenvy_checker.specs.Numbered.{unnumbered}
+use Rattle.dotenvy_lines.specs.Numbered.{without_numbers}
 use Rattle.dotenvy_checker.specs.Findings.{Names}
 use Rattle.dotenvy_checker.specs.Laws.{CheckedFilesLoad, LoadsChecked, LoadsIfNoFault}
 use Rattle.dotenvy_checker.proofs.FoundFaults.{faults_stop_loads}
@@ -27,7 +27,7 @@ loads_checked : {A W : Type 0} (rule : Rule) → LoadsAllLeft rule A →
     ((names : Names) (numbered : List (ℕ × Entry)) → LoadsIfNoFault rule names numbered) → LoadsChecked rule A W
 loads_checked {A = A} rule takes_all if_no_fault sink a found answer k =
     let (numbered, (no_fault, has), is_found, sends) = k.reports in
-    let entries = unnumbered numbered in
+    let entries = without_numbers numbered in
     let are = unnumbered_entries k.checked.dialect (k.checked.lines.lines_taken + 1) (without_mark a.bytes) numbered has
     in
     let left : HasEntriesLeft k.loaded.dialect a.fault (without_mark a.bytes) entries = rw (no_fault, k.dialect) are in

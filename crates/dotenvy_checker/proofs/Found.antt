@@ -22,21 +22,26 @@ use Rattle.dotenvy_format.proofs.values.Values.{read-value}
 use Rattle.dotenvy_items.proofs.Meanings.{all_read}
 use Rattle.dotenvy_checker.specs.Findings.{Finding, DeclaredTwice, Names, with_name, only_if}
 use Rattle.dotenvy_checker.specs.Findings.{piece_findings, declared_after, entry_findings, findings_from}
-use Rattle.dotenvy_checker.specs.Numbered.{at_line}
+use Rattle.dotenvy_lines.specs.Numbered.{at_line}
 use Rattle.dotenvy_checker.specs.inside.Reports.{Adds}
-use Rattle.dotenvy_checker.specs.inside.CheckedLines.{env_of, declared_of, known_of, declared_by}
+use Rattle.dotenvy_checker.specs.inside.CheckedLines.{process_names, declared_of, known_of, declared_by}
+use Rattle.dotenvy_checker.specs.inside.CheckedLines.{AddsOnly, FindsPieces, ChecksEntry, ChecksEntries}
+use Rattle.std.specs.Prelude.{Option, Some, None}
+use Rattle.std.specs.Str.{chars}
+use Rattle.dotenvy_format.specs.Items.{LookUp}
 use Rattle.dotenvy_items.specs.declared.parse.Value.{Value}
 use Rattle.dotenvy_items.specs.inside.FirstPass.{IsAssigned}
-use Rattle.dotenvy_format.specs.Items.{LookUp}
-use Rattle.std.specs.Prelude.{Option, Some, None, option_map}
-use Rattle.dotenvy_checker.specs.inside.CheckedLines.{AssignsPieces, Finds, FindsPieces, ChecksEntry, ChecksEntries}
 
--- what the first pass says is assigned has its pieces
-pub assigns_pieces : (dialect : Dialect) (look_up : LookUp) (rest : List ℕ) (pieces : List Piece)
-    (value : Option Value) → IsAssigned dialect look_up rest pieces value →
-    AssignsPieces dialect (option_map (λ value. value.text) value) pieces
-assigns_pieces dialect look_up rest pieces None is = is.1
-assigns_pieces dialect look_up rest pieces (Some written) is = rw is.1 is.2
+-- a value that is assigned has the pieces
+pub value_pieces : (dialect : Dialect) (look_up : LookUp) (rest : List ℕ) (pieces : List Piece)
+    (assigned : Option Value) (value : Value) → IsAssigned dialect look_up rest pieces assigned → assigned ≡ Some value →
+    IsValue dialect (chars value.text.now) pieces
+value_pieces dialect look_up rest pieces assigned value is e = let assigns = rw e at is in rw assigns.1 assigns.2
+
+-- where no value is assigned there are no pieces
+pub no_pieces : (dialect : Dialect) (look_up : LookUp) (rest : List ℕ) (pieces : List Piece) (assigned : Option Value) →
+    IsAssigned dialect look_up rest pieces assigned → assigned ≡ None → pieces ≡ []
+no_pieces dialect look_up rest pieces assigned is e = let assigns = rw e at is in assigns.1
 
 -- no finding is added to a report that stays as it is
 pub adds_none : {A : Type 0} (r : Report A) → Adds [] r r
@@ -52,7 +57,7 @@ adds_more h k = record {
 }
 
 -- a checker that finds nothing stays as it is
-pub finds_none : {A : Type 0} (s : Checker A) → Finds [] s s
+pub finds_none : {A : Type 0} (s : Checker A) → AddsOnly [] s s
 finds_none s = record { same = refl; report = adds_none s.report }
 
 -- the findings of two rows of entries are those of the first, and then those of the second
@@ -77,7 +82,7 @@ checks_none s = record { report = adds_none s.report; declared = refl; env = ref
 pub checks_more : {A : Type 0} {xs ys : List (ℕ × Entry)} {a b c : Checker A} → ChecksEntries xs a b →
     ChecksEntries ys b c → ChecksEntries (xs ++ ys) a c
 checks_more {xs = xs} {ys = ys} {a = a} {b = b} {c = c} h k = record {
-  report = rw (findings_from-append (env_of a) (declared_of a) xs ys)
+  report = rw (findings_from-append (process_names a) (declared_of a) xs ys)
       (adds_more h.report (rw (h.declared, h.env) at k.report));
   declared = rw (k.declared, h.declared) (sym (declared_by-append (declared_of a) xs ys));
   env = k.env ∙ h.env;
@@ -86,16 +91,16 @@ checks_more {xs = xs} {ys = ys} {a = a} {b = b} {c = c} h k = record {
 
 -- what is found on a line, and then more on that line, is all found on it
 pub finds_on_line : {A : Type 0} (number : ℕ) (xs ys : List Finding) {a b c : Checker A} →
-    Finds (at_line number xs) a b → Finds (at_line number ys) b c → Finds (at_line number (xs ++ ys)) a c
+    AddsOnly (at_line number xs) a b → AddsOnly (at_line number ys) b c → AddsOnly (at_line number (xs ++ ys)) a c
 finds_on_line number xs ys h k =
     rw map-append (record { same = rw (k.same, h.same); report = adds_more h.report k.report })
 
 -- findings that are added change no dialect
-pub same_dialect : {A : Type 0} {fs : List (ℕ × Finding)} {a b : Checker A} → Finds fs a b → b.dialect ≡ a.dialect
+pub same_dialect : {A : Type 0} {fs : List (ℕ × Finding)} {a b : Checker A} → AddsOnly fs a b → b.dialect ≡ a.dialect
 same_dialect h = rw h.same
 
 -- findings that are added change no name that has a value
-same_known : {A : Type 0} {fs : List (ℕ × Finding)} {a b : Checker A} → Finds fs a b →
+same_known : {A : Type 0} {fs : List (ℕ × Finding)} {a b : Checker A} → AddsOnly fs a b →
     known_of b ≡ known_of a
 same_known h = rw h.same
 
@@ -139,12 +144,12 @@ finds_at_end number {result = result} read next none_comes is h =
 -- a declaration is checked: its key, if declared before, and its pieces are found, and then its key is declared
 pub checks_declared : {A : Type 0} {twice : Bool} (number : ℕ) (key : List ℕ) (pieces : List Piece)
     {a b c d : Checker A} → declared_of a key ≡ twice →
-    Finds (at_line number (only_if twice (DeclaredTwice key))) a b →
+    AddsOnly (at_line number (only_if twice (DeclaredTwice key))) a b →
     FindsPieces number pieces b c →
     declared_of d ≡ with_name (declared_of c) key → d ≡ record c { declared = d.declared } →
     ChecksEntry number (Declares key pieces) a d
 checks_declared number key pieces {a = a} {c = c} e h k declared same =
-    let all : Finds (at_line number (entry_findings (env_of a) (declared_of a) (Declares key pieces))) a c =
+    let all : AddsOnly (at_line number (entry_findings (process_names a) (declared_of a) (Declares key pieces))) a c =
     finds_on_line number _ _ (rw e h) (rw (same_known h) at k) in record {
       report = rw (append-nil, same) all.report;
       declared = rw (declared, all.same);

@@ -10,11 +10,11 @@ use Rattle.dotenvy_format.specs.Loads.{load_result, override_result}
 use Rattle.dotenvy_format.specs.Run.{Mode, Keep, Replace, Loaded, run, sets, has_nul, after_declaration}
 use Rattle.dotenvy_format.specs.Value.{Piece, Text, Name, LastBackslash as lone_backslash}
 use Rattle.dotenvy_format.proofs.loads.LoadLaws.{run-keep, run-replace}
-use Rattle.dotenvy_checker.specs.Numbered.{unnumbered}
+use Rattle.dotenvy_lines.specs.Numbered.{without_numbers}
 use Rattle.dotenvy_checker.specs.Findings.{is_fault, Names}
 use Rattle.dotenvy_checker.specs.Findings.{no_names, piece_findings, has_value, entry_findings, declared_after}
 use Rattle.dotenvy_checker.specs.Findings.{findings_from}
-use Rattle.dotenvy_checker.proofs.ReadLines.{unnumbered-at_line}
+use Rattle.dotenvy_lines.proofs.LinesRead.{unnumbered-at_line}
 use Rattle.dotenvy_checker.specs.Laws.{IsOkOrNul, LoadsIfNoFault, FaultsStopLoads}
 
 -- an entry is a fault
@@ -40,7 +40,8 @@ entry_faults env declared (Declares key pieces) =
 
 -- a fault is among the findings of entries where one of them is a fault
 found_faults : (env declared : Names) (numbered : List (ℕ × Entry)) →
-    list_any is_fault (unnumbered (findings_from env declared numbered)) ≡ list_any is_failure (unnumbered numbered)
+    list_any is_fault (without_numbers (findings_from env declared numbered))
+    ≡ list_any is_failure (without_numbers numbered)
 found_faults env declared [] = refl
 found_faults env declared ((number, entry) ∷ numbered) =
     let later = found_faults env (declared_after declared entry) numbered in
@@ -62,16 +63,17 @@ faults_met mode env remembered (Declares key pieces ∷ entries) =
 
 -- where a mode and a rule return the same, whatever the environment, the rule loads where no fault is found
 by_rule : (mode : Mode) (rule : LookUp → LookUp → List Entry → Loaded) (names : Names) (numbered : List (ℕ × Entry)) →
-    ((env remembered : LookUp) → (run mode env remembered (unnumbered numbered)).answer
-    ≡ (rule env remembered (unnumbered numbered)).answer) → LoadsIfNoFault rule names numbered
+    ((env remembered : LookUp) → (run mode env remembered (without_numbers numbered)).answer
+    ≡ (rule env remembered (without_numbers numbered)).answer) → LoadsIfNoFault rule names numbered
 by_rule mode rule names numbered same env remembered =
     rw (found_faults names no_names numbered, ← same env remembered)
-    (faults_met mode env remembered (unnumbered numbered))
+    (faults_met mode env remembered (without_numbers numbered))
 
 -- no fault is found exactly where both loads return Ok, but for a NUL
 pub faults_stop_loads : FaultsStopLoads
 faults_stop_loads names numbered = (
-  by_rule Keep load_result names numbered (λ env remembered. (run-keep env remembered (unnumbered numbered)).answer),
+  by_rule Keep load_result names numbered
+      (λ env remembered. (run-keep env remembered (without_numbers numbered)).answer),
   by_rule Replace override_result names numbered
-      (λ env remembered. (run-replace env remembered (unnumbered numbered)).answer),
+      (λ env remembered. (run-replace env remembered (without_numbers numbered)).answer),
 )

@@ -1,7 +1,6 @@
 mod Texts
 mod Found
 mod KnownNames
-mod ReadLines
 mod CheckedReads
 mod FoundFaults
 mod NumberedEntries

@@ -23,11 +23,11 @@ asked_by words =
 
 -- the result is what these words ask for, or the first of them that is unknown, unless an
 -- allocation failed
-abbrev pub AnswersWords : {A : Type 0} → List (List ℕ) → Result (Words A) (Failure A) → Type 0
-AnswersWords words (Ok read) = (find is_unknown words ≡ None) × (asked_by read ≡ asked_of words)
-AnswersWords words (Err (UnknownOption word)) = find is_unknown words ≡ Some (string_bytes word)
-AnswersWords words (Err (Write error)) = ⊥
-AnswersWords words (Err (Memory refused)) = Unit {0}
+abbrev pub AnswersAsked : {A : Type 0} → List (List ℕ) → Result (Words A) (Failure A) → Type 0
+AnswersAsked words (Ok read) = (find is_unknown words ≡ None) × (asked_by read ≡ asked_of words)
+AnswersAsked words (Err (UnknownOption word)) = find is_unknown words ≡ Some (string_bytes word)
+AnswersAsked words (Err (Write error)) = ⊥
+AnswersAsked words (Err (Memory refused)) = Unit {0}
 
 -- the failure is this unknown word, or a failed allocation
 abbrev pub IsOfWord : {A : Type 0} → List ℕ → Failure A → Type 0
@@ -42,21 +42,21 @@ IsOfWords (Write error) = ⊥
 IsOfWords (Memory refused) = ⊥
 
 -- the failure is a failed allocation
-abbrev pub IsMemoryFailure : {A : Type 0} → Failure A → Type 0
-IsMemoryFailure (UnknownOption word) = ⊥
-IsMemoryFailure (Write error) = ⊥
-IsMemoryFailure (Memory refused) = Unit {0}
+abbrev pub IsMemoryEnd : {A : Type 0} → Failure A → Type 0
+IsMemoryEnd (UnknownOption word) = ⊥
+IsMemoryEnd (Write error) = ⊥
+IsMemoryEnd (Memory refused) = Unit {0}
 
--- what a check that stopped comes to: a file that could not be read has a fault, and a report that could not be written
--- ends the run
+-- what a check that stopped comes to: a file that could not be read has a fault, and a report that
+-- could not be written ends the run
 abbrev pub CountsStop : {A : Type 0} → Stop A → Result (Unit {0}) (Failure A) → Bool → Type 0
 CountsStop (stop.Read error) result faults = faults ≡ true
 CountsStop (stop.Write error) result faults = result ≡ Err (Write error)
 CountsStop (stop.Memory refused) result faults = faults ≡ true
 
 -- what is printed of a failure; nothing is said of an error whose own text is not specified
-abbrev pub failure_text : {A : Type 0} → Failure A → Option (List ℕ)
-failure_text (UnknownOption word) =
+abbrev pub end_text : {A : Type 0} → Failure A → Option (List ℕ)
+end_text (UnknownOption word) =
     Some (codes "error: unknown option '" ++ (string_bytes word ++ codes "'"))
-failure_text (Write error) = option_map (λ text. codes "error: " ++ text) (error_text error)
-failure_text (Memory refused) = Some (codes "error: out of memory")
+end_text (Write error) = option_map (λ text. codes "error: " ++ text) (error_text error)
+end_text (Memory refused) = Some (codes "error: out of memory")

@@ -19,7 +19,7 @@ use Rattle.dotenvy_items.specs.Meaning.{values_of}
 use Rattle.dotenvy_checker.specs.declared.failure.Stop.{Stop}
 use Rattle.dotenvy_checker.specs.declared.failure.Stop.TheVariants.{Read, Write, Memory}
 use Rattle.dotenvy_checker.specs.declared.report.Found.{Found}
-use Rattle.dotenvy_checker.specs.Numbered.{unnumbered, HasNumbered, DecidesNumbered}
+use Rattle.dotenvy_lines.specs.Numbered.{without_numbers, HasNumbered, DecidesNumbered}
 use Rattle.dotenvy_checker.specs.Findings.{Finding, is_fault, Names, findings}
 use Rattle.dotenvy_checker.specs.Report.{report}
 
@@ -45,8 +45,8 @@ ReadsEntries dialect s a (Some e) numbered =
 -- whether faults are among these findings, and whether warnings are
 abbrev pub found_in : List (ℕ × Finding) → Found
 found_in found = record {
-  faults = list_any is_fault (unnumbered found);
-  warnings = list_any (λ finding. not (is_fault finding)) (unnumbered found);
+  faults = list_any is_fault (without_numbers found);
+  warnings = list_any (λ finding. not (is_fault finding)) (without_numbers found);
 }
 
 -- the report of the entries that are read of a is sent to a sink, and the result is: what is found
@@ -67,7 +67,7 @@ Reports {A = A} told file env s a old (Err (Write e)) new =
 Reports told file env s a old (Err (Memory refused)) new = new ≡ old
 
 -- the check stops because an allocation failed
-abbrev pub IsRefused : {A : Type 0} → Stop A → Type 0
-IsRefused (Read e) = ⊥
-IsRefused (Write e) = ⊥
-IsRefused (Memory refused) = Unit {0}
+abbrev pub IsMemoryStop : {A : Type 0} → Stop A → Type 0
+IsMemoryStop (Read e) = ⊥
+IsMemoryStop (Write e) = ⊥
+IsMemoryStop (Memory refused) = Unit {0}

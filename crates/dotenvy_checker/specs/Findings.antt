@@ -5,7 +5,7 @@ use Rattle.std.specs.List.{flat_map}
 use Rattle.dotenvy_format.specs.Characters.{underscore, begins_with}
 use Rattle.dotenvy_format.specs.Value.{Piece, Text, Name, LastBackslash as lone_backslash}
 use Rattle.dotenvy_format.specs.Entries.{Failure, Entry, Declares, Fails}
-use Rattle.dotenvy_checker.specs.Numbered.{at_line}
+use Rattle.dotenvy_lines.specs.Numbered.{at_line}
 
 -- a finding: a fault; or a warning of a name without a value, of one that `_` ends, of a last
 -- backslash, or of a second declaration
@@ -13,7 +13,7 @@ pub data Finding : Type 0 where
   Wrong : Failure → Finding
   NoValue : List ℕ → Finding
   EndsAtUnderscore : List ℕ → Finding
-  LastBackslash : Finding
+  DroppedBackslash : Finding
   DeclaredTwice : List ℕ → Finding
 
 -- the finding is a fault
@@ -21,7 +21,7 @@ abbrev pub is_fault : Finding → Bool
 is_fault (Wrong failure) = true
 is_fault (NoValue name) = false
 is_fault (EndsAtUnderscore name) = false
-is_fault LastBackslash = false
+is_fault DroppedBackslash = false
 is_fault (DeclaredTwice name) = false
 
 -- some names: those that pass
@@ -46,7 +46,7 @@ piece_findings names (Text text) = []
 piece_findings names (Name name after) =
     only_if (not (names name)) (NoValue name)
     ++ only_if (begins_with underscore after) (EndsAtUnderscore name)
-piece_findings names lone_backslash = LastBackslash ∷ []
+piece_findings names lone_backslash = DroppedBackslash ∷ []
 
 -- a name has a value in a file: the environment has it, or it is declared before
 abbrev pub has_value : Names → Names → Names

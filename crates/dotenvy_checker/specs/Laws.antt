@@ -1,4 +1,5 @@
--- The laws of checks: numbers change no entry, and no fault is found exactly where a load meets none.
+-- The laws of checks: numbers change no entry, and no fault is found exactly where a load meets
+-- none.
 use Rattle.std.specs.Prelude.{ℕ, ◌≡◌, false, List, Result, Ok, Err}
 use Rattle.std.specs.List.{list_any}
 use Rattle.dotenvy_base.specs.Environment.{Texts}
@@ -13,7 +14,7 @@ use Rattle.dotenvy_items.specs.Iter.{IterState}
 use Rattle.dotenvy_items.specs.Iteration.{CanRead}
 use Rattle.dotenvy_items.specs.LoadsRest.{IsAnswer, LoadsRest, Rule}
 use Rattle.dotenvy_checker.specs.declared.report.Found.{Found}
-use Rattle.dotenvy_checker.specs.Numbered.{unnumbered, HasNumbered, DecidesNumbered}
+use Rattle.dotenvy_lines.specs.Numbered.{without_numbers, HasNumbered, DecidesNumbered}
 use Rattle.dotenvy_checker.specs.Findings.{Names, is_fault, findings}
 use Rattle.dotenvy_checker.specs.Checks.{Reports}
 
@@ -23,7 +24,7 @@ abbrev pub HasOneNumbering : Type 0
 HasOneNumbering =
     (dialect : Dialect) (number : ℕ) (bytes : List ℕ) →
     (numbered : List (ℕ × Entry)) × HasNumbered dialect number bytes numbered
-    × HasEntries dialect bytes (unnumbered numbered)
+    × HasEntries dialect bytes (without_numbers numbered)
     × ((others : List (ℕ × Entry)) → HasNumbered dialect number bytes others → others ≡ numbered)
 
 -- such bytes decide one list of numbered entries, and only one; without their numbers these are the
@@ -45,15 +46,15 @@ IsOkOrNul (Err Memory) = ⊥
 
 -- no fault is among the findings of these entries
 abbrev pub HasNoFault : Names → List (ℕ × Entry) → Type 0
-HasNoFault names numbered = list_any is_fault (unnumbered (findings names numbered)) ≡ false
+HasNoFault names numbered = list_any is_fault (without_numbers (findings names numbered)) ≡ false
 
 -- into every environment, and whatever is remembered, a load of these entries by this rule returns
 -- Ok only if no fault is found; and if none is found, it returns Ok, or stops at a NUL
 abbrev pub LoadsIfNoFault : Rule → Names → List (ℕ × Entry) → Type 0
 LoadsIfNoFault rule names numbered =
     (env remembered : LookUp) →
-    ((rule env remembered (unnumbered numbered)).answer ≡ Ok tt → HasNoFault names numbered)
-    × (HasNoFault names numbered → IsOkOrNul (rule env remembered (unnumbered numbered)).answer)
+    ((rule env remembered (without_numbers numbered)).answer ≡ Ok tt → HasNoFault names numbered)
+    × (HasNoFault names numbered → IsOkOrNul (rule env remembered (without_numbers numbered)).answer)
 
 -- where no value has a NUL, no fault is found exactly where both loads return Ok, whatever the
 -- environment

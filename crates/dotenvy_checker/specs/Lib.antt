@@ -1,4 +1,3 @@
-pub mod Numbered
 pub mod Findings
 pub mod Report
 pub mod Checks

@@ -7,7 +7,7 @@ use Rattle.std.specs.Fmt.{decimal}
 use Rattle.dotenvy_base.specs.Errors.{line_parse_text}
 use Rattle.dotenvy_format.specs.Characters.{line_feed}
 use Rattle.dotenvy_format.specs.Entries.{Failure, LineParse, Io, Nul, Memory}
-use Rattle.dotenvy_checker.specs.Findings.{Finding, Wrong, NoValue, EndsAtUnderscore, LastBackslash}
+use Rattle.dotenvy_checker.specs.Findings.{Finding, Wrong, NoValue, EndsAtUnderscore, DroppedBackslash}
 use Rattle.dotenvy_checker.specs.Findings.{DeclaredTwice}
 
 -- a character as it is shown: a control character as its escape
@@ -19,20 +19,20 @@ abbrev pub shown : List ℕ → List ℕ
 shown text = encode_utf8_all (flat_map shown_character text)
 
 -- what is printed of a fault on a line. No line has a NUL or refused memory for its fault
-abbrev pub failure_text : Failure → List ℕ
-failure_text (LineParse text index) = line_parse_text (shown text) index
-failure_text (Io kind) = codes "the line is not UTF-8"
-failure_text (Nul key) = []
-failure_text Memory = []
+abbrev pub fault_text : Failure → List ℕ
+fault_text (LineParse text index) = line_parse_text (shown text) index
+fault_text (Io kind) = codes "the line is not UTF-8"
+fault_text (Nul key) = []
+fault_text Memory = []
 
 -- what is printed of a finding
 abbrev pub finding_text : Finding → List ℕ
-finding_text (Wrong failure) = codes "error: " ++ failure_text failure
+finding_text (Wrong failure) = codes "error: " ++ fault_text failure
 finding_text (NoValue name) =
     codes "warning: '" ++ (shown name ++ codes "' has no value here; write \\$ for a dollar")
 finding_text (EndsAtUnderscore name) =
     codes "warning: the name '" ++ (shown name ++ codes "' ends before '_'; write ${NAME}")
-finding_text LastBackslash = codes "warning: the backslash at the end means nothing; write \\\\"
+finding_text DroppedBackslash = codes "warning: the backslash at the end means nothing; write \\\\"
 finding_text (DeclaredTwice name) =
     codes "warning: '" ++ (shown name ++ codes "' is declared twice; the first value counts")
 

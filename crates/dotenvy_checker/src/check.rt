@@ -12,13 +12,16 @@ pub use crate::report::Found;
 use dotenvy::{Environment, Iter, Sink, Source};
 use dotenvy_base::output::{MOST_WRITES, write_all};
 use dotenvy_items::iter::into_lines;
+use dotenvy_items::meaning::Names;
 use std::alloc::Allocator;
+use std::collections::HashMap;
 
 /// Checks what is left of a file, and writes a line for each finding: `NAME:LINE: error: TEXT` or
 /// `NAME:LINE: warning: TEXT`.
 ///
-/// LINE is the first physical line of the finding's logical line, counted from 1. A name has a value if this environment
-/// has it, or the file declares it before. Nothing is set, and no value is written but as a part of a faulty line.
+/// LINE is the first physical line of the finding's logical line, counted from 1. A name has a value if this
+/// environment has it, or the file declares it before. Nothing is set, and no value is written but as a part of a
+/// faulty line.
 ///
 /// ```
 /// let file = Iter::new(alloc, Bytes::new(b"A=1\nB=two words\nC=$X\n"))?;
@@ -38,7 +41,13 @@ pub fn check<R: Source + Drop, W: Sink, A: Allocator + Clone>(
     ensures shut { ¬ (IsOpen file) → IfOk result (λ found. found ≡ found_in []) }
 {
     let (mut lines, dialect) = into_lines(file);
-    let mut checker = Checker::new(lines.allocator().clone()?, name, env, dialect)?;
+    let alloc = lines.allocator().clone()?;
+    let remembered = HashMap::new(alloc.clone()?);
+    let names = Names {
+        env,
+        remembered: &remembered,
+    };
+    let mut checker = Checker::new(alloc, name, names, dialect)?;
     let fault = checker.check_all(&mut lines)?;
     if let Err(unwritten) = write_all(writer, checker.report.text.as_bytes(), MOST_WRITES) {
         return Err(Stop::Write(unwritten));

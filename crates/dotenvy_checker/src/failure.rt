@@ -1,7 +1,7 @@
 //! Why a check stops before it has checked all files, and what the program prints of it.
 
 use dotenvy::Error;
-use std::alloc::{AllocError, Allocator, Global};
+use std::alloc::{AllocError, AllocFailed, Allocator, Global};
 use std::fmt;
 
 /// Why the check of a file stops.
@@ -17,9 +17,9 @@ pub enum Stop<A: Allocator = Global> {
 }
 
 impl<A: Allocator> From<AllocError> for Stop<A> {
-    ghost use Rattle.dotenvy_checker.specs.Checks.{IsRefused};
+    ghost use Rattle.dotenvy_checker.specs.Checks.{IsMemoryStop};
 
-    ghost from_gives = { λ _ stop. IsRefused stop };
+    ghost from_gives = { λ _ stop. IsMemoryStop stop };
 
     fn from(refused: AllocError) -> Stop<A> {
         Stop::Memory(refused)
@@ -39,9 +39,9 @@ pub enum Failure<A: Allocator = Global> {
 }
 
 impl<A: Allocator> fmt::Display for Failure<A> {
-    ghost use Rattle.dotenvy_checker.specs.Answers.{failure_text};
+    ghost use Rattle.dotenvy_checker.specs.Answers.{end_text};
 
-    ghost output = { failure_text };
+    ghost output = { end_text };
 
     fn fmt<W: fmt::Write>(&self, f: &mut fmt::Formatter<W>) -> fmt::Result {
         match self {
@@ -53,11 +53,21 @@ impl<A: Allocator> fmt::Display for Failure<A> {
 }
 
 impl<A: Allocator> From<AllocError> for Failure<A> {
-    ghost use Rattle.dotenvy_checker.specs.Answers.{IsMemoryFailure};
+    ghost use Rattle.dotenvy_checker.specs.Answers.{IsMemoryEnd};
 
-    ghost from_gives = { λ _ failure. IsMemoryFailure failure };
+    ghost from_gives = { λ _ failure. IsMemoryEnd failure };
 
     fn from(refused: AllocError) -> Failure<A> {
         Failure::Memory(refused)
+    }
+}
+
+impl<T: Drop, A: Allocator> From<AllocFailed<T>> for Failure<A> {
+    ghost use Rattle.dotenvy_checker.specs.Answers.{IsMemoryEnd};
+
+    ghost from_gives = { λ _ failure. IsMemoryEnd failure };
+
+    fn from(refused: AllocFailed<T>) -> Failure<A> {
+        Failure::Memory(refused.into())
     }
 }

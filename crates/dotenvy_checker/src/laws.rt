@@ -5,28 +5,30 @@ ghost use Rattle.dotenvy_checker.specs.Laws.{CheckedFilesLoad, FaultsStopLoads, 
 use dotenvy::Sink;
 use std::alloc::Allocator;
 
-/// The entries of a file with the numbers of their lines are its entries, without the numbers, and the file has them
-/// once.
+/// The entries of a file, each with the number of its line, are its entries if the numbers are left out.
+///
+/// A file has them once: no other numbered list is that of the same bytes.
 pub fn one_numbering()
     ensures { HasOneNumbering }
 {}
 
-/// The same of the entries that the bytes before a fault of reading decide.
+/// A file that can be read only in part decides one list of entries with the numbers of their lines, and no other.
 pub fn one_numbered_decision()
     ensures { HasOneNumberedDecision }
 {}
 
-/// No fault is found in a file exactly where both loads of it return Ok, where no value has a NUL: whatever the
-/// environment is, and whatever is remembered. A warning stops no load.
+/// Where no value has a NUL, no fault is found in a file exactly if both loads of it return Ok.
+///
+/// The environment and the remembered values may be any. A warning stops no load.
 pub fn faults_stop_loads()
     ensures { FaultsStopLoads }
 {}
 
-/// What `check` said of a file is what a load of the same bytes meets, into every environment: if it found no fault, the
-/// load returns Ok, or `Nul` of a value with a NUL; and the load returns Ok only if it found none.
+/// A file in which `check` found no fault loads: the result is Ok, or `Nul` for a value with a NUL. A load returns Ok
+/// only if `check` found no fault.
 ///
-/// This holds where the reader has reads left for the bytes that it tells, memory isn't refused and no read is
-/// interrupted.
+/// The load reads the same bytes, into any environment. The reader has reads left for the bytes that it tells, no
+/// allocation fails and no read is interrupted.
 pub fn checked_files_load<A: Allocator, W: Sink>()
     ensures { CheckedFilesLoad A W }
 {}

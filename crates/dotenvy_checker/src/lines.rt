@@ -1,65 +1,39 @@
 //! Reads the lines of a file, and reports what is found on each.
 
-ghost use Rattle.std.specs.Prelude.{◌≡◌, ◌≢◌, ◌⊎◌, Err, None, Ok, IfErr, IfOk, List, OnOk, IsTrue, option_map};
+ghost use Rattle.std.specs.Prelude.{◌≡◌, ◌≢◌, ◌⊎◌, Err, None, Ok, IfErr, IfOk, List, OnOk};
 ghost use Rattle.std.specs.Str.{chars};
-ghost use Rattle.dotenvy_base.specs.Environment.{name_ok};
 ghost use Rattle.dotenvy_base.specs.Errors.{IsMemory, IsMemoryErr};
 ghost use Rattle.dotenvy_lines.specs.declared.lines.Stage.TheVariants.{Open, Failed};
 ghost use Rattle.dotenvy_format.specs.Characters.{underscore, begins_with};
-ghost use Rattle.dotenvy_format.specs.Entries.{Declares, Fails};
-ghost use Rattle.dotenvy_format.specs.Keys.{is_key};
-ghost use Rattle.dotenvy_format.specs.Value.{IsValue, Name, Piece as FormatPiece};
+ghost use Rattle.dotenvy_format.specs.Entries.{Fails};
+ghost use Rattle.dotenvy_format.specs.Value.{IsValue, Piece as FormatPiece};
 ghost use Rattle.dotenvy_format.specs.inside.NextPiece.{named_piece};
-ghost use Rattle.dotenvy_checker.specs.Findings.{only_if, piece_findings, with_name};
-ghost use Rattle.dotenvy_checker.specs.Numbered.{at_line};
+ghost use Rattle.dotenvy_checker.specs.Findings.{only_if};
+ghost use Rattle.dotenvy_lines.specs.Numbered.{at_line};
 ghost use Rattle.dotenvy_checker.specs.inside.Reports.{finding_of};
-ghost use Rattle.dotenvy_checker.specs.inside.CheckedLines.{declared_of, failure_of, known_of, AssignsPieces};
-ghost use Rattle.dotenvy_checker.specs.inside.CheckedLines.{ChecksEntry, ChecksOutcome, ChecksRead, ChecksText};
-ghost use Rattle.dotenvy_checker.specs.inside.CheckedLines.{ChecksUpTo, Finds, FindsPieces, IsNew, SaysWritten, WhereFew};
+ghost use Rattle.dotenvy_checker.specs.inside.CheckedLines.{failure_of, known_of, ChecksEntry, ChecksOutcome};
+ghost use Rattle.dotenvy_checker.specs.inside.CheckedLines.{ChecksRead, ChecksText, ChecksUpTo, AddsOnly, FindsPieces};
+ghost use Rattle.dotenvy_checker.specs.inside.CheckedLines.{IsNew, WhereFew};
 
 use crate::report::{Finding, Report};
-use dotenvy_base::environment::Environment;
 use dotenvy_base::errors::{Error, Result};
 use dotenvy_base::source::Source;
 use dotenvy_format::dialect::Dialect;
 use dotenvy_format::text::{Quoting, split_first};
 use dotenvy_format::value::{NextPiece, Piece, next_piece};
 use dotenvy_items::meaning::Names;
-use dotenvy_items::parse::{Declaration, Fault, scan_line};
-use dotenvy_items::remembered::Remembered;
+use dotenvy_items::parse::scan_line;
 use dotenvy_lines::lines::Splitter;
 use std::alloc::{AllocError, Allocator};
-use std::collections::HashMap;
-
-// A key, and the text that is assigned to it, or `None` where nothing or a comment is.
-#[derive(Clone, Copy)]
-struct Written<'t> {
-    key: &'t str,
-    value: Option<&'t str>,
-}
-
-// The texts of a declaration.
-fn written_of<'t>(declaration: Declaration<'_, 't>) -> Written<'t>
-    ensures { (result.key.now ≡ declaration.entry.key.now)
-        × (result.value ≡ option_map (λ value. value.text) declaration.entry.value) }
-{
-    Written {
-        key: declaration.key,
-        value: match declaration.value {
-            Some(value) => Some(value.text),
-            None => None,
-        },
-    }
-}
+use std::collections::BTreeSet;
 
 /// The names that have a value, and what was found so far.
 #[derive(Drop)]
 pub(crate) struct Checker<'a, A: Allocator> {
-    env: &'a Environment<A>,
-    // The names that the file declared so far, without their values.
-    declared: Environment<A>,
-    // Nothing: a name needs no value for this.
-    remembered: Remembered<A>,
+    // The names of the environment, and no others: what they stand for isn't asked.
+    names: Names<'a, A>,
+    // The names that the file declared so far.
+    declared: BTreeSet<String<A>, A>,
     dialect: Dialect,
     pub(crate) report: Report<'a, A>,
 }
@@ -69,15 +43,14 @@ impl<'a, A: Allocator + Clone> Checker<'a, A> {
     pub(crate) fn new(
         alloc: A,
         file: &'a str,
-        env: &'a Environment<A>,
+        names: Names<'a, A>,
         dialect: Dialect,
     ) -> std::result::Result<Checker<'a, A>, AllocError>
-        ensures { IfOk result (IsNew file.now env.now dialect) }
+        ensures { IfOk result (IsNew file.now names.entry.env.now dialect) }
     {
         Ok(Checker {
-            env,
-            declared: Environment::new(alloc.clone()?),
-            remembered: HashMap::new(alloc.clone()?),
+            names,
+            declared: BTreeSet::new(alloc.clone()?),
             dialect,
             report: Report::new(alloc, file),
         })
@@ -127,7 +100,10 @@ impl<'a, A: Allocator + Clone> Checker<'a, A> {
     {
         let line = lines.last_lines().0;
         match outcome {
-            Ok(()) => self.check_line(line, lines.line()),
+            Ok(()) => {
+                self.check_text(line, lines.line())?;
+                Ok(())
+            }
             Err(error) => {
                 if lines.has_failed() {
                     return Err(error);
@@ -153,87 +129,34 @@ impl<'a, A: Allocator + Clone> Checker<'a, A> {
         Ok(())
     }
 
-    // What the text of a line says, whatever its names stand for.
-    fn scan<'t>(&self, text: &'t str) -> std::result::Result<Option<Written<'t>>, Fault<'t>>
-        ensures { SaysWritten self.now.dialect (chars text.now) result }
+    // Reports what is found in the text of a line, and keeps the key that it declares.
+    fn check_text(&mut self, line: u64, text: &str) -> std::result::Result<(), AllocError>
+        ensures { OnOk result (ChecksText line (chars text.now) self.old self.new) }
     {
-        let names = Names {
-            env: self.env,
-            remembered: &self.remembered,
-        };
-        match scan_line(text, &names, self.dialect) {
-            Ok(Some(declaration)) => Ok(Some(written_of(declaration))),
-            Ok(None) => Ok(None),
-            Err(fault) => Err(fault),
-        }
-    }
-
-    // Reports what is found in the text of a line.
-    fn check_line(&mut self, line: u64, text: &str) -> Result<(), A>
-        ensures checks { OnOk result (ChecksText line (chars text.now) self.old self.new) }
-        ensures memory { IfErr result IsMemory }
-    {
-        match self.scan(text) {
-            Ok(Some(written)) => self.check_declaration(line, written.key, written.value),
-            Ok(None) => Ok(()),
+        let declaration = match scan_line(text, &self.names, self.dialect) {
+            Ok(Some(declaration)) => declaration,
+            Ok(None) => return Ok(()),
             Err(fault) => {
-                self.report
-                    .add(line, Finding::WrongText(fault.text, fault.index))?;
-                Ok(())
+                return self
+                    .report
+                    .add(line, Finding::WrongText(fault.text, fault.index));
             }
-        }
-    }
-
-    // Reports what is found in a declaration, and remembers its key.
-    fn check_declaration(&mut self, line: u64, key: &str, value: Option<&str>) -> Result<(), A>
-        requires key { IsTrue (is_key (chars key.now)) }
-        requires assigned { (pieces : List FormatPiece)
-            × AssignsPieces self.old.dialect value pieces }
-        ensures checks { (pieces : List FormatPiece) →
-            AssignsPieces self.old.dialect value.entry pieces → OnOk result
-            (ChecksEntry line (Declares (chars key.now) pieces) self.old self.new) }
-        ensures memory { IfErr result IsMemory }
-    {
+        };
+        let key = declaration.key;
         let is_declared = self.declared.contains(key);
         self.report_if(is_declared, line, Finding::DeclaredTwice(key))?;
-        self.check_assigned(line, value)?;
-        self.declare(key)
-    }
-
-    // Reports what is found in the value of a declaration, if it has one.
-    fn check_assigned(&mut self, line: u64, value: Option<&str>) -> Result<(), A>
-        requires { (pieces : List FormatPiece) × AssignsPieces self.old.dialect value pieces }
-        ensures finds { (pieces : List FormatPiece) →
-            AssignsPieces self.old.dialect value.entry pieces →
-            OnOk result (FindsPieces line pieces self.old self.new) }
-        ensures memory { IfErr result IsMemory }
-    {
-        match value {
-            Some(text) => self.check_value(line, text),
-            None => Ok(()),
+        if let Some(value) = declaration.value {
+            self.check_value(line, value.text)?;
         }
-    }
-
-    // Remembers that this key is declared.
-    fn declare(&mut self, key: &str) -> Result<(), A>
-        requires { IsTrue (name_ok key.now) }
-        ensures declared { OnOk result
-            (declared_of self.new ≡ with_name (declared_of self.old) (chars key.now)) }
-        ensures same { OnOk result (self.new ≡ record self.old { declared = self.new.declared }) }
-        ensures memory { IfErr result IsMemory }
-    {
         let alloc = self.report.text.allocator().clone()?;
-        let key = String::from_str(alloc.clone()?, key)?;
-        self.declared.set(key, String::new(alloc))
+        self.declared.insert(String::from_str(alloc, key)?)?;
+        Ok(())
     }
 
     // Reports what is found in a value.
-    fn check_value(&mut self, line: u64, value: &str) -> Result<(), A>
-        requires { (pieces : List FormatPiece) × IsValue self.old.dialect (chars value.now) pieces }
-        ensures finds { (pieces : List FormatPiece) →
-            IsValue self.old.dialect (chars value.now) pieces →
+    fn check_value(&mut self, line: u64, value: &str) -> std::result::Result<(), AllocError>
+        ensures { (pieces : List FormatPiece) → IsValue self.old.dialect (chars value.now) pieces →
             OnOk result (FindsPieces line pieces self.old self.new) }
-        ensures memory { IfErr result IsMemory }
     {
         let mut rest = value;
         let mut quoting = Quoting::Unquoted;
@@ -246,44 +169,39 @@ impl<'a, A: Allocator + Clone> Checker<'a, A> {
     }
 
     // Reports what is found in a piece of a value.
-    fn check_piece(&mut self, line: u64, piece: Piece<'_>) -> Result<(), A>
-        ensures finds { OnOk result
-            (FindsPieces line (named_piece piece.entry) self.old self.new) }
-        ensures memory { IfErr result IsMemory }
+    fn check_piece(&mut self, line: u64, piece: Piece<'_>) -> std::result::Result<(), AllocError>
+        ensures { OnOk result (FindsPieces line (named_piece piece.entry) self.old self.new) }
     {
         match piece {
             Piece::Text(_) => Ok(()),
-            Piece::Name { name, after } => self.check_name(line, name, after),
+            Piece::Name { name, after } => {
+                self.report_if(!self.is_known(name), line, Finding::NoValue(name))?;
+                self.report_if(
+                    begins_with_underscore(after),
+                    line,
+                    Finding::EndsAtUnderscore(name),
+                )
+            }
             Piece::LastBackslash => self.report_if(true, line, Finding::LastBackslash),
         }
-    }
-
-    // Reports what is found in a name that a value mentions, before this text.
-    fn check_name(&mut self, line: u64, name: &str, after: &str) -> Result<(), A>
-        ensures finds { OnOk result (Finds (at_line line (piece_findings (known_of self.old)
-            (Name (chars name.now) (chars after.now)))) self.old self.new) }
-        ensures memory { IfErr result IsMemory }
-    {
-        self.report_if(!self.is_known(name), line, Finding::NoValue(name))?;
-        self.report_if(
-            begins_with_underscore(after),
-            line,
-            Finding::EndsAtUnderscore(name),
-        )
     }
 
     // Whether a name has a value: the process has it, or the file declared it before.
     fn is_known(&self, name: &str) -> bool
         ensures { result ≡ known_of self.now (chars name.now) }
     {
-        self.env.contains(name) || self.declared.contains(name)
+        self.names.env.contains(name) || self.declared.contains(name)
     }
 
     // Reports this finding, if it is one.
-    fn report_if(&mut self, is_found: bool, line: u64, finding: Finding<'_>) -> Result<(), A>
-        ensures finds { OnOk result (Finds (at_line line (only_if is_found
+    fn report_if(
+        &mut self,
+        is_found: bool,
+        line: u64,
+        finding: Finding<'_>,
+    ) -> std::result::Result<(), AllocError>
+        ensures { OnOk result (AddsOnly (at_line line (only_if is_found
             (finding_of finding.entry))) self.old self.new) }
-        ensures memory { IfErr result IsMemory }
     {
         if is_found {
             self.report.add(line, finding)?;

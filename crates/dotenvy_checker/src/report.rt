@@ -4,7 +4,7 @@ ghost use Rattle.std.specs.Prelude.{◌≡◌, ◌++◌, ◌||◌, ◌&&◌, [],
 ghost use Rattle.std.specs.Char.Escape.{escape_default};
 ghost use Rattle.dotenvy_checker.specs.Report.{finding_text, shown, shown_character};
 ghost use Rattle.dotenvy_checker.specs.Findings.{is_fault};
-ghost use Rattle.dotenvy_checker.specs.inside.Reports.{finding_of, nothing_found, Adds, AddsPlace};
+ghost use Rattle.dotenvy_checker.specs.inside.Reports.{finding_of, nothing_found, Adds};
 
 use dotenvy::Error;
 use dotenvy_format::text::split_first;
@@ -80,26 +80,18 @@ fn is_fault(finding: Finding<'_>) -> bool
     matches!(finding, Finding::WrongText(..) | Finding::BrokenLine)
 }
 
-// Appends an escape.
-fn push_escape<A: Allocator>(text: &mut String<A>, c: char) -> Result<(), AllocError>
-    ensures { OnOk result (string_bytes text.new
-        ≡ string_bytes text.old ++ encode_utf8_all (escape_default c)) }
-{
-    'escape: for part in c.escape_default() {
-        text.push(part)?;
-    }
-    Ok(())
-}
-
 // Appends a character as it is shown: a control character as its escape.
 fn push_character<A: Allocator>(text: &mut String<A>, c: char) -> Result<(), AllocError>
     ensures { OnOk result (string_bytes text.new
         ≡ string_bytes text.old ++ encode_utf8_all (shown_character c)) }
 {
-    if c.is_control() {
-        return push_escape(text, c);
+    if !c.is_control() {
+        text.push(c)?;
+        return Ok(());
     }
-    text.push(c)?;
+    'escape: for part in c.escape_default() {
+        text.push(part)?;
+    }
     Ok(())
 }
 
@@ -185,19 +177,12 @@ impl<'a, A: Allocator> Report<'a, A> {
         }
     }
 
-    // Appends the file and the line.
-    fn push_place(&mut self, line: u64) -> Result<(), AllocError>
-        ensures { OnOk result (AddsPlace line self.old self.new) }
-    {
-        push_shown(&mut self.text, self.file)?;
-        write!(self.text, ":{line}: ")
-    }
-
     /// Adds a finding on this line.
     pub(crate) fn add(&mut self, line: u64, finding: Finding<'_>) -> Result<(), AllocError>
         ensures { OnOk result (Adds ((line, finding_of finding.entry) ∷ []) self.old self.new) }
     {
-        self.push_place(line)?;
+        push_shown(&mut self.text, self.file)?;
+        write!(self.text, ":{line}: ")?;
         push_finding(&mut self.text, finding)?;
         self.text.push('\n')?;
         if is_fault(finding) {

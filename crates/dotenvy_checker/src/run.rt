@@ -1,8 +1,8 @@
 //! What the program does once it has its words, over any writer and runtime.
 
-ghost use Rattle.std.specs.Prelude.{◌≡◌, ◌<◌, ◌||◌, true, find, Err, IfErr, IfOk, IfSome};
+ghost use Rattle.std.specs.Prelude.{◌≡◌, ◌<◌, ◌||◌, true, find, IfErr, IfOk, IfSome};
 ghost use Rattle.std.specs.Prelude.{IsErrAnd, None, Ok, OnErr, OnOk};
-ghost use Rattle.dotenvy_base.specs.Errors.{IsMemory, or_memory};
+ghost use Rattle.dotenvy_base.specs.Errors.{IsFileFault};
 ghost use Rattle.dotenvy_base.specs.Source.{nothing_told};
 ghost use Rattle.dotenvy_items.specs.Iter.{fresh};
 ghost use Rattle.dotenvy_checker.specs.Answers.{texts, CountsStop, IsOfWord, IsOfWords};
@@ -12,14 +12,14 @@ use crate::check::{Found, check};
 use crate::failure::{Failure, Stop};
 use crate::report::unread_line;
 use crate::words::{Words, read_words};
-use dotenvy::{Dialect, Environment, Error, Iter, Plain, Sink, Source, find_filename};
-use dotenvy_base::errors::or_memory;
+use dotenvy::{
+    Dialect, Environment, Error, Iter, Plain, Sink, Source, find_filename, from_path_iter,
+};
 use dotenvy_base::output::{MOST_WRITES, write_all};
-use std::alloc::{Alloc, AllocError, Allocator};
+use dotenvy_items::iter::{into_lines, over_lines};
+use std::alloc::{Alloc, Allocator};
 use std::env::Env;
-use std::fs::{File, Files};
-use std::io;
-use std::io::Read;
+use std::fs::Files;
 use std::path::Path;
 
 /// Checks each file that the words name, in order, or `.env`, and returns the status to end with: 0 if no file has a
@@ -46,9 +46,14 @@ pub fn run<A: Allocator + Clone, R: Files + Env + Alloc<A = A>, W: Sink>(
     ensures status { IfOk result (λ status. status < 2) }
 {
     let words = read_words(rt.alloc(), words)?;
+    let env = match Environment::from_process(rt) {
+        Ok(env) => env,
+        Err(Error::Memory(refused)) => return Err(Failure::Memory(refused)),
+        Err(_) => unreachable!(),
+    };
     let mut files = CheckedFiles {
         alloc: rt.alloc(),
-        env: process_environment(rt)?,
+        env,
         writer,
         found: Found::NOTHING,
     };
@@ -62,40 +67,17 @@ pub fn run<A: Allocator + Clone, R: Files + Env + Alloc<A = A>, W: Sink>(
     Ok(u8::from(files.found.is_bad(words.strict)))
 }
 
-// The names and values of the process.
-fn process_environment<A: Allocator + Clone, R: Env + Alloc<A = A>>(
-    rt: &R,
-) -> Result<Environment<A>, AllocError> {
-    match Environment::from_process(rt) {
-        Ok(env) => Ok(env),
-        Err(Error::Memory(refused)) => Err(refused),
-        Err(_) => unreachable!(),
-    }
-}
-
-// Opens the file at a path.
+// Opens the file at a path, in this dialect; nothing is read yet.
 fn open<A: Allocator + Clone, R: Files + Alloc<A = A>>(
     rt: &R,
     path: Path<'_>,
     dialect: Dialect,
-) -> dotenvy::Result<Iter<Plain<R::File>, A>, A> {
-    opened(rt.alloc(), File::open(rt, path), dialect)
-}
-
-// An iterator over the file that an opening gave, or why there is none: each fault of an opening is one.
-fn opened<F: Read + Drop, A: Allocator + Clone>(
-    alloc: A,
-    answer: io::Result<F>,
-    dialect: Dialect,
-) -> dotenvy::Result<Iter<Plain<F>, A>, A>
+) -> dotenvy::Result<Iter<Plain<R::File>, A>, A>
     ensures file { IfOk result (λ file. file ≡ fresh nothing_told dialect) }
-    ensures memory { OnOk answer (IfErr result IsMemory) }
-    ensures fault { IfErr answer (λ fault. result ≡ Err (or_memory (Error.Io fault))) }
+    ensures fault { IfErr result IsFileFault }
 {
-    match answer {
-        Ok(file) => Iter::with_dialect(alloc, Plain::new(file), dialect),
-        Err(fault) => Err(or_memory(Error::Io(fault))),
-    }
+    let (lines, _) = into_lines(from_path_iter(rt, path)?);
+    Ok(over_lines(lines, rt.alloc(), dialect))
 }
 
 // The files that were checked: what was found in them, and where it is written.

@@ -1,13 +1,13 @@
 //! Reads the words of the command line.
 
-ghost use Rattle.std.specs.Prelude.{◌≡◌, ◌++◌, [], ◌∷◌, OnOk, string_bytes};
-ghost use Rattle.dotenvy_checker.specs.Answers.{asked_by, texts, AnswersWords};
+ghost use Rattle.std.specs.Prelude.{◌≡◌};
+ghost use Rattle.dotenvy_checker.specs.Answers.{asked_by, texts, AnswersAsked};
 ghost use Rattle.dotenvy_checker.specs.Words.{nothing_asked};
-ghost use Rattle.dotenvy_checker.specs.inside.ReadWords.{AddsWord, IsWord};
+ghost use Rattle.dotenvy_checker.specs.inside.ReadWords.{AddsWord};
 
 use crate::failure::Failure;
 use dotenvy::Dialect;
-use std::alloc::{AllocError, Allocator, Global};
+use std::alloc::{Allocator, Global};
 
 /// What the words of the command line ask for.
 #[derive(Drop)]
@@ -18,29 +18,6 @@ pub struct Words<A: Allocator = Global> {
     pub strict: bool,
     /// The files, in their order, each as often as it is named.
     pub files: Vec<String<A>, A>,
-}
-
-/// What a word is by itself.
-#[derive(Clone, Copy)]
-enum Word {
-    Next,
-    Strict,
-    Unknown,
-    File,
-}
-
-// What the word is.
-fn word_of(word: &str) -> Word
-    ensures { IsWord word.now result }
-{
-    if !word.starts_with("-") {
-        return Word::File;
-    }
-    match word {
-        "--next" => Word::Next,
-        "--strict" => Word::Strict,
-        _ => Word::Unknown,
-    }
 }
 
 impl<A: Allocator + Clone> Words<A> {
@@ -55,28 +32,18 @@ impl<A: Allocator + Clone> Words<A> {
         }
     }
 
-    // Adds a file.
-    fn add_file(&mut self, name: &str) -> Result<(), AllocError>
-        ensures { OnOk result (asked_by self.new
-            ≡ record (asked_by self.old) { files = texts self.old.files.items ++ name.now ∷ [] }) }
-    {
-        let alloc = self.files.allocator().clone()?;
-        self.files.push(String::from_str(alloc, name)?)?;
-        Ok(())
-    }
-
     // Adds what one more word asks for.
     fn add(&mut self, word: &str) -> Result<(), Failure<A>>
         ensures { AddsWord self.old word.now result self.new }
     {
-        match word_of(word) {
-            Word::Next => self.dialect = Dialect::Next,
-            Word::Strict => self.strict = true,
-            Word::File => self.add_file(word)?,
-            Word::Unknown => {
-                let alloc = self.files.allocator().clone()?;
+        let alloc = self.files.allocator().clone()?;
+        match word {
+            "--next" => self.dialect = Dialect::Next,
+            "--strict" => self.strict = true,
+            _ if word.starts_with("-") => {
                 return Err(Failure::UnknownOption(String::from_str(alloc, word)?));
             }
+            _ => self.files.push(String::from_str(alloc, word)?)?,
         }
         Ok(())
     }
@@ -94,7 +61,7 @@ pub fn read_words<A: Allocator + Clone>(
     alloc: A,
     words: &[String<A>],
 ) -> Result<Words<A>, Failure<A>>
-    ensures { AnswersWords (texts words.now) result }
+    ensures { AnswersAsked (texts words.now) result }
 {
     let mut read = Words::new(alloc);
     let mut rest = words;

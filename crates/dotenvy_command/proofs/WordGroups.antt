@@ -17,7 +17,7 @@ use Rattle.dotenvy_command.specs.Failures.{IsMemoryFailure}
 use Rattle.dotenvy_command.proofs.WordsOnce.{usage_exists}
 use Rattle.dotenvy_command.specs.inside.FirstGroup.{AreCommand, GroupBeginsWith, IsUnknown}
 use Rattle.dotenvy_command.specs.Words.{Form, Group}
-use Rattle.dotenvy_command.specs.Words.{WordsEnd, nothing, missing_file, unknown, command}
+use Rattle.dotenvy_command.specs.Words.{WordsEnd, no_ending, missing_file, unknown, command}
 use Rattle.dotenvy_command.specs.Words.{file_word, AreGroups, IsGroup, IsWordsEnd, group_words}
 use Rattle.dotenvy_command.specs.Words.{ending_words, is_list, is_next, CommandLine}
 use Rattle.dotenvy_command.specs.Words.{MissingCommand, MissingFile, UnknownOption, command_line}
@@ -67,24 +67,12 @@ ends_by : (words rest : List (List ℕ)) (line : CommandLine) (ending : WordsEnd
 ends_by words rest line ending (groups, are, spelled, is_line) is joins =
     (groups, ending, record { are_groups = are; is_ending = is; spelled = rw (spelled, joins) refl }, refl)
 
--- `-f` or `--file` as the last word
-pub ends_without_file : (words rest : List (List ℕ)) (line : CommandLine) (form : Form) → SoFar words rest line →
-    rest ≡ file_word form ∷ [] → HasUsage words (Err MissingFile)
-ends_without_file words rest line form so_far is = ends_by words rest line (missing_file form) so_far tt is
-
--- a word that is no option of the program
-pub ends_at_unknown : (words rest : List (List ℕ)) (line : CommandLine) (word : List ℕ) (others : List (List ℕ)) →
-    SoFar words rest line → IsUnknown word → rest ≡ word ∷ others →
-    HasUsage words (Err (UnknownOption word))
-ends_at_unknown words rest line word others so_far unknown_is is =
-    ends_by words rest line (unknown word others) so_far unknown_is is
-
 -- no word is left, and no list is asked for
 pub ends_without_command : (words rest : List (List ℕ)) (line : CommandLine) → SoFar words rest line → rest ≡ [] →
     line.list ≡ false → HasUsage words (Err MissingCommand)
 ends_without_command words rest line so_far none unlisted =
     let listed : list_any is_list so_far.0 ≡ false = rw (so_far.3) at unlisted in
-    rw listed at (ends_by words rest line nothing so_far tt none)
+    rw listed at (ends_by words rest line no_ending so_far tt none)
 
 -- the words are read: what is left is the command, and there is one, or a list is asked for
 pub ends : (words rest : List (List ℕ)) (line : CommandLine) → SoFar words rest line → AreCommand rest →
@@ -92,7 +80,7 @@ pub ends : (words rest : List (List ℕ)) (line : CommandLine) → SoFar words r
     HasUsage words (Ok (record line { command = rest }))
 ends words [] line so_far are listed =
     let lists : list_any is_list so_far.0 ≡ true = rw (so_far.3) at listed refl in
-    rw (so_far.3, lists) (rw lists at (ends_by words [] line nothing so_far tt refl))
+    rw (so_far.3, lists) (rw lists at (ends_by words [] line no_ending so_far tt refl))
 ends words (word ∷ others) line so_far are listed =
     rw so_far.3 (ends_by words (word ∷ others) line (command word others) so_far are refl)
 
@@ -113,10 +101,10 @@ pub answers_refused : {A : Type 0} (words rest : List (List ℕ)) (line : Comman
     GroupBeginsWith rest (Err usage) → AnswersWords words (Err usage)
 answers_refused words rest line refusal.MissingCommand so_far begins = absurd begins
 answers_refused words rest line refusal.MissingFile so_far (form, is) =
-    (Err MissingFile, ends_without_file words rest line form so_far is, refl)
+    (Err MissingFile, ends_by words rest line (missing_file form) so_far tt is, refl)
 answers_refused words rest line (refusal.UnknownOption text) so_far (others, is, unknown_is) = (
   Err (UnknownOption (string_bytes text)),
-  ends_at_unknown words rest line (string_bytes text) others so_far unknown_is is,
+  ends_by words rest line (unknown (string_bytes text) others) so_far unknown_is is,
   refl,
 )
 answers_refused words rest line (refusal.Memory error) so_far begins =

@@ -6,8 +6,8 @@ use Rattle.std.specs.List.{flat_map, starts_with}
 use Rattle.std.specs.Cmp.Lexicographic.{same_text}
 use Rattle.std.proofs.lemmas.List.{take-append-drop}
 use Rattle.std.proofs.lemmas.Bool.{and_parts, or_parts, not-true, not-false, both_ways, false_from_ne_true, cond_both}
-use Rattle.dotenvy_command.specs.Words.{Form, short, long, Group, file, joined_file, assigned_file}
-use Rattle.dotenvy_command.specs.Words.{list, next, WordsEnd, nothing, missing_file, unknown}
+use Rattle.dotenvy_command.specs.Words.{Form, short, long, Group, next_file, joined_file, assigned_file}
+use Rattle.dotenvy_command.specs.Words.{list, next, WordsEnd, no_ending, missing_file, unknown}
 use Rattle.dotenvy_command.specs.Words.{command, file_word, group_words, ending_words, is_option}
 use Rattle.dotenvy_command.specs.Words.{begins_group, IsGroup, AreGroups, IsWordsEnd, AreWords}
 use Rattle.dotenvy_command.specs.Words.{CommandLine, Usage, answer_to, HasUsage}
@@ -38,41 +38,22 @@ Reading = List Group × WordsEnd
 abbrev pub grouped : Group → Reading → Reading
 grouped group (groups, ending) = (group ∷ groups, ending)
 
--- what the last word gives, by its kind
-abbrev pub alone : Kind → List ℕ → Reading
-alone (takes_file form) w = ([], missing_file form)
-alone (single group) w = (group ∷ [], nothing)
-alone unknown_option w = ([], unknown w [])
-alone command_word w = ([], command w [])
-
 -- what a word gives by its kind before others: `this` is read from the next word on, `after` from the one after it
-abbrev pub before : Kind → List ℕ → List ℕ → List (List ℕ) → Reading → Reading → Reading
-before (takes_file form) w x ws this after = grouped (file form x) after
-before (single group) w x ws this after = grouped group this
-before unknown_option w x ws this after = ([], unknown w (x ∷ ws))
-before command_word w x ws this after = ([], command w (x ∷ ws))
+abbrev pub first : Kind → List ℕ → List (List ℕ) → Reading → Reading → Reading
+first (takes_file form) w [] this after = ([], missing_file form)
+first (takes_file form) w (x ∷ ws) this after = grouped (next_file form x) after
+first (single group) w ws this after = grouped group this
+first unknown_option w ws this after = ([], unknown w ws)
+first command_word w ws this after = ([], command w ws)
 
--- what words are read as, from left to right: groups, and an ending
+-- what words are read as, from left to right, and what those after the first one are read as
+abbrev pub readings : List (List ℕ) → Reading × Reading
+readings [] = (([], no_ending), ([], no_ending))
+readings (w ∷ ws) = (first (kind w) w ws (readings ws).0 (readings ws).1, (readings ws).0)
+
+-- what words are read as: groups, and an ending
 abbrev pub read : List (List ℕ) → Reading
-read [] = ([], nothing)
-read (w ∷ []) = alone (kind w) w
-read (w ∷ x ∷ ws) = before (kind w) w x ws (read (x ∷ ws)) (read ws)
-
--- a word that is a whole group is read as that group, before what the others give
-read_single : (w : List ℕ) (ws : List (List ℕ)) (group : Group) → kind w ≡ single group →
-    read (w ∷ ws) ≡ grouped group (read ws)
-read_single w [] group h = rw h refl
-read_single w (x ∷ ws) group h = rw h refl
-
--- an option that the program lacks is read as the ending, with the words after it
-read_unknown : (w : List ℕ) (ws : List (List ℕ)) → kind w ≡ unknown_option → read (w ∷ ws) ≡ ([], unknown w ws)
-read_unknown w [] h = rw h refl
-read_unknown w (x ∷ ws) h = rw h refl
-
--- a word that is a command is read as the ending, with the words after it
-read_command : (w : List ℕ) (ws : List (List ℕ)) → kind w ≡ command_word → read (w ∷ ws) ≡ ([], command w ws)
-read_command w [] h = rw h refl
-read_command w (x ∷ ws) h = rw h refl
+read words = (readings words).0
 
 -- a word that does not begin with `-f` is not `-f`
 front_f : (w : List ℕ) → starts_with nat_eq w (codes "-f") ≡ false → bytes_eq w (codes "-f") ≡ false
@@ -91,41 +72,29 @@ kind_unknown w h =
     let flags = or_parts (bytes_eq w (codes "--list")) (bytes_eq w (codes "--next")) none.1 in
     rw (both.0, front_f w fronts.0, fronts.0, fronts.1, files.1, flags.0, flags.1) refl
 
--- a word that is no option is a command by its kind
-kind_command : (w : List ℕ) → IsTrue (not (is_option w)) → kind w ≡ command_word
-kind_command w h = rw h refl
-
 -- the words of an ending are read as that ending, with no group before it
 read_ending : (ending : WordsEnd) → IsWordsEnd ending → read (ending_words ending) ≡ ([], ending)
-read_ending nothing is = refl
+read_ending no_ending is = refl
 read_ending (missing_file short) is = refl
 read_ending (missing_file long) is = refl
-read_ending (unknown w ws) is = read_unknown w ws (kind_unknown w is)
-read_ending (command w ws) is = read_command w ws (kind_command w is)
-
--- an option for a file and the word after it are read as one group, before what the others give
-read_file : (form : Form) (name : List ℕ) (ws : List (List ℕ)) →
-    read (file_word form ∷ name ∷ ws) ≡ grouped (file form name) (read ws)
-read_file short name ws = refl
-read_file long name ws = refl
+read_ending (unknown w ws) is = rw (kind_unknown w is) refl
+read_ending (command w ws) is = rw is refl
 
 -- the words of groups and then of an ending are read as these groups and this ending
 read_groups : (groups : List Group) (ending : WordsEnd) → AreGroups groups → IsWordsEnd ending →
     read (flat_map group_words groups ++ ending_words ending) ≡ (groups, ending)
 read_groups [] ending are is = read_ending ending is
-read_groups (file form name ∷ groups) ending are is =
-    read_file form name _ ∙ ap (grouped (file form name)) (read_groups groups ending are.1 is)
+read_groups (next_file short name ∷ groups) ending are is =
+    ap (grouped (next_file short name)) (read_groups groups ending are.1 is)
+read_groups (next_file long name ∷ groups) ending are is =
+    ap (grouped (next_file long name)) (read_groups groups ending are.1 is)
 read_groups (joined_file [] ∷ groups) ending are is = absurd (are.0 refl)
 read_groups (joined_file (c ∷ tail) ∷ groups) ending are is =
-    read_single (codes "-f" ++ c ∷ tail) _ (joined_file (c ∷ tail)) refl
-    ∙ ap (grouped (joined_file (c ∷ tail))) (read_groups groups ending are.1 is)
+    ap (grouped (joined_file (c ∷ tail))) (read_groups groups ending are.1 is)
 read_groups (assigned_file name ∷ groups) ending are is =
-    read_single (codes "--file=" ++ name) _ (assigned_file name) refl
-    ∙ ap (grouped (assigned_file name)) (read_groups groups ending are.1 is)
-read_groups (list ∷ groups) ending are is =
-    read_single (codes "--list") _ list refl ∙ ap (grouped list) (read_groups groups ending are.1 is)
-read_groups (next ∷ groups) ending are is =
-    read_single (codes "--next") _ next refl ∙ ap (grouped next) (read_groups groups ending are.1 is)
+    ap (grouped (assigned_file name)) (read_groups groups ending are.1 is)
+read_groups (list ∷ groups) ending are is = ap (grouped list) (read_groups groups ending are.1 is)
+read_groups (next ∷ groups) ending are is = ap (grouped next) (read_groups groups ending are.1 is)
 
 -- words are read as their groups and their ending
 pub read-words : (words : List (List ℕ)) (groups : List Group) (ending : WordsEnd) → AreWords words groups ending →
@@ -182,31 +151,25 @@ group_first group front words (groups, ending) is e are =
 only : (ending : WordsEnd) → IsWordsEnd ending → Reads (ending_words ending) ([], ending)
 only ending is = record { are_groups = tt; is_ending = is; spelled = refl }
 
--- the last word, of whatever kind, is what it gives by that kind
-alone_reads : (w : List ℕ) (k : Kind) → IsKind w k → Reads (w ∷ []) (alone k w)
-alone_reads w (takes_file form) is = rw is (only (missing_file form) tt)
-alone_reads w (single group) is = group_first group (w ∷ []) [] ([], nothing) is.0 is.1 (only nothing tt)
-alone_reads w unknown_option is = only (unknown w []) is
-alone_reads w command_word is = only (command w []) is
-
 -- a word before others, of whatever kind, is what it gives by that kind, where the others are what they give
-before_reads : (w x : List ℕ) (ws : List (List ℕ)) (k : Kind) (this after : Reading) → IsKind w k →
-    Reads (x ∷ ws) this → Reads ws after → Reads (w ∷ x ∷ ws) (before k w x ws this after)
-before_reads w x ws (takes_file form) this after is h g = rw is (group_first (file form x) _ ws after tt refl g)
-before_reads w x ws (single group) this after is h g = group_first group (w ∷ []) (x ∷ ws) this is.0 is.1 h
-before_reads w x ws unknown_option this after is h g = only (unknown w (x ∷ ws)) is
-before_reads w x ws command_word this after is h g = only (command w (x ∷ ws)) is
+first_reads : (w : List ℕ) (ws : List (List ℕ)) (k : Kind) (this after : Reading) → IsKind w k → Reads ws this →
+    Reads (drop 1 ws) after → Reads (w ∷ ws) (first k w ws this after)
+first_reads w [] (takes_file form) this after is h g = rw is (only (missing_file form) tt)
+first_reads w (x ∷ ws) (takes_file form) this after is h g = rw is (group_first (next_file form x) _ ws after tt refl g)
+first_reads w ws (single group) this after is h g = group_first group (w ∷ []) ws this is.0 is.1 h
+first_reads w ws unknown_option this after is h g = only (unknown w ws) is
+first_reads w ws command_word this after is h g = only (command w ws) is
 
--- all words are the groups and the ending that they are read as
-read_reads : (words : List (List ℕ)) → Reads words (read words)
-read_reads [] = only nothing tt
-read_reads (w ∷ []) = alone_reads w (kind w) (kind_is w)
-read_reads (w ∷ x ∷ ws) =
-    before_reads w x ws (kind w) (read (x ∷ ws)) (read ws) (kind_is w) (read_reads (x ∷ ws)) (read_reads ws)
+-- all words, and those after the first one, are the groups and the ending that they are read as
+all_read : (words : List (List ℕ)) → Reads words (readings words).0 × Reads (drop 1 words) (readings words).1
+all_read [] = (only no_ending tt, only no_ending tt)
+all_read (w ∷ ws) =
+    let both = all_read ws in
+    (first_reads w ws (kind w) (readings ws).0 (readings ws).1 (kind_is w) both.0 both.1, both.0)
 
 -- all words are the groups that are read of them, and then the ending that is read of them
 pub words-read : (words : List (List ℕ)) → AreWords words (read words).0 (read words).1
-words-read words = read_reads words
+words-read words = (all_read words).0
 
 -- words are one row of groups and one ending alone
 pub one_reading_of_words : (words : List (List ℕ)) (groups others : List Group) (ending other : WordsEnd) →

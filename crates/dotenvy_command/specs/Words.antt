@@ -13,7 +13,7 @@ pub data Form : Type 0 where
 
 -- a group: a file in the next word, or in the same word after `-f` or `--file=`; or a flag
 pub data Group : Type 0 where
-  file : Form → List ℕ → Group
+  next_file : Form → List ℕ → Group
   joined_file : List ℕ → Group
   assigned_file : List ℕ → Group
   list : Group
@@ -21,7 +21,7 @@ pub data Group : Type 0 where
 
 -- an ending: nothing; an option without its file; or an unknown option or a command, and the words after it
 pub data WordsEnd : Type 0 where
-  nothing : WordsEnd
+  no_ending : WordsEnd
   missing_file : Form → WordsEnd
   unknown : List ℕ → List (List ℕ) → WordsEnd
   command : List ℕ → List (List ℕ) → WordsEnd
@@ -33,7 +33,7 @@ file_word long = codes "--file"
 
 -- the words of a group
 abbrev pub group_words : Group → List (List ℕ)
-group_words (file form name) = file_word form ∷ name ∷ []
+group_words (next_file form name) = file_word form ∷ name ∷ []
 group_words (joined_file tail) = (codes "-f" ++ tail) ∷ []
 group_words (assigned_file name) = (codes "--file=" ++ name) ∷ []
 group_words list = codes "--list" ∷ []
@@ -41,7 +41,7 @@ group_words next = codes "--next" ∷ []
 
 -- the words of an ending
 abbrev pub ending_words : WordsEnd → List (List ℕ)
-ending_words nothing = []
+ending_words no_ending = []
 ending_words (missing_file form) = file_word form ∷ []
 ending_words (unknown word words) = word ∷ words
 ending_words (command word words) = word ∷ words
@@ -59,7 +59,7 @@ begins_group word =
 
 -- a group may have any file, except that a file joined to `-f` is not empty
 abbrev pub IsGroup : Group → Type 0
-IsGroup (file form name) = Unit {0}
+IsGroup (next_file form name) = Unit {0}
 IsGroup (joined_file tail) = tail ≢ []
 IsGroup (assigned_file name) = Unit {0}
 IsGroup list = Unit {0}
@@ -72,7 +72,7 @@ AreGroups (group ∷ groups) = IsGroup group × AreGroups groups
 
 -- words may end so
 abbrev pub IsWordsEnd : WordsEnd → Type 0
-IsWordsEnd nothing = Unit {0}
+IsWordsEnd no_ending = Unit {0}
 IsWordsEnd (missing_file form) = Unit {0}
 IsWordsEnd (unknown word words) = IsTrue (is_option word && not (begins_group word))
 IsWordsEnd (command word words) = IsTrue (not (is_option word))
@@ -90,7 +90,7 @@ without_equals (c ∷ cs) = if c == equals_sign then cs else c ∷ cs
 
 -- the file that a group names, if it names one
 abbrev pub group_files : Group → List (List ℕ)
-group_files (file form name) = name ∷ []
+group_files (next_file form name) = name ∷ []
 group_files (joined_file tail) = without_equals tail ∷ []
 group_files (assigned_file name) = name ∷ []
 group_files list = []
@@ -98,7 +98,7 @@ group_files next = []
 
 -- the group asks for a list
 abbrev pub is_list : Group → Bool
-is_list (file form name) = false
+is_list (next_file form name) = false
 is_list (joined_file tail) = false
 is_list (assigned_file name) = false
 is_list list = true
@@ -106,7 +106,7 @@ is_list next = false
 
 -- the group asks for the second dialect
 abbrev pub is_next : Group → Bool
-is_next (file form name) = false
+is_next (next_file form name) = false
 is_next (joined_file tail) = false
 is_next (assigned_file name) = false
 is_next list = false
@@ -145,7 +145,7 @@ with_group line group = record {
 
 -- the answer to these groups and this ending: a command line, or why they are refused
 abbrev pub answer_to : List Group → WordsEnd → Result CommandLine Usage
-answer_to groups nothing =
+answer_to groups no_ending =
     if list_any is_list groups then Ok (command_line groups []) else Err MissingCommand
 answer_to groups (missing_file form) = Err MissingFile
 answer_to groups (unknown word words) = Err (UnknownOption word)

@@ -1,9 +1,9 @@
 //! Reads the words of the command line (docs/COMMAND.md, "Words").
 
-ghost use Rattle.std.specs.Prelude.{◌≡◌, [], IfOk, OnOk};
+ghost use Rattle.std.specs.Prelude.{◌≡◌, OnOk};
 ghost use Rattle.dotenvy_command.specs.Answers.{AnswersWords, line_of, texts};
 ghost use Rattle.dotenvy_command.specs.inside.FirstGroup.{AttachesFile, GroupBeginsWith, IsGroupOf, IsWord};
-ghost use Rattle.dotenvy_command.specs.Words.{Group as WordGroup, command_line, with_group, without_equals};
+ghost use Rattle.dotenvy_command.specs.Words.{Group as WordGroup, with_group};
 
 use crate::failure::Usage;
 use dotenvy::Dialect;
@@ -24,8 +24,8 @@ pub struct CommandLine<A: Allocator = Global> {
 
 /// Reads the words after the program's name (docs/COMMAND.md, "Words").
 ///
-/// An error is one of the words, or `Memory`. `UnknownOption` has the first word that begins with `-` and is no option of
-/// the program.
+/// An error is one of the words, or `Memory`. `UnknownOption` has the first word that begins with `-` and is no option
+/// of the program.
 ///
 /// ```
 /// // of the words `-fa --file=b sh -c -x`: the files a and b, and the command sh with -c and -x
@@ -37,7 +37,12 @@ pub fn command_line<A: Allocator + Clone>(
 ) -> Result<CommandLine<A>, Usage<A>>
     ensures { AnswersWords (texts words.now) result }
 {
-    let mut line = CommandLine::new(alloc.clone()?)?;
+    let mut line = CommandLine {
+        list: false,
+        files: Vec::new(alloc.clone()?),
+        dialect: Dialect::V15,
+        command: Vec::new(alloc.clone()?),
+    };
     let mut rest = words;
     'groups: while let Some((group, after)) = first_group(&alloc, rest)? {
         line.add(group)?;
@@ -70,18 +75,6 @@ enum Word<'a> {
 }
 
 impl<A: Allocator + Clone> CommandLine<A> {
-    // The command line of no words.
-    fn new(alloc: A) -> Result<CommandLine<A>, AllocError>
-        ensures { IfOk result (λ line. line_of line ≡ command_line [] []) }
-    {
-        Ok(CommandLine {
-            list: false,
-            files: Vec::new(alloc.clone()?),
-            dialect: Dialect::V15,
-            command: Vec::new(alloc),
-        })
-    }
-
     // Adds what one more group asks for.
     fn add(&mut self, group: Group<'_>) -> Result<(), AllocError>
         ensures { OnOk result ((spelled : WordGroup) → IsGroupOf spelled group.entry
@@ -146,12 +139,5 @@ fn attached_file(word: &str) -> Option<&str>
         return Some(name);
     }
     let name = word.strip_prefix("-f")?;
-    Some(without_equals(name))
-}
-
-// The text without one `=` at its start.
-fn without_equals(text: &str) -> &str
-    ensures { result.now ≡ without_equals text.now }
-{
-    text.strip_prefix('=').unwrap_or(text)
+    Some(name.strip_prefix('=').unwrap_or(name))
 }

@@ -1,4 +1,5 @@
-//! What the program `dotenvy_run` does: it runs a command in the environment that files give, or lists that environment.
+//! What the program `dotenvy_run` does: it runs a command in the environment that files give, or lists that
+//! environment.
 #![tactic(auto)]
 
 pub mod command_line;
@@ -6,6 +7,5 @@ pub mod failure;
 pub mod laws;
 pub mod loaded;
 pub mod prepared;
-pub mod process_words;
 pub mod run;
 mod start;

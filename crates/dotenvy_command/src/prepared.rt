@@ -49,8 +49,8 @@ impl<'a, A: Allocator + Clone> Prepared<'a, A> {
 
 /// What starts commands. Every runtime that starts processes does.
 ///
-/// An implementation may specify, for contracts alone, what comes of the start of a command (`ends`). Then contracts say
-/// of which command a status is.
+/// An implementation may specify, for contracts alone, what comes of the start of a command (`ends`). Then contracts
+/// say of which command a status is.
 pub trait Starter {
     ghost ends: { Self → Made → Result ExitStatus Error → Type 0 } = { λ _ _ _. Unit {0} };
 

@@ -1,15 +1,13 @@
 //! Starts a command in an environment, and waits for its end.
 
 ghost use Rattle.std.specs.Prelude.{◌∷◌};
-ghost use Rattle.std.specs.Process.{exit_code};
 ghost use Rattle.dotenvy_command.specs.Answers.{texts};
-ghost use Rattle.dotenvy_command.specs.Started.{EndsWith, IsOfStart};
+ghost use Rattle.dotenvy_command.specs.Started.{IsOfStart};
 
 use crate::prepared::{Prepared, Starter};
 use dotenvy::Environment;
 use std::alloc::{Alloc, Allocator};
 use std::io;
-use std::process::ExitStatus;
 
 /// Starts the command and waits for its end. Returns its status, or 1 if a signal ended it.
 ///
@@ -25,15 +23,8 @@ pub fn start<A: Allocator + Clone, R: Starter + Alloc<A = A>>(
 {
     let prepared = Prepared::new(rt.alloc(), program, arguments, env)?;
     let status = rt.start(prepared)?;
-    Ok(status_number(status))
-}
-
-// The status that a command ended with, or 1 if it has none.
-fn status_number(status: ExitStatus) -> u8
-    ensures { EndsWith (exit_code status) result }
-{
-    match status.code() {
+    Ok(match status.code() {
         Some(code) => u8::try_from(code).unwrap_or(1),
         None => 1,
-    }
+    })
 }

@@ -5,4 +5,3 @@ pub mod DecidedFront
 pub mod Splitting
 pub mod SplitLines
 pub mod LineTexts
-pub mod FirstLines

@@ -1,4 +1,5 @@
--- The characters that the format names, and its classes of characters. A character is its Unicode scalar value, a text a list of these.
+-- The characters that the format names, and its classes of characters.
+-- A character is its Unicode scalar value, a text a list of these.
 use Rattle.std.specs.Prelude.{ℕ, Bool, true, false, not, ◌&&◌, ◌||◌, ◌==◌, nat_le, List, [], ◌∷◌}
 use Rattle.std.specs.Prelude.{encode_utf8_all, length}
 use Rattle.std.specs.Char.{is_whitespace, is_ascii_alphabetic, is_ascii_digit}

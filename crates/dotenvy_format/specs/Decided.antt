@@ -1,8 +1,8 @@
--- What the first bytes of a file decide, whatever follows: the logical lines up to the last line feed, except one left open.
+-- What the first bytes of a file decide, whatever follows: all logical lines up to the last line feed, but no open one.
 use Rattle.std.specs.Prelude.{ℕ, ◌==◌, List, [], ◌∷◌, if◌then◌else◌}
 use Rattle.dotenvy_format.specs.declared.dialect.Dialect.{Dialect}
 use Rattle.dotenvy_format.specs.Characters.{line_feed}
-use Rattle.dotenvy_format.specs.LogicalLine.{Logical, Skip, Text, Open, Broken}
+use Rattle.dotenvy_format.specs.LogicalLine.{Logical, Skip, HasText, StaysOpen, Broken}
 use Rattle.dotenvy_format.specs.PhysicalLines.{line_texts}
 use Rattle.dotenvy_format.specs.Entries.{Entry, AreLogicalLines, GiveAll}
 
@@ -20,9 +20,9 @@ up_to_last_line_feed (c ∷ cs) =
 -- the logical lines before an open end
 abbrev pub without_open_end : List Logical → List Logical
 without_open_end [] = []
-without_open_end (Open text index ∷ lines) = []
+without_open_end (StaysOpen text index ∷ lines) = []
 without_open_end (Skip ∷ lines) = Skip ∷ without_open_end lines
-without_open_end (Text text ∷ lines) = Text text ∷ without_open_end lines
+without_open_end (HasText text ∷ lines) = HasText text ∷ without_open_end lines
 without_open_end (Broken ∷ lines) = Broken ∷ without_open_end lines
 
 -- the bytes decide these entries, whatever follows them

@@ -4,7 +4,7 @@ use Rattle.std.specs.declared.io.ErrorKind.{ErrorKind}
 use Rattle.std.specs.declared.io.ErrorKind.TheVariants.{InvalidData}
 use Rattle.dotenvy_format.specs.declared.dialect.Dialect.{Dialect}
 use Rattle.dotenvy_format.specs.PhysicalLines.{line_texts}
-use Rattle.dotenvy_format.specs.LogicalLine.{Logical, Skip, Text, Open, Broken, IsNext}
+use Rattle.dotenvy_format.specs.LogicalLine.{Logical, Skip, HasText, StaysOpen, Broken, IsNext}
 use Rattle.dotenvy_format.specs.Value.{Piece}
 use Rattle.dotenvy_format.specs.Outcome.{Outcome, Nothing, Pair, Fault, Says}
 
@@ -43,9 +43,9 @@ outcome_entries (Fault text index) = Fails (LineParse text index) ∷ []
 -- one logical line has these entries
 abbrev pub Gives : Dialect → Logical → List Entry → Type 0
 Gives dialect Skip entries = entries ≡ []
-Gives dialect (Text text) entries =
+Gives dialect (HasText text) entries =
     (outcome : Outcome) × Says dialect text outcome × (entries ≡ outcome_entries outcome)
-Gives dialect (Open text index) entries = entries ≡ Fails (LineParse text index) ∷ []
+Gives dialect (StaysOpen text index) entries = entries ≡ Fails (LineParse text index) ∷ []
 Gives dialect Broken entries = entries ≡ Fails (Io InvalidData) ∷ []
 
 -- these logical lines have these entries, in order

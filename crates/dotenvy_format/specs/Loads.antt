@@ -44,7 +44,7 @@ load_result env remembered entries =
     declared_from (load_look_up env remembered) (is_first_of_absent env) [] entries in
     record { env = or_else env (first_value declared.pairs); answer = declared.stop }
 
--- in `load_override`, a name means the value of its last earlier declaration, or that in the environment, or the remembered one
+-- in `load_override`, a name means its last earlier declared value, or that in the environment, or the remembered one
 abbrev pub override_look_up : LookUp → LookUp → List (List ℕ × List ℕ) → LookUp
 override_look_up env remembered earlier = or_else (last_value earlier) (or_else env remembered)
 

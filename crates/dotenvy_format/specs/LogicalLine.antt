@@ -5,7 +5,7 @@ use Rattle.std.specs.Str.{skip_leading_whitespace}
 use Rattle.dotenvy_format.specs.Characters.{is_blank, line_feed, carriage_return, backslash, hash, byte_len, begins_with}
 use Rattle.dotenvy_format.specs.Tokens.{Token, tokens_text, AreTokens}
 
--- the end of a line: a line feed; a backslash and a line feed; a blank, `#` and the words of a comment; or the end of the input
+-- the end of a line: a line feed; a backslash and a line feed; a blank, `#` and a comment's words; or the input's end
 pub data Ending : Type 0 where
   line_end : Ending
   escaped_line_end : Ending
@@ -38,7 +38,7 @@ without_carriage_return [] = []
 without_carriage_return (c ∷ []) = if c == carriage_return then [] else c ∷ []
 without_carriage_return (c ∷ d ∷ cs) = c ∷ without_carriage_return (d ∷ cs)
 
--- what is kept of a line: its tokens, without a carriage return before a line feed, and the first character of other endings
+-- what is kept of a line: its tokens, and the first character of an ending, but no line feed and no return before it
 abbrev pub kept_text : List ℕ → Ending → List ℕ
 kept_text tokens line_end = without_carriage_return tokens
 kept_text tokens escaped_line_end = tokens ++ backslash ∷ []
@@ -78,11 +78,12 @@ IsFirstBroken number (None ∷ lines) = number ≡ 1
 IsFirstBroken number (Some text ∷ lines) =
     (earlier : ℕ) × (number ≡ suc earlier) × IsFirstBroken earlier lines
 
--- a logical line: a skipped line; a text; a text left open at the end of the input, with its length in bytes; or a broken line
+-- a logical line: a skipped line; a text; a text left open at the input's end, with its length in bytes; or a broken
+-- line
 pub data Logical : Type 0 where
   Skip : Logical
-  Text : List ℕ → Logical
-  Open : List ℕ → ℕ → Logical
+  HasText : List ℕ → Logical
+  StaysOpen : List ℕ → ℕ → Logical
   Broken : Logical
 
 -- the first `count` lines together are a whole logical line, of which this text is kept
@@ -95,8 +96,8 @@ pub record IsText (lines : List (Option (List ℕ))) (count : ℕ) (kept : List 
 -- the first `count` lines together are the next logical line, and it is this one
 abbrev pub IsNext : List (Option (List ℕ)) → ℕ → Logical → Type 0
 IsNext lines count Skip = IsSkipped lines × (count ≡ 1)
-IsNext lines count (Text kept) = ¬ (IsSkipped lines) × IsText lines count kept
-IsNext lines count (Open text index) =
+IsNext lines count (HasText kept) = ¬ (IsSkipped lines) × IsText lines count kept
+IsNext lines count (StaysOpen text index) =
     ¬ (IsSkipped lines) × (count ≡ length lines) × (joined_text lines ≡ Some text)
     × ((other : ℕ) (kept : List ℕ) → ¬ (IsText lines other kept))
     × (index ≡ byte_len text)
@@ -107,6 +108,6 @@ IsNext lines count Broken =
 -- the logical line is an open end
 abbrev pub IsOpenEnd : Logical → Type 0
 IsOpenEnd Skip = ⊥
-IsOpenEnd (Text kept) = ⊥
-IsOpenEnd (Open text index) = Unit {0}
+IsOpenEnd (HasText kept) = ⊥
+IsOpenEnd (StaysOpen text index) = Unit {0}
 IsOpenEnd Broken = ⊥

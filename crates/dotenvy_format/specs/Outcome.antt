@@ -27,7 +27,8 @@ Assigns dialect rest pieces =
     (IsTrue (is_empty_or_comment rest) × (pieces ≡ []))
     ⊎ (IsTrue (not (is_empty_or_comment rest)) × IsValue dialect rest pieces)
 
--- the index of a fault in a value: its place in characters, but if only the end is missing, the length in bytes less one
+-- the index of a fault in a value: its place in characters; but if only the end is missing, its length in bytes less
+-- one
 abbrev pub value_index : List ℕ → ℕ → ℕ
 value_index rest place = if place == length rest then byte_len rest - 1 else place
 

@@ -40,7 +40,7 @@ is_last_line [] = false
 is_last_line (c ∷ []) = true
 is_last_line (c ∷ d ∷ cs) = not (c == line_feed) && is_last_line (d ∷ cs)
 
--- these can be the lines of a file: each text ends with its line feed, except that the last may lack it; any line may be broken
+-- these can be the lines of a file: each text ends with its line feed, but the last may lack it; any line may be broken
 abbrev pub AreCut : List (Option (List ℕ)) → Type 0
 AreCut [] = Unit {0}
 AreCut (None ∷ lines) = AreCut lines

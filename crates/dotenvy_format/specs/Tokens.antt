@@ -10,7 +10,7 @@ pub data QuotedCharacter : Type 0 where
 
 -- a token: one character; a backslash and a character; a quoted part; a blank and a character; or a blank alone
 pub data Token : Type 0 where
-  plain : ℕ → Token
+  one_character : ℕ → Token
   backslash_pair : ℕ → Token
   quoted : ℕ → List QuotedCharacter → Token
   blank_pair : ℕ → ℕ → Token
@@ -23,7 +23,7 @@ quoted_text (pair c) = backslash ∷ c ∷ []
 
 -- the text of a token
 abbrev pub token_text : Token → List ℕ
-token_text (plain c) = c ∷ []
+token_text (one_character c) = c ∷ []
 token_text (backslash_pair c) = backslash ∷ c ∷ []
 token_text (quoted quote inner) = quote ∷ flat_map quoted_text inner ++ quote ∷ []
 token_text (blank_pair b c) = b ∷ c ∷ []
@@ -33,7 +33,7 @@ token_text (blank b) = b ∷ []
 abbrev pub tokens_text : List Token → List ℕ
 tokens_text tokens = flat_map token_text tokens
 
--- this may be between these quotes: a character other than the quote and the backslash, or a backslash and any character
+-- this may be between these quotes: a character other than the quote and a backslash, or a backslash and any character
 abbrev pub is_quoted : ℕ → QuotedCharacter → Bool
 is_quoted quote (one c) = not (c == quote || c == backslash)
 is_quoted quote (pair c) = true
@@ -48,7 +48,7 @@ is_before_break text = begins_passing stands_for_itself text
 
 -- this may be a token before this text; no token has a line feed outside quotes
 abbrev pub IsToken : Token → List ℕ → Type 0
-IsToken (plain c) after = IsTrue (not (is_blank c || stands_for_itself c))
+IsToken (one_character c) after = IsTrue (not (is_blank c || stands_for_itself c))
 IsToken (backslash_pair c) after = IsTrue (not (c == line_feed))
 IsToken (quoted quote inner) after =
     IsTrue (is_quote quote) × IsTrue (list_all (is_quoted quote) inner)

@@ -12,7 +12,8 @@ use Rattle.dotenvy_format.specs.Characters.{begins_passing, line_feed, letter_n,
 use Rattle.dotenvy_format.specs.Characters.{single_quote, double_quote, dollar, backslash}
 use Rattle.dotenvy_format.specs.Characters.{left_brace, right_brace}
 
--- a piece of what a value means: a text; a name, replaced by what it stands for, with the character that ends it, if it has one; or a last backslash, which means nothing
+-- a piece of what a value means: a text; a name, which is replaced by what it stands for, and the character that ends
+-- it, if one does; or a last backslash, which means nothing
 pub data Piece : Type 0 where
   Text : List ℕ → Piece
   Name : List ℕ → List ℕ → Piece
@@ -34,7 +35,7 @@ pub data Segment : Type 0 where
 
 -- the end of a value: nothing; a backslash; `$name`; or a space or tab, more of these, and perhaps a comment
 pub data Close : Type 0 where
-  nothing : Close
+  no_close : Close
   lone_backslash : Close
   bare_name : List ℕ → Close
   tail : ℕ → List ℕ → List ℕ → Close
@@ -63,7 +64,7 @@ segments_text segments = flat_map segment_text segments
 
 -- the text of the end of a value
 abbrev pub close_text : Close → List ℕ
-close_text nothing = []
+close_text no_close = []
 close_text lone_backslash = backslash ∷ []
 close_text (bare_name name) = dollar ∷ name
 close_text (tail blank blanks comment) = blank ∷ (blanks ++ comment)
@@ -88,7 +89,7 @@ segment_pieces (double inner) = flat_map part_pieces inner
 
 -- the pieces that the end of a value means: a last backslash, a name, or nothing
 abbrev pub close_pieces : Close → List Piece
-close_pieces nothing = []
+close_pieces no_close = []
 close_pieces lone_backslash = LastBackslash ∷ []
 close_pieces (bare_name name) = Name name [] ∷ []
 close_pieces (tail blank blanks comment) = []
@@ -168,7 +169,7 @@ AreSegments dialect (s ∷ segments) after =
 
 -- a value may end so
 abbrev pub IsClose : Dialect → Close → Type 0
-IsClose dialect nothing = Unit {0}
+IsClose dialect no_close = Unit {0}
 IsClose dialect lone_backslash = Unit {0}
 IsClose dialect (bare_name name) = IsTrue (list_all (is_name_character dialect) name)
 IsClose dialect (tail blank blanks comment) =

@@ -1,8 +1,7 @@
 //! Classes of characters (docs/GRAMMAR.md, "Characters" and "Keys").
 
 ghost use Rattle.std.specs.Prelude.{◌≡◌};
-ghost use Rattle.unicode.specs.GeneralCategory.{general_category, general_category_number};
-ghost use Rattle.dotenvy_format.specs.Characters.{allows_underscore, begins_key, continues_key, is_blank, is_name_character, is_number_category};
+ghost use Rattle.dotenvy_format.specs.Characters.{allows_underscore, begins_key, continues_key, is_blank, is_name_character};
 
 use crate::dialect::Dialect;
 use unicode::properties::{GeneralCategory, is_alphabetic};
@@ -28,18 +27,6 @@ pub fn is_blank(character: char) -> bool
     character.is_whitespace() && character != '\n' && character != '\r'
 }
 
-// Whether the character is in a general category of numbers.
-fn is_number(character: char) -> bool
-    ensures { result ≡ is_number_category (general_category_number (general_category character)) }
-{
-    matches!(
-        GeneralCategory::for_char(character),
-        GeneralCategory::DecimalNumber
-            | GeneralCategory::LetterNumber
-            | GeneralCategory::OtherNumber
-    )
-}
-
 /// Whether a bare name, which is one after a dollar without braces, may have `_` in this dialect.
 pub fn allows_underscore(dialect: Dialect) -> bool
     ensures { result ≡ allows_underscore dialect }
@@ -56,6 +43,11 @@ pub fn is_name_character(dialect: Dialect, character: char) -> bool
     ensures { result ≡ is_name_character dialect character }
 {
     is_alphabetic(character)
-        || is_number(character)
+        || matches!(
+            GeneralCategory::for_char(character),
+            GeneralCategory::DecimalNumber
+                | GeneralCategory::LetterNumber
+                | GeneralCategory::OtherNumber
+        )
         || (allows_underscore(dialect) && character == '_')
 }

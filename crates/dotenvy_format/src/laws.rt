@@ -7,8 +7,7 @@ ghost use Rattle.dotenvy_format.specs.Laws.{CompletedByText, DecidesFront, HasOn
 ghost use Rattle.dotenvy_format.specs.WorkedFiles.{HaveDecisions, HaveDialects, HaveLines, HaveMarks, HaveOpenQuotes, HaveStatements, HaveValues, HaveWritten};
 ghost use Rattle.dotenvy_format.specs.WorkedLoads.{HaveNuls, HaveRepeats};
 
-/// The physical lines of any bytes are cut after line feeds: each text ends with its line feed, but the last may lack
-/// it.
+/// Each physical line ends with its line feed. Only the last may lack it.
 pub fn lines_are_cut()
     ensures { LinesAreCut }
 {}
@@ -28,12 +27,14 @@ pub fn one_outcome()
     ensures { HasOneOutcome }
 {}
 
-/// The place of a fault is as far as the text can be completed: no longer first part of it begins a statement, or a value.
+/// No longer first part of a text than up to its fault can be completed, to a statement or to a value.
 pub fn places_are_longest()
     ensures { PlacesAreLongest }
 {}
 
-/// The definition of a fault's place asks whether a front can be completed by any list of numbers. Where it can, it can be completed by a text, even one of ASCII characters: so it comes to the same.
+/// What can be completed to a statement or to a value can be completed by ASCII characters.
+///
+/// So it makes no difference that the place of a fault is defined by any lists of numbers.
 pub fn completed_by_text()
     ensures { CompletedByText }
 {}
@@ -58,8 +59,9 @@ pub fn reads_back()
     ensures { ReadsBack }
 {}
 
-/// A load of one entry after another comes to this: `load` sets each absent name to its first value, `load_override` each
-/// name to its last, of the values before the first fault.
+/// `load` sets each absent name to its first value, and `load_override` each name to its last.
+///
+/// Both take one entry after another, up to the first fault.
 pub fn loads_in_turn()
     ensures { LoadsInTurn }
 {}

@@ -4,7 +4,7 @@ ghost use Rattle.std.specs.Prelude.{◌≡◌, ◌==◌, ◌++◌, [], not, leng
 ghost use Rattle.std.specs.Str.{chars, IsUtf8};
 ghost use Rattle.dotenvy_format.specs.Characters.{continues_key, is_space_or_tab, is_empty_or_comment};
 ghost use Rattle.std.specs.List.{prefix_len, position_from};
-ghost use Rattle.dotenvy_format.specs.inside.Slices.{BeginsWith, IsSpan, PassesBytes, PassesTo, has_character, is_name_byte, is_of_kind, is_token_byte, in_run};
+ghost use Rattle.dotenvy_format.specs.inside.Slices.{BeginsWith, IsSpan, has_character, is_of_kind, in_run};
 ghost use Rattle.dotenvy_format.specs.Value.{is_plain_outside};
 
 use crate::classes::{allows_underscore, continues_key, is_blank, is_name_character};
@@ -90,18 +90,11 @@ pub fn is_empty_or_comment(text: &str) -> bool
     }
 }
 
-// Whether the byte is an ASCII character of a bare name.
-fn is_name_byte(dialect: Dialect, byte: u8) -> bool
-    ensures { result ≡ is_name_byte dialect byte }
-{
-    byte.is_ascii_alphanumeric() || (allows_underscore(dialect) && byte == b'_')
-}
-
 // The bit for a byte that is a character, or a part of one, which means itself in a value outside quotes.
 const PLAIN: u8 = 1;
 
-// The bit for a byte that is a character of a token, or a part of one, and with which no blank begins: blanks beyond ASCII
-// begin with 0xC2 and with 0xE1 to 0xE3.
+// The bit for a byte that is a character of a token, or a part of one, and with which no blank begins.
+// Blanks beyond ASCII begin with 0xC2 and with 0xE1 to 0xE3.
 const TOKEN: u8 = 2;
 
 // The bit for a byte that is a character which may follow in a key.
@@ -119,33 +112,14 @@ static KINDS: [u8; 256] = [
     3, 1, 1, 1, 3, 3, 3, 3, 3, 3, 3, 3, 3, 3, 3, 3, 3, 3, 3, 3, 3, 3, 3, 3, 3, 3, 3, 3, 3, 3, 3, 3,
 ];
 
-#[inline(always)]
-fn is_plain_byte(byte: u8) -> bool
-    ensures { result ≡ is_plain_outside byte }
-{
-    KINDS[byte as usize] & PLAIN != 0
-}
-
-#[inline(always)]
-fn is_token_byte(byte: u8) -> bool
-    ensures { result ≡ is_token_byte byte }
-{
-    KINDS[byte as usize] & TOKEN != 0
-}
-
-#[inline(always)]
-fn is_key_byte(byte: u8) -> bool
-    ensures { result ≡ continues_key byte }
-{
-    KINDS[byte as usize] & KEY != 0
-}
-
-// What the table says of a byte: one of its bits.
+// A kind of bytes: one that the table has a bit for, or ASCII characters of a bare name, or a space and a tab.
 #[derive(Clone, Copy)]
 enum ByteKind {
     Plain,
     Token,
     Key,
+    Name(Dialect),
+    SpaceOrTab,
 }
 
 impl ByteKind {
@@ -156,23 +130,15 @@ impl ByteKind {
         ensures { result ≡ is_of_kind self byte }
     {
         match self {
-            ByteKind::Plain => is_plain_byte(byte),
-            ByteKind::Token => is_token_byte(byte),
-            ByteKind::Key => is_key_byte(byte),
+            ByteKind::Plain => KINDS[byte as usize] & PLAIN != 0,
+            ByteKind::Token => KINDS[byte as usize] & TOKEN != 0,
+            ByteKind::Key => KINDS[byte as usize] & KEY != 0,
+            ByteKind::Name(dialect) => {
+                byte.is_ascii_alphanumeric() || (allows_underscore(dialect) && byte == b'_')
+            }
+            ByteKind::SpaceOrTab => matches!(byte, b' ' | b'\t'),
         }
     }
-}
-
-fn name_end(bytes: &[u8], dialect: Dialect) -> Option<usize>
-    ensures { result ≡ position_from (λ b. not (is_name_byte dialect b)) 0 bytes.now }
-{
-    bytes.iter().position(|b| !is_name_byte(dialect, *b))
-}
-
-fn blanks_end(bytes: &[u8]) -> Option<usize>
-    ensures { result ≡ position_from (λ b. not (is_space_or_tab b)) 0 bytes.now }
-{
-    bytes.iter().position(|b| !matches!(*b, b' ' | b'\t'))
 }
 
 // Where a row of one byte ends, or `None` if it goes on to the end.
@@ -200,28 +166,18 @@ fn kind_end(bytes: &[u8], kind: ByteKind) -> Option<usize>
     bytes.iter().position(|b| !kind.contains(*b))
 }
 
-// What is left after the blocks of eight bytes at the start that are all of the kind. A block costs half of what eight
-// bytes cost one by one.
+// How many bytes at the start are of the kind. A block of eight costs half of what eight bytes cost one by one.
 #[inline(always)]
-fn pass_blocks(bytes: &[u8], kind: ByteKind) -> &[u8]
-    ensures { PassesBytes (is_of_kind kind) bytes.now result.now }
+fn kind_run(bytes: &[u8], kind: ByteKind) -> usize
+    ensures { result ≡ prefix_len (is_of_kind kind) bytes.now }
 {
     let mut rest = bytes;
-    'blocks: while let Some((block, after)) = rest.split_first_chunk::<8>() {
+    'search: while let Some((block, after)) = rest.split_first_chunk::<8>() {
         if kind_end(block, kind).is_some() {
             break;
         }
         rest = after;
     }
-    rest
-}
-
-// How many bytes at the start are of the kind.
-#[inline(always)]
-fn kind_run(bytes: &[u8], kind: ByteKind) -> usize
-    ensures { result ≡ prefix_len (is_of_kind kind) bytes.now }
-{
-    let rest = pass_blocks(bytes, kind);
     bytes.len() - rest.len() + kind_end(rest, kind).unwrap_or(rest.len())
 }
 
@@ -233,24 +189,15 @@ fn run_end(bytes: &[u8], class: Class) -> Option<usize>
 {
     match class {
         Class::Key => Some(kind_run(bytes, ByteKind::Key)),
-        Class::Name(dialect) => name_end(bytes, dialect),
+        Class::Name(dialect) => kind_end(bytes, ByteKind::Name(dialect)),
         Class::Plain(Quoting::Unquoted) => Some(kind_run(bytes, ByteKind::Plain)),
         Class::Plain(Quoting::DoubleQuoted) => memchr3(b'\\', b'"', b'$', bytes),
-        Class::SpaceOrTab => blanks_end(bytes),
+        Class::SpaceOrTab => kind_end(bytes, ByteKind::SpaceOrTab),
         Class::DoubleQuote => row_end(bytes, b'"'),
         Class::Token => Some(kind_run(bytes, ByteKind::Token)),
         Class::Quoted(quote) if quote.is_ascii() => memchr2(quote as u8, b'\\', bytes),
         Class::Quoted(_) => Some(0),
     }
-}
-
-// How many bytes at the start may be skipped without decoding their characters, which are all of the class.
-#[inline(always)]
-fn run_len(text: &str, class: Class) -> usize
-    ensures { PassesTo (has_character class) text.now result }
-{
-    let bytes = text.as_bytes();
-    run_end(bytes, class).unwrap_or(bytes.len())
 }
 
 /// Cuts a text after the longest run of characters of the class at its start. Either part may be empty.
@@ -263,7 +210,8 @@ pub fn split_while(text: &str, class: Class) -> (&str, &str)
 {
     let mut rest = text;
     'runs: loop {
-        let (_, after) = rest.split_at(run_len(rest, class));
+        let bytes = rest.as_bytes();
+        let (_, after) = rest.split_at(run_end(bytes, class).unwrap_or(bytes.len()));
         match split_first(after) {
             Some((first, next)) if class.contains(first) => rest = next,
             _ => return text.split_at(text.len() - after.len()),

@@ -104,44 +104,32 @@ fn escaped(c: char) -> Option<&'static str>
     }
 }
 
-// Nothing is left. Outside double quotes this is the end of the value.
+// What follows a backslash. Each two backslashes in a row there mean one, and an odd one is left.
 #[inline(always)]
-fn at_end(text: &str, quoting: Quoting) -> NextPiece<'_>
-    requires { text.now ≡ [] }
-    ensures next { (dialect : _) →
-        NextPieceIs dialect (base quoting) (chars text.now) result }
-    ensures shorter { IsShorter (chars text.now) result }
-{
-    match quoting {
-        Quoting::Unquoted => NextPiece::End,
-        Quoting::DoubleQuoted => NextPiece::Unfinished,
-    }
-}
-
-// Nothing is left after a backslash. Outside double quotes the value may end so.
-fn last_backslash(text: &str, quoting: Quoting) -> NextPiece<'_>
-    requires { text.now ≡ [] }
-    ensures { (dialect : _) →
-        NextPieceIs dialect (escaping quoting) (chars text.now) result }
-{
-    match quoting {
-        Quoting::Unquoted => NextPiece::Piece(Given {
-            piece: Piece::LastBackslash,
-            rest: text,
-            quoting,
-        }),
-        Quoting::DoubleQuoted => NextPiece::Unfinished,
-    }
-}
-
-// What follows a backslash, if that is not another one.
-#[inline(always)]
-fn escape_one(left: &str, quoting: Quoting) -> NextPiece<'_>
+fn escape(left: &str, quoting: Quoting) -> NextPiece<'_>
     ensures { (dialect : _) →
         NextPieceIs dialect (escaping quoting) (chars left.now) result }
 {
+    let more = row_len(left, b'\\');
+    if more > 0 {
+        let pairs = more / 2 + more % 2;
+        let (meant, _) = left.split_at(pairs);
+        let (_, rest) = left.split_at(2 * pairs - 1);
+        return NextPiece::Piece(Given {
+            piece: Piece::Text(meant),
+            rest,
+            quoting,
+        });
+    }
     match split_first(left) {
-        None => last_backslash(left, quoting),
+        None => match quoting {
+            Quoting::Unquoted => NextPiece::Piece(Given {
+                piece: Piece::LastBackslash,
+                rest: left,
+                quoting,
+            }),
+            Quoting::DoubleQuoted => NextPiece::Unfinished,
+        },
         Some((first, rest)) => match escaped(first) {
             Some(meant) => NextPiece::Piece(Given {
                 piece: Piece::Text(meant),
@@ -150,35 +138,6 @@ fn escape_one(left: &str, quoting: Quoting) -> NextPiece<'_>
             }),
             None => NextPiece::Fault(left),
         },
-    }
-}
-
-// What follows a backslash, if that is a row of more of them. Each two backslashes mean one, and an odd one is left.
-fn backslashes(left: &str, more: usize, quoting: Quoting) -> NextPiece<'_>
-    requires some { 0 < more }
-    requires row { more ≡ prefix_len (λ b. b == backslash) left.now }
-    ensures { (dialect : _) →
-        NextPieceIs dialect (escaping quoting) (chars left.now) result }
-{
-    let pairs = more / 2 + more % 2;
-    let (meant, _) = left.split_at(pairs);
-    let (_, rest) = left.split_at(2 * pairs - 1);
-    NextPiece::Piece(Given {
-        piece: Piece::Text(meant),
-        rest,
-        quoting,
-    })
-}
-
-// What follows a backslash.
-#[inline(always)]
-fn escape(left: &str, quoting: Quoting) -> NextPiece<'_>
-    ensures { (dialect : _) →
-        NextPieceIs dialect (escaping quoting) (chars left.now) result }
-{
-    match row_len(left, b'\\') {
-        0 => escape_one(left, quoting),
-        more => backslashes(left, more, quoting),
     }
 }
 
@@ -211,58 +170,36 @@ fn braced(left: &str, quoting: Quoting) -> NextPiece<'_>
     }
 }
 
-// What follows a bare name: the character after it is text, or is left to what follows.
-fn after_name<'a>(name: &'a str, left: &'a str, quoting: Quoting, dialect: Dialect) -> NextPiece<'a>
-    requires ended { IsTrue (not (begins_passing (is_name_character dialect) (chars left.now))) }
-    requires no_brace { IsTrue
-        (not (is_empty (chars name.now) && begins_with left_brace (chars left.now))) }
-    ensures { NextPieceIs dialect (naming quoting (chars name.now)) (chars left.now)
-        result }
+// What follows `$`. The character after a bare name is text, or is left to what follows.
+fn substitution(left: &str, quoting: Quoting, dialect: Dialect) -> NextPiece<'_>
+    ensures { NextPieceIs dialect (naming quoting []) (chars left.now) result }
 {
-    match split_first(left) {
+    if let Some(inner) = left.strip_prefix('{') {
+        return braced(inner, quoting);
+    }
+    let (name, rest) = split_while(left, Class::Name(dialect));
+    match split_first(rest) {
         None => match quoting {
             Quoting::Unquoted => NextPiece::Piece(Given {
                 piece: Piece::Name { name, after: "" },
-                rest: left,
+                rest,
                 quoting,
             }),
             Quoting::DoubleQuoted => NextPiece::Unfinished,
         },
-        Some((first, rest)) => {
-            if is_left_by_name(dialect, quoting, first) {
-                NextPiece::Piece(Given {
-                    piece: Piece::Name { name, after: "" },
-                    rest: left,
-                    quoting,
-                })
-            } else {
-                let (after, _) = left.split_at(first.len_utf8());
-                NextPiece::Piece(Given {
-                    piece: Piece::Name { name, after },
-                    rest,
-                    quoting,
-                })
-            }
+        Some((first, _)) if is_left_by_name(dialect, quoting, first) => NextPiece::Piece(Given {
+            piece: Piece::Name { name, after: "" },
+            rest,
+            quoting,
+        }),
+        Some((first, follows)) => {
+            let (after, _) = rest.split_at(first.len_utf8());
+            NextPiece::Piece(Given {
+                piece: Piece::Name { name, after },
+                rest: follows,
+                quoting,
+            })
         }
-    }
-}
-
-// What follows `$` without a brace.
-fn bare(left: &str, quoting: Quoting, dialect: Dialect) -> NextPiece<'_>
-    requires { IsTrue (not (begins_with left_brace (chars left.now))) }
-    ensures { NextPieceIs dialect (naming quoting []) (chars left.now) result }
-{
-    let (name, rest) = split_while(left, Class::Name(dialect));
-    after_name(name, rest, quoting, dialect)
-}
-
-// What follows `$`.
-fn substitution(left: &str, quoting: Quoting, dialect: Dialect) -> NextPiece<'_>
-    ensures { NextPieceIs dialect (naming quoting []) (chars left.now) result }
-{
-    match left.strip_prefix('{') {
-        Some(name) => braced(name, quoting),
-        None => bare(left, quoting, dialect),
     }
 }
 
@@ -330,7 +267,10 @@ pub fn next_piece(text: &str, quoting: Quoting, dialect: Dialect) -> NextPiece<'
     ensures shorter { IsShorter (chars text.now) result }
 {
     match split_first(text) {
-        None => at_end(text, quoting),
+        None => match quoting {
+            Quoting::Unquoted => NextPiece::End,
+            Quoting::DoubleQuoted => NextPiece::Unfinished,
+        },
         Some((first, left)) => match kind_of(quoting, first) {
             Kind::Backslash => escape(left, quoting),
             Kind::SingleQuote => single_quoted(left),

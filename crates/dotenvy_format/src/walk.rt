@@ -3,7 +3,7 @@
 ghost use Rattle.std.specs.Prelude.{◌≡◌, None};
 ghost use Rattle.dotenvy_format.specs.Tokens.{stands_for_itself};
 ghost use Rattle.dotenvy_format.specs.Characters.{begins_passing};
-ghost use Rattle.dotenvy_format.specs.inside.Walk.{leads_outside, leads, PassesRun, WalksText};
+ghost use Rattle.dotenvy_format.specs.inside.Walk.{leads_outside, leads, WalksTo, WalksText};
 
 use crate::text::{Class, split_first, split_while};
 
@@ -86,39 +86,18 @@ pub enum Walked {
     EndedAt(usize, char),
 }
 
-// What is left of a text after the longest run of characters that leave the mode unchanged.
-fn pass_class(text: &str, mode: LineMode) -> &str
-    ensures { PassesRun mode text.now result.now }
-{
-    match mode {
-        LineMode::Outside => split_while(text, Class::Token).1,
-        LineMode::Inside(quote) => split_while(text, Class::Quoted(quote)).1,
-        _ => text,
-    }
-}
-
-// Whether the text begins with a quote, a backslash or a line feed.
-#[inline(always)]
-fn next_stands_for_itself(text: &str) -> bool
-    ensures { result ≡ begins_passing stands_for_itself text.now }
-{
-    match text.as_bytes().first() {
-        Some(byte) => stands_for_itself(char::from(*byte)),
-        None => false,
-    }
-}
-
-// What is left of a text after characters at its start that leave the mode unchanged. Before a quote or a backslash, which
-// often comes right after another one, no run is searched for.
-#[tactic(auto, using(crate::proofs::lines::LineTexts::run_none))]
+// What is left of a text after characters at its start that leave the mode unchanged.
+#[tactic(auto, using(crate::proofs::lines::LineTexts::walking_start))]
 #[inline(always)]
 fn pass_run(text: &str, mode: LineMode) -> &str
-    ensures { PassesRun mode text.now result.now }
+    ensures { WalksTo mode text.now mode result.now }
 {
-    if next_stands_for_itself(text) {
-        text
-    } else {
-        pass_class(text, mode)
+    match (text.as_bytes().first(), mode) {
+        // no run is searched for before a quote or a backslash, which often comes right after another one
+        (Some(b'\\' | b'\'' | b'"' | b'\n'), _) => text,
+        (_, LineMode::Outside) => split_while(text, Class::Token).1,
+        (_, LineMode::Inside(quote)) => split_while(text, Class::Quoted(quote)).1,
+        _ => text,
     }
 }
 

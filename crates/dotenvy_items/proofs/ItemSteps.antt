@@ -1,15 +1,14 @@
 -- What a logical line says, as the item that it adds.
-use Rattle.std.proofs.Common.{◌≡◌, ℕ, Bool, true, false, List, [], Option, Some, None, Result}
+use Rattle.std.proofs.Common.{◌≡◌, ℕ, List, [], Option, Some, None, Result}
 use Rattle.std.proofs.Common.{Ok, Err, inl, inr, refl, ap, unwrap_or}
 use Rattle.std.proofs.Common.{string_bytes, arith}
-use Rattle.std.specs.Prelude.{OnOk, IfErr, IsTrue, ◌↔◌, option_map, if◌then◌else◌}
+use Rattle.std.specs.Prelude.{OnOk, IfErr, option_map, if◌then◌else◌}
 use Rattle.std.specs.Str.{chars}
 use Rattle.std.specs.Result.{result_transpose}
 use Rattle.std.specs.declared.string.String.{String}
 use Rattle.std.proofs.lemmas.Str.{IsUtf8-string_bytes}
 use Rattle.dotenvy_base.specs.declared.errors.Error.{Error}
 use Rattle.dotenvy_base.specs.declared.errors.Error.TheVariants.{LineParse, Memory}
-use Rattle.dotenvy_lines.specs.declared.lines.Stage.TheVariants.{Failed}
 use Rattle.dotenvy_base.specs.Errors.{IsMemoryErr}
 use Rattle.dotenvy_format.specs.Characters.{is_empty_or_comment}
 use Rattle.dotenvy_format.specs.Outcome.{Outcome, Nothing, Pair, Fault, Says, Assigns, trimmed}
@@ -68,14 +67,6 @@ answer_added names s t line (Fault text index) (Err (LineParse found place)) say
     ((refl, is.0, λ name. rw remembers refl), lines)
 answer_added names s t line (Fault text index) (Ok (Some pair)) says is remembers lines = absurd is.0
 answer_added names s t line _ _ says is remembers lines = search
-
--- an answer leaves logical lines that have failed where it is refused memory, and else leaves them as they were
-pub lines_if : {T A : Type 0} (said : Result T (Error A)) (refused : Bool) (s : LinesState) →
-    (IsTrue refused ↔ IsMemoryErr said) → lines_said said s ≡ (if refused then record s { stage = Failed } else s)
-lines_if (Err (Memory e)) true s test = refl
-lines_if (Err (Memory e)) false s test = let e = test.1 tt in cc
-lines_if _ true s test = absurd (test.0 refl)
-lines_if _ false s test = refl
 
 -- refused memory fails the logical lines
 refused_added : {A : Type 0} (said : Result (Option (String A × String A)) (Error A)) (s t : LinesState) →

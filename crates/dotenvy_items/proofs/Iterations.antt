@@ -81,31 +81,31 @@ shut_gives names s (item ∷ given) shut (t, next, later) = absurd (none-some it
 -- where an entry was taken and these are read after it, it and these are read
 reads_more : {names : Texts} {a : Ahead} {s t : IterState} {entries read : List Entry} {entry : Entry}
     (k : TakesEntry names a s entries entry t) →
-    AreRead t (record { bytes = k.uses.left; fault = a.fault }) k.is_first.later read →
+    AreRead t (record { bytes = k.left; fault = a.fault }) k.later read →
     AreRead s a entries (entry ∷ read)
-reads_more k (inl all) = inl (rw (all, k.is_first.first))
+reads_more k (inl all) = inl (rw (all, k.first))
 reads_more {entry = entry} k (inr (inl stops)) = inr (inl (record {
   front = entry ∷ stops.front;
   back = stops.back;
-  cut = rw (k.is_first.first, stops.cut);
+  cut = rw (k.first, stops.cut);
   ends = rw stops.ends;
 }))
 reads_more {entry = entry} k (inr (inr ends)) =
     let each = ends.each_gave in
-    let reads = k.uses.moves.reads in
-    let all = simp length-append at (ap length k.uses.moves.joins) in
+    let reads = k.moves.reads in
+    let all = simp length-append at (ap length k.moves.joins) in
     let left = simp length-append at (ap length ends.cut) in inr (inr (record {
-      bytes = k.uses.used ++ ends.bytes;
+      bytes = k.used ++ ends.bytes;
       later = ends.later;
-      cut = rw (k.uses.moves.joins, ends.cut, append_assoc);
-      each_gave = omega (arith, each, reads, all, length-append k.uses.used ends.bytes);
+      cut = rw (k.moves.joins, ends.cut, append_assoc);
+      each_gave = omega (arith, each, reads, all, length-append k.used ends.bytes);
       decided = entry ∷ ends.decided;
-      has_decided = elim k.uses.stays [
+      has_decided = elim k.stays [
         | inl ended ↦
             let read = ap end_reads ended.2 in
             let empty = ap length ended.1 in
             absurd (omega (arith, each, read, empty, left))
-        | inr first ↦ first ends.bytes ends.decided (rw k.after.dialect at ends.has_decided)
+        | inr first ↦ first ends.bytes ends.decided (rw k.dialect at ends.has_decided)
       ];
       ends = rw ends.ends;
     }))
@@ -119,22 +119,22 @@ items_as_read s a names entries [] is_open told has gives =
 items_as_read {A = A} s a names entries (item ∷ given) is_open told has (t, next, gives) =
     elim (next.0 is_open a told entries has) [
       | inl (entry, is, k) ↦
-          let b : Ahead = ahead_of k.uses.left a.fault in
-          let later : GivesRead names t b k.is_first.later given = elim k.after.goes_on [
+          let b : Ahead = ahead_of k.left a.fault in
+          let later : GivesRead names t b k.later given = elim k.goes_on [
             | inl still ↦
-                items_as_read t b names k.is_first.later given still (k.uses.moves.is_left, told.1)
-                (rw k.after.dialect k.is_first.has_left) gives
+                items_as_read t b names k.later given still (k.moves.is_left, told.1)
+                (rw k.dialect k.has_left) gives
             | inr (ended, nothing) ↦
-                let same : Some b ≡ Some (ahead_of [] None) = sym k.uses.moves.is_left ∙ nothing in
+                let same : Some b ≡ Some (ahead_of [] None) = sym k.moves.is_left ∙ nothing in
                 let none = the_fault _ _ same in
-                let all = left_once s.dialect a.fault k.uses.left k.is_first.later [] k.is_first.has_left
-                (left-none s.dialect a.fault k.uses.left (the_bytes _ _ same) none) in
+                let all = left_once s.dialect a.fault k.left k.later [] k.has_left
+                (left-none s.dialect a.fault k.left (the_bytes _ _ same) none) in
                 ([], inl (rw (all, none)), rw (shut_gives names t given (λ opened. cc) gives) tt)
           ] in (
             entry ∷ later.0,
             reads_more k later.1,
             says_first (values_of names) (recalled_of s.remembered) (recalled_of t.remembered) entry item given later.0
-                is k.after.remembers later.2,
+                is k.remembers later.2,
           )
       | inr (fails, on_none) ↦ at item fails
     ]

@@ -10,7 +10,6 @@ pub mod ItemSteps
 pub mod NextItems
 pub mod KeyLookUps
 pub mod LineLoads
-pub mod UsedLines
 pub mod LoadSteps
 pub mod StoppedLoads
 pub mod Nuls

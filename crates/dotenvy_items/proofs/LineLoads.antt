@@ -1,6 +1,6 @@
 -- What a load leaves of one line, at each way out.
 use Rattle.std.proofs.Common.{rules, ◌&&◌, ◌≡◌, ◌∙◌, ℕ, Bool, true, false, List, []}
-use Rattle.std.proofs.Common.{Result, Ok, Err, ◌⊎◌, inl, inr, refl}
+use Rattle.std.proofs.Common.{Result, Ok, Err, inl, inr, refl}
 use Rattle.std.proofs.Common.{string_bytes, sym}
 use Rattle.std.specs.Prelude.{not, if◌then◌else◌, IsTrue, IfErr, MatchResult, OnOk, OnErr}
 use Rattle.std.specs.Str.{chars}
@@ -11,9 +11,9 @@ use Rattle.std.proofs.lemmas.Str.{IsUtf8-string_bytes, chars-nil}
 use Rattle.dotenvy_format.specs.declared.dialect.Dialect.{Dialect}
 use Rattle.dotenvy_base.specs.declared.errors.Error.{Error}
 use Rattle.dotenvy_items.specs.declared.parse.Declaration.{Declaration}
-use Rattle.dotenvy_base.specs.Errors.{IsMemory, IsNulOf, IsLineParseOf}
+use Rattle.dotenvy_base.specs.Errors.{IsMemory, IsNulOf}
 use Rattle.dotenvy_format.specs.Keys.{is_key}
-use Rattle.dotenvy_format.specs.Outcome.{Nothing, Pair, Fault as SaysFault, Says}
+use Rattle.dotenvy_format.specs.Outcome.{Nothing, Pair, Fault as SaysFault}
 use Rattle.dotenvy_format.specs.Entries.{Nul}
 use Rattle.dotenvy_format.specs.Items.{LookUp, meaning, with_value}
 use Rattle.dotenvy_format.specs.Run.{Mode, Keep, Loaded, sets, has_nul}
@@ -22,7 +22,7 @@ use Rattle.dotenvy_items.specs.Remembered.{Remembered}
 use Rattle.dotenvy_items.specs.Meaning.{values_of, recalled_of, names_of}
 use Rattle.dotenvy_items.specs.LoadsRest.{Leaves, ChangesOnlyKeys}
 use Rattle.dotenvy_items.specs.inside.LoadStep.{LoadsLine, SetsIn}
-use Rattle.dotenvy_items.specs.inside.FirstPass.{IsDeclared, IsPairOf}
+use Rattle.dotenvy_items.specs.inside.FirstPass.{IsDeclared, IsPairOf, IsFaultOf}
 use Rattle.dotenvy_items.proofs.Nuls.{value_ok-chars}
 use Rattle.dotenvy_items.proofs.KeyBytes.{chars-key}
 use Rattle.dotenvy_items.proofs.KeyLookUps.{values_of-insert, is_none-contains, changes_keys-insert}
@@ -37,11 +37,11 @@ nothing_loaded mode remembered line none =
     rw (none, chars-nil) (inr (Nothing, refl, record { values = λ n. refl; is_answer = tt }))
 
 -- a line's fault is the answer
-pub fault_loaded : {A : Type 0} (mode : Mode) (remembered : Remembered) {dialect : Dialect} {line text : List ℕ}
-    {index : ℕ} {names : Texts} {e : Error A} → Says dialect line (SaysFault text index) →
-    IsMemory e ⊎ IsLineParseOf text index e → LoadsLine mode dialect remembered line names (Err e) names
-fault_loaded mode remembered says (inl refused) = inl (refused, refl)
-fault_loaded mode remembered {text = text} {index} says (inr is) =
+pub fault_loaded : {A : Type 0} (mode : Mode) (remembered : Remembered) {dialect : Dialect} {line : List ℕ}
+    {names : Texts} {e : Error A} → IsFaultOf dialect line e →
+    LoadsLine mode dialect remembered line names (Err e) names
+fault_loaded mode remembered (inl refused) = inl (refused, refl)
+fault_loaded mode remembered (inr (text, index, says, is)) =
     inr (SaysFault text index, says, record { values = λ n. refl; is_answer = is })
 
 -- what a load of a declaration leaves, by whether its name is set and whether its value has a NUL

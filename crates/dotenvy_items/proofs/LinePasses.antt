@@ -2,7 +2,7 @@
 use Rattle.std.proofs.Common.{◌≡◌, ◌≢◌, ℕ, ◌+◌, ◌<◌, false, not, List, [], ◌∷◌, ◌++◌, Option}
 use Rattle.std.proofs.Common.{Some, None, Ok, Err, refl, sym, ◌∙◌, ap, subst, arith, length, take}
 use Rattle.std.proofs.Common.{length-append, inl, inr}
-use Rattle.std.specs.Prelude.{◌-◌, MatchOption, is_some, if◌then◌else◌, string_bytes, option_map}
+use Rattle.std.specs.Prelude.{◌-◌, MatchOption, is_some, if◌then◌else◌, string_bytes}
 use Rattle.std.specs.Str.{chars, encode_utf8_all, IsUtf8, drop_trailing_whitespace}
 use Rattle.std.proofs.lemmas.Bool.Decides.{nat_tests}
 use Rattle.std.proofs.lemmas.List.{append-nil}
@@ -12,7 +12,7 @@ use Rattle.dotenvy_format.specs.declared.dialect.Dialect.{Dialect}
 use Rattle.dotenvy_items.specs.declared.parse.Declaration.{Declaration}
 use Rattle.dotenvy_items.specs.declared.parse.Value.{Value}
 use Rattle.dotenvy_items.specs.declared.parse.Fault.{Fault}
-use Rattle.dotenvy_items.specs.declared.parse.Copies.{Copies}
+use Rattle.std.specs.declared.string.String.{String}
 use Rattle.std.specs.FinMap as fin
 use Rattle.dotenvy_items.specs.Remembered.{Remembered}
 use Rattle.dotenvy_items.specs.inside.ParsedLine.{IsLineAnswer, Remembers}
@@ -25,7 +25,7 @@ use Rattle.dotenvy_items.specs.inside.ValuePasses.{IsMeasured, KnowsMeaning}
 use Rattle.dotenvy_base.proofs.Basics.{nil_of}
 use Rattle.dotenvy_format.proofs.Basics.{not_is}
 use Rattle.dotenvy_format.specs.inside.ParseStatement.{parse}
-use Rattle.dotenvy_items.specs.inside.FirstPass.{IsAssigned, ScansAssigned, IsDeclared, Scans, AreCopiesOf}
+use Rattle.dotenvy_items.specs.inside.FirstPass.{IsAssigned, ScansAssigned, IsDeclared, Scans, IsPairOf}
 use Rattle.dotenvy_format.proofs.values.Values.{value-read}
 use Rattle.dotenvy_format.proofs.statements.StatementPlaces.{parse-statement, parse-fault, front_bytes}
 
@@ -161,22 +161,26 @@ remembered_as dialect look_up rest pieces None text is = rw is.0 refl
 remembered_as dialect look_up rest pieces (Some written) text is = rw (not_is (is_empty_or_comment rest) is.0) refl
 
 module _ {A : Type 0} {dialect : Dialect} {look_up : LookUp} {line : List ℕ} {declaration : Declaration}
-    {copies : Copies A} (is : IsDeclared dialect look_up line declaration)
-    (are : AreCopiesOf look_up declaration is.pieces copies) where
-  -- the copies of a declaration are the answer to what its line says
+    {pair : String A × String A} (is : IsDeclared dialect look_up line declaration)
+    (says : IsPairOf look_up declaration is.pieces pair) where
+  -- the pair of a declaration is the answer to what its line says
   pub pair_answer : (outcome : Outcome) × Says dialect line outcome
-      × IsLineAnswer {A = A} look_up outcome (Ok (Some (copies.key, copies.value)))
+      × IsLineAnswer {A = A} look_up outcome (Ok (Some pair))
   pair_answer =
-      let value = chars-spelled (string_bytes copies.value) (meaning look_up is.pieces)
-      (IsUtf8-string_bytes copies.value) are.value in
-      let key = chars (string_bytes copies.key) in
-      (Pair key is.pieces, says_declared dialect look_up line key declaration is (rw are.key refl), ((refl, value), tt))
+      let value = chars-spelled (string_bytes pair.1) (meaning look_up is.pieces) (IsUtf8-string_bytes pair.1)
+      says.value in
+      let key = chars (string_bytes pair.0) in (
+        Pair key is.pieces,
+        says_declared dialect look_up line key declaration is (rw says.key refl),
+        ((refl, value), tt),
+      )
 
   -- of a pair its value is remembered under its key, or no value where nothing is assigned
-  pub pair_remembered : (old new : Remembered) →
-      new ≡ fin.insert old (string_bytes copies.remembered_key) (option_map string_bytes copies.remembered_value) →
-      Remembers {A = A} line old new (Ok (Some (copies.key, copies.value)))
-  pair_remembered old new h =
-      let value = remembered_as dialect look_up is.rest is.pieces declaration.value (string_bytes copies.value)
+  pub pair_remembered : (old new : Remembered) {value : Option (List ℕ)} →
+      new ≡ fin.insert old declaration.key.now value →
+      value ≡ (if is_some declaration.value then Some (string_bytes pair.1) else None) →
+      Remembers {A = A} line old new (Ok (Some pair))
+  pair_remembered old new inserted same =
+      let value = remembered_as dialect look_up is.rest is.pieces declaration.value (string_bytes pair.1)
       is.is_assigned in
-      (is.rest, rw are.key is.statement, rw (h, are.remembered_key, are.key, are.remembered_value, value))
+      (is.rest, rw says.key is.statement, rw (inserted, same, says.key, value))

@@ -6,6 +6,7 @@ use Rattle.std.specs.Str.{chars, encode_utf8_all, IsUtf8}
 use Rattle.std.specs.FinMap as fin
 use Rattle.std.specs.Ordering.{nat_cmp}
 use Rattle.std.specs.Cmp.Lexicographic.{slice_cmp}
+use Rattle.std.proofs.lemmas.Result.{err_from_is_err_and}
 use Rattle.std.proofs.lemmas.Str.{encodes-chars, encodes_same}
 use Rattle.dotenvy_base.specs.declared.errors.Error.{Error}
 use Rattle.dotenvy_base.specs.Environment.{AreTexts, Texts}
@@ -35,6 +36,15 @@ pub refused_lists : {A W : Type 0} (s : IterState) (sink : W → SinkTold) (old 
 refused_lists s sink old (Ok done) is = absurd is
 refused_lists s sink old (Err e) is =
     (fin.empty, Err e, loads_by s fin.empty (same_rule run-keep) (loads_refused Keep s is), (refl, refl))
+
+-- where a load into an empty environment failed, a listing answers its error, and the sink is as it was
+pub lists_failed : {A W : Type 0} (s : IterState) (sink : W → SinkTold) (old : W) {env : Texts} (names : Texts)
+    {e : Error A} {loaded : Result (Unit {0}) (Error A)} (answer : Result (Unit {0}) (Error A)) → env ≡ fin.empty →
+    LoadsRest load_result s env loaded names → loaded ≡ Err e → IsErrAnd answer (λ said. said ≡ e) →
+    Lists s sink old old answer
+lists_failed s sink old names {e} answer empty loads is same =
+    let p = err_from_is_err_and answer same in
+    rw (p.1, p.2) (names, Err e, rw (empty, is) at loads, (refl, refl))
 
 -- where a load into an empty environment went well, a listing writes what it left
 pub lists_written : {A W : Type 0} (s : IterState) (sink : W → SinkTold) {old new : W} {env names : Texts}

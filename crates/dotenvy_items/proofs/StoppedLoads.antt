@@ -1,20 +1,16 @@
 -- How a load ends: at the end, in a line, or at a final fault. And loads by rules that say the same.
-use Rattle.std.proofs.Common.{◌≡◌, ◌∙◌, ◌+◌, ◌≤◌, ℕ, List, [], ◌∷◌, ◌++◌, length, length-append}
-use Rattle.std.proofs.Common.{append-nil, append_assoc, Some, None, Result, Ok, Err, ◌⊎◌, inl, inr, refl, sym, ap}
-use Rattle.std.proofs.Common.{arith, string_bytes}
+use Rattle.std.proofs.Common.{◌≡◌, ◌∙◌, ℕ, List, [], ◌∷◌, ◌++◌}
+use Rattle.std.proofs.Common.{append-nil, append_assoc, true, Some, None, Result, Ok, Err, ◌⊎◌, inl, inr, refl}
+use Rattle.std.proofs.Common.{string_bytes}
 use Rattle.std.specs.Prelude.{IsErrAnd}
 use Rattle.std.specs.Str.{chars}
 use Rattle.std.specs.IoError.{error_kind}
-use Rattle.std.specs.declared.io.ErrorKind.{ErrorKind}
 use Rattle.std.specs.declared.io.ErrorKind.TheVariants.{InvalidData, Other}
-use Rattle.std.proofs.lemmas.Option.{none-some}
 use Rattle.std.proofs.lemmas.Result.{err_from_is_err_and}
 use Rattle.dotenvy_base.specs.declared.errors.Error.{Error}
 use Rattle.dotenvy_base.specs.declared.errors.Error.TheVariants as error
 use Rattle.dotenvy_base.specs.Errors.{IsMemory}
 use Rattle.dotenvy_base.specs.Environment.{Texts}
-use Rattle.dotenvy_base.specs.Source.{Ahead}
-use Rattle.dotenvy_format.specs.LogicalLine.{Open as OpenEnd, Broken}
 use Rattle.dotenvy_format.specs.Outcome.{Nothing, Pair, Fault}
 use Rattle.dotenvy_format.specs.Entries.{Failure, LineParse, Io, Memory, Entry, Fails}
 use Rattle.dotenvy_format.specs.Decided.{HasDecided}
@@ -23,15 +19,15 @@ use Rattle.dotenvy_format.specs.Items.{LookUp}
 use Rattle.dotenvy_format.specs.Run.{Mode, run}
 use Rattle.dotenvy_format.specs.Loads.{SameLoad}
 use Rattle.dotenvy_format.proofs.loads.LoadRuns.{run-stops}
-use Rattle.dotenvy_lines.specs.declared.lines.Stage.TheVariants.{Ended, Failed}
-use Rattle.dotenvy_lines.specs.Input.{InputState, IsFinal, DropsMark, end_reads}
+use Rattle.dotenvy_lines.specs.declared.lines.Stage.TheVariants.{Failed}
+use Rattle.dotenvy_lines.specs.Input.{IsFinal, DropsMark, begins_mark}
 use Rattle.dotenvy_lines.specs.Lines.{LinesState, WhereOpen}
 use Rattle.dotenvy_lines.specs.Reading.{IsReading, told_fault}
-use Rattle.dotenvy_lines.specs.inside.NextLine.{IsUndecided, AdvanceIs}
+use Rattle.dotenvy_lines.specs.inside.NextLine.{AdvanceIs}
 use Rattle.dotenvy_lines.specs.inside.Splitter.{SplitterState}
-use Rattle.dotenvy_lines.proofs.Inputs.{ahead_of, the_bytes, the_fault, final_before}
-use Rattle.dotenvy_lines.proofs.LineEntries.{left_exists, left_once, left-none, took, decided-none}
-use Rattle.dotenvy_lines.proofs.DroppedMarks.{mark_decides}
+use Rattle.dotenvy_lines.proofs.Inputs.{final_weaker}
+use Rattle.dotenvy_lines.proofs.LineEntries.{left_exists, left_once, left-none}
+use Rattle.dotenvy_lines.proofs.DroppedMarks.{mark_decides, final_marked}
 use Rattle.dotenvy_lines.proofs.NumberedLines.{counts_more}
 use Rattle.dotenvy_items.specs.Meaning.{values_of, recalled_of}
 use Rattle.dotenvy_items.specs.Iter.{IterState}
@@ -39,9 +35,12 @@ use Rattle.dotenvy_items.specs.LoadsRest.{IsAnswer, Leaves, Rule, LoadsRest}
 use Rattle.dotenvy_items.specs.LoadStops.{DecideLoaded, StopsIn, StopsInLine, Stops, unmarked}
 use Rattle.dotenvy_items.specs.inside.ItemStep.{lines_after}
 use Rattle.dotenvy_items.specs.inside.LoadStep.{LoadIs, LoadsLine, stopped, stopped_if}
-use Rattle.dotenvy_items.proofs.UsedLines.{uses_more}
-use Rattle.dotenvy_items.proofs.LoadSteps.{Load, runs, same_load, Done, Came, CameTo, left_of, TakesLine, none_done}
-use Rattle.dotenvy_items.proofs.LoadSteps.{GivesNoneShut, GivesLine, line_taken, takes_line, given}
+use Rattle.dotenvy_lines.proofs.LinesRead.{TakesLine, Answers, line_taken, read_more, lines_read, entries_left}
+use Rattle.dotenvy_lines.proofs.LinesRead.{read_decided, next_outcome, read_end}
+use Rattle.dotenvy_lines.specs.Numbered.{without_numbers}
+use Rattle.std.proofs.lemmas.List.{map-append}
+use Rattle.dotenvy_items.proofs.LoadSteps.{Load, runs, same_load, Done, Came, CameTo, left_of, none_done}
+use Rattle.dotenvy_items.proofs.LoadSteps.{told_unmarked, takes_line}
 use Rattle.dotenvy_items.proofs.NextItems.{goes_on_lines, failed_lines, after_failed, after_input}
 
 -- the bytes, without a byte order mark, decide these entries
@@ -56,12 +55,6 @@ pub record Ends {A : Type 0} {mode : Mode} {s : IterState} {old : Texts} (l : Lo
   pub leaves : Leaves (runs mode s old read) new answer
   pub stops : StopsIn (run mode) l.ahead s old answer t
 
--- a final fault before which one thing holds is one before which all holds that it says
-final_weaker : {A : Type 0} (a : Ahead) (s v : InputState) {P Q : List ℕ → Type 0} (e : Error A) →
-    ((bytes : List ℕ) → P bytes → Q bytes) → IsFinal a s P e v → IsFinal a s Q e v
-final_weaker a s v {P} {Q} e weaker final =
-    final_before a s s v P Q [] a.bytes e refl (omega arith) (λ kind front later cut why. weaker front) final
-
 -- an error is refused memory, or leaves the lines as they are
 refused_or_same : {A : Type 0} (e : Error A) (m : LinesState) → IsMemory e ⊎ (lines_after e m ≡ m)
 refused_or_same (error.Memory x) m = inl tt
@@ -73,26 +66,17 @@ is_failure : {A : Type 0} (e : Error A) (said : Result (Unit {0}) Failure) → I
 is_failure e (Ok done) is = absurd is
 is_failure e (Err failure) is = (failure, refl)
 
+-- the entries that are done where a load came
+abbrev loaded : {mode : Mode} {s : IterState} {old names : Texts} {l : Load mode s old} {t : LinesState} →
+    Came l names t → Done l names
+loaded {l = l} k =
+    let after = entries_left k.read l.entries l.has in
+    record { done = without_numbers k.numbered; later = after.0; split = after.2; same = k.same }
+
 module _ {mode : Mode} {s : IterState} {old names : Texts} {l : Load mode s old} where
   -- a load meets no error in the entries that are done
   loads_done : (k : Done l names) → (runs mode s old k.done).answer ≡ Ok tt
   loads_done k = rw (← append-nil k.done, k.same [])
-
-  -- the bytes before a final fault decide the entries that are done
-  decides_done : {t : LinesState} (k : Came l names t) (kind : ErrorKind) (front later : List ℕ) →
-      k.left ≡ front ++ later →
-      (l.ahead.fault ≡ Some kind) ⊎ (t.input.reads + t.input.unread + end_reads t.input.at_end ≤ length front) →
-      IsUndecided front → Decide s k.loaded.done (k.used ++ front)
-  decides_done k kind front later cut why undecided = elim k.stays [
-    | inl ended ↦ elim why [
-      | inl told ↦ absurd (none-some kind (sym ended.0 ∙ told))
-      | inr each ↦
-          let read = ap end_reads ended.2 in
-          let empty = ap length (sym cut ∙ ended.1) in
-          absurd (omega (arith, each, read, empty, length-append front later))
-    ]
-    | inr decide ↦ rw append-nil at (decide front later [] cut (decided-none s.dialect front undecided))
-  ]
 
 module _ {A : Type 0} {mode : Mode} {s : IterState} {old names : Texts} {l : Load mode s old} where
   -- a load ends with what is read where it came to
@@ -122,7 +106,7 @@ module _ {A : Type 0} {mode : Mode} {s : IterState} {old names : Texts} {l : Loa
   stops_final m e k failed final =
       let stage = after_failed e m failed in
       let before =
-      final_weaker l.ahead s.lines.input m.input {P = Decide s k.done} {Q = DecideLoaded (run mode) s old} e
+      final_weaker l.ahead s.lines.input m.input (Decide s k.done) (DecideLoaded (run mode) s old) e
       (λ bytes has. (k.done, has, loads_done k)) final in
       inr ((stage, rw (after_input e m) before), failed_lines (lines_after e m) stage)
 
@@ -151,99 +135,90 @@ module _ {A : Type 0} {mode : Mode} {s : IterState} {old names : Texts} {l : Loa
   ends_final m e k failed (inr io) = absurd io
 
   -- where no line is left, a load ends after the last entry
-  ends_none : {p m : SplitterState} (k : Came l names p.lines) → GivesNoneShut {A = A} p None m →
-      GivesLine {A = A} p None m → Ends {A = A} l names (Ok tt) (record s { lines = m.lines })
-  ends_none {m = m} k shut next =
-      let none =
-      left_once s.dialect l.ahead.fault k.left k.loaded.later [] k.has_left
-      (left-none s.dialect l.ahead.fault k.left rest.0 rest.1) in
-      ends_read k.loaded (rw (none, rest.1) (record { values = λ n. refl; is_answer = tt })) (rest.2, refl)
-    where
-      rest : (k.left ≡ []) × (l.ahead.fault ≡ None) × (m.lines.stage ≡ Ended)
-      rest = elim k.goes_on [
-        | inl opened ↦ next (left_of k) opened (k.moves.is_left, l.is_told.1)
-        | inr (ended, nothing) ↦
-            let told : Some (left_of k) ≡ Some (ahead_of [] None) = sym k.moves.is_left ∙ nothing in (
-              the_bytes (left_of k) (ahead_of [] None) told,
-              the_fault (left_of k) (ahead_of [] None) told,
-              rw (shut (λ opened. absurd (cc))).1 ended,
-            )
-      ]
+  ends_none : {p m : SplitterState} (k : Came l names p.lines) → Answers {A = A} p None m →
+      Ends {A = A} l names (Ok tt) (record s { lines = m.lines })
+  ends_none k answers =
+      let e = read_end (told_unmarked k) k.read answers in
+      let after = entries_left k.read l.entries l.has in
+      let none = left_once s.dialect l.ahead.fault k.read.left after.0 [] after.1
+      (left-none s.dialect l.ahead.fault k.read.left e.0 e.1) in
+      ends_read (loaded k) (rw (none, e.1) (record { values = λ n. refl; is_answer = tt })) (e.2, refl)
 
   -- where the line that was taken gives an entry with an error, a load ends with it, and stops in that line
   ends_line : {new : Texts} {t m : LinesState} {entry : Entry} {e : Error A} (k : Came l names t) →
       TakesLine s.dialect (left_of k) t (entry ∷ []) m → Leaves (runs mode s names (entry ∷ [])) new (Err e) →
       Ends l new (Err e) (stopped e (record s { lines = m }))
   ends_line {t = t} {m} {entry} {e} k line leaves =
-      let own =
-      took s.dialect l.ahead.fault k.left k.loaded.later t.input m.input line.next (entry ∷ []) line.takes line.gives
-      k.has_left in
+      let after = entries_left (read_more k.read line) l.entries l.has in
+      let fault = told_fault l.ahead.fault in
       let failed = is_failure e _ leaves.is_answer in
-      ends_read k.loaded
-      (rw (
-        own.2,
-        run-stops mode (values_of names) (recalled_of s.remembered) (entry ∷ [])
-            (own.0 ++ told_fault l.ahead.fault) failed.0 failed.1,
-      ) leaves)
-      (elim (refused_or_same e m) [
-        | inl refused ↦ (ends_memory e (record s { lines = m }) k.loaded refused).stops
-        | inr same ↦ inl (in_line same)
-      ])
+      let all : runs mode s old (l.entries ++ fault) ≡ runs mode s names (entry ∷ []) =
+      simp (after.2, map-append, append_assoc) (k.same (entry ∷ (after.0 ++ fault)) ∙ run-stops mode (values_of names)
+      (recalled_of s.remembered) (entry ∷ []) (after.0 ++ fault) failed.0 failed.1) in
+      record {
+        read = l.entries ++ fault;
+        reading = inl refl;
+        leaves = rw all leaves;
+        stops = elim (refused_or_same e m) [
+          | inl refused ↦ (ends_memory e (record s { lines = m }) (loaded k) refused).stops
+          | inr same ↦ inl (in_line same)
+        ];
+      }
     where
       in_line : lines_after e m ≡ m →
           StopsInLine (run mode) (unmarked l.ahead) s old (Err e) (stopped e (record s { lines = m }))
       in_line same =
-          let taken =
-          counts_more s.lines.lines_taken k.uses.count t.lines_taken line.count m.lines_taken k.counts line.counts.1 in
+          let own = read_more k.read line in
           let first =
-          counts_more s.lines.lines_taken k.uses.count t.lines_taken 1 m.first_line k.counts line.counts.0 in
+          counts_more k.start.lines_taken k.read.count t.lines_taken 1 m.first_line k.read.counts line.counts.0 in
           rw (same, goes_on_lines m line.goes_on) (record {
-            done = k.loaded.done;
+            done = without_numbers k.numbered;
             entry = entry;
-            stops = (loads_done k.loaded, rw (k.loaded.same (entry ∷ [])) leaves.is_answer);
-            left = line.takes.left;
+            stops = (loads_done (loaded k), rw (k.same (entry ∷ [])) leaves.is_answer);
+            left = own.left;
             uses = record {
-              lines = k.lines;
-              before = k.uses.count;
-              are_before = k.uses.are_first;
-              give = k.give;
+              lines = k.read.lines;
+              before = k.read.count;
+              are_before = (lines_read k.read).0;
+              give = (lines_read k.read).1;
               last = line.next;
               gives = line.gives;
-              uses = uses_more k.uses k.later line.takes;
+              uses = record { count = own.count; are_first = (lines_read own).0; rest = own.rest };
             };
-            is_left = line.takes.moves.is_left;
-            stands = (first, taken, taken);
+            is_left = own.moves.is_left;
+            stands = (rw k.unmarks.taken at first, rw k.unmarks.taken at own.counts, rw k.unmarks.taken at own.counts);
             goes_on = line.goes_on;
           })
 
   -- where loading a line has an error, a load ends with it
-  ends_loading : {new : Texts} {t m : LinesState} {text : List ℕ} {e : Error A} (k : Came l names t) →
-      AdvanceIs {A = A} (left_of k) t (Some (Ok tt)) text m →
-      LoadsLine mode s.dialect s.remembered (chars text) names (Err e) new →
-      Ends l new (Err e) (stopped e (record s { lines = m }))
-  ends_loading {m = m} {e = e} k next (inl (refused, same)) =
-      rw same (ends_memory e (record s { lines = m }) k.loaded refused)
-  ends_loading k next (inr (Nothing, says, leaves)) = absurd leaves.is_answer
-  ends_loading k next (inr (Pair key pieces, says, leaves)) =
-      ends_line k (takes_line A (Pair key pieces) next says) leaves
-  ends_loading k next (inr (Fault text index, says, leaves)) =
-      ends_line k (takes_line A (Fault text index) next says) leaves
+  ends_loading : {new : Texts} {p m : SplitterState} {e : Error A} (k : Came l names p.lines) →
+      Answers {A = A} p (Some (Ok tt)) m → LoadsLine mode s.dialect s.remembered (chars m.line) names (Err e) new →
+      Ends l new (Err e) (stopped e (record s { lines = m.lines }))
+  ends_loading {m = m} {e = e} k answers (inl (refused, same)) =
+      rw same (ends_memory e (record s { lines = m.lines }) (loaded k) refused)
+  ends_loading k answers (inr (Nothing, says, leaves)) = absurd leaves.is_answer
+  ends_loading k answers (inr (Pair key pieces, says, leaves)) =
+      ends_line k (takes_line A k (Pair key pieces) answers says) leaves
+  ends_loading k answers (inr (Fault text index, says, leaves)) =
+      ends_line k (takes_line A k (Fault text index) answers says) leaves
 
   -- a load ends at a fault in the place of a line
-  ends_fault : {t : LinesState} (m : LinesState) (text : List ℕ) (e : Error A) (k : Came l names t) →
-      AdvanceIs {A = A} (left_of k) t (Some (Err e)) text m → Ends l names (Err e) (stopped e (record s { lines = m }))
-  ends_fault {t} m text e k (inr (failed, final)) =
-      ends_final m e k.loaded failed
-      (final_before l.ahead s.lines.input t.input m.input IsUndecided (Decide s k.loaded.done) k.used k.left e
-      k.moves.joins k.moves.reads (decides_done k) final)
-  ends_fault m line (error.LineParse text index) k (inl (count, takes, counts, goes_on)) =
+  ends_fault : {t : LinesState} (m : SplitterState) (e : Error A) (k : Came l names t) →
+      AdvanceIs {A = A} (left_of k) t (Some (Err e)) m.line m.lines →
+      Ends l names (Err e) (stopped e (record s { lines = m.lines }))
+  ends_fault m e k (inr (failed, final)) =
+      let decided = read_decided k.read e m.lines.input final in
+      ends_final m.lines e (loaded k) failed
+      (final_marked (λ bytes. HasDecided s.dialect bytes (without_numbers k.numbered)) e m.lines.input
+      k.unmarks decided)
+  ends_fault m (error.LineParse text index) k (inl taken) =
       ends_line {entry = Fails (LineParse (chars (string_bytes text)) index)} k
-      (line_taken (OpenEnd (chars (string_bytes text)) index) takes counts goes_on refl)
+      (line_taken A m.line (Err (error.LineParse text index)) taken refl)
       (record { values = λ n. refl; is_answer = (refl, refl) })
-  ends_fault m line (error.Io x) k (inl (count, takes, counts, goes_on)) =
-      ends_line {entry = Fails (Io InvalidData)} k (line_taken Broken takes.1 counts goes_on refl)
-      (record { values = λ n. refl; is_answer = takes.0 })
-  ends_fault m line e k (inl (count, takes, counts, goes_on)) = absurd takes
+  ends_fault m (error.Io x) k (inl taken) =
+      ends_line {entry = Fails (Io InvalidData)} k (line_taken A m.line (Err (error.Io x)) taken refl)
+      (record { values = λ n. refl; is_answer = taken.1.0 })
+  ends_fault m e k (inl (count, takes, counts, goes_on)) = absurd takes
 
 -- a load is what it ends with, whatever is told
 load_is : {A : Type 0} {mode : Mode} {s t : IterState} {old new : Texts} (answer : Result (Unit {0}) (Error A)) →
@@ -266,27 +241,25 @@ error_is {answer = answer} e is ends = let p = err_from_is_err_and answer is in 
 -- where loading the next line has an error, the load stops there
 pub line_stops : {A : Type 0} {mode : Mode} {s t : IterState} {old names new : Texts} {p m : SplitterState}
     {line answer : Result (Unit {0}) (Error A)} {e : Error A} → CameTo mode s old names p.lines →
-    GivesNoneShut p (Some line) m → GivesLine p (Some line) m → line ≡ Ok tt → t ≡ record s { lines = t.lines } →
+    Answers p (Some line) m → line ≡ Ok tt → t ≡ record s { lines = t.lines } →
     LoadsLine mode t.dialect t.remembered (chars m.line) names (Err e) new → IsErrAnd answer (λ said. said ≡ e) →
     LoadIs mode s old new answer (record t { lines = m.lines })
-line_stops {A = A} {e = e} so_far shut next is same loads answers =
-    let said = rw same at loads in
-    rw same (error_is e answers (λ l. ends_loading (so_far l) (rw is at (given (so_far l) shut next)) said))
+line_stops {e = e} so_far gives is same loads answers =
+    let said = rw same at loads in rw same (error_is e answers (λ l. ends_loading (so_far l) (rw is at gives) said))
 
 -- where a fault stands in the place of the next line, the load stops there
 pub fault_stops : {A : Type 0} {mode : Mode} {s t : IterState} {old names : Texts} {p m : SplitterState}
     {line answer : Result (Unit {0}) (Error A)} {e : Error A} → CameTo mode s old names p.lines →
-    GivesNoneShut p (Some line) m → GivesLine p (Some line) m → line ≡ Err e → t ≡ record s { lines = t.lines } →
-    IsErrAnd answer (λ said. said ≡ e) → LoadIs mode s old names answer (record t { lines = m.lines })
-fault_stops {m = m} {e = e} so_far shut next is same answers =
-    rw same (error_is e answers (λ l.
-    ends_fault m.lines m.line e (so_far l) (rw is at (given (so_far l) shut next))))
+    Answers p (Some line) m → line ≡ Err e → t ≡ record s { lines = t.lines } → IsErrAnd answer (λ said. said ≡ e) →
+    LoadIs mode s old names answer (record t { lines = m.lines })
+fault_stops {m = m} {e = e} so_far gives is same answers = rw same (error_is e answers (λ l.
+    let k = so_far l in ends_fault m e k (rw is at (next_outcome (told_unmarked k) k.read gives))))
 
 -- where there is no more line, the load stops at the end
 pub none_stops : {A : Type 0} {mode : Mode} {s t : IterState} {old names : Texts} {p m : SplitterState} →
-    CameTo mode s old names p.lines → GivesNoneShut {A = A} p None m → GivesLine {A = A} p None m →
-    t ≡ record s { lines = t.lines } → LoadIs {A = A} mode s old names (Ok tt) (record t { lines = m.lines })
-none_stops so_far shut next same = rw same (load_is (Ok tt) (λ l. ends_none (so_far l) shut next))
+    CameTo mode s old names p.lines → Answers {A = A} p None m → t ≡ record s { lines = t.lines } →
+    LoadIs {A = A} mode s old names (Ok tt) (record t { lines = m.lines })
+none_stops so_far gives same = rw same (load_is (Ok tt) (λ l. ends_none (so_far l) gives))
 
 -- where a fault comes before the mark is decided, a load answers that fault, changes nothing and stops for good
 pub mark_stops : {A : Type 0} {mode : Mode} {old : Texts} {s t : IterState} {answer : Result (Unit {0}) (Error A)}
@@ -294,7 +267,8 @@ pub mark_stops : {A : Type 0} {mode : Mode} {old : Texts} {s t : IterState} {ans
     m.stage ≡ Failed → IsErrAnd answer (λ said. said ≡ e) → LoadIs mode t old old answer (record s { lines = m })
 mark_stops {s = s} m e same drops failed answers =
     rw (← same) (error_is e answers (λ l. ends_final m e (none_done l) failed
-    (final_weaker l.ahead s.lines.input m.input e (mark_decides s.dialect) (drops l.ahead l.opened l.is_told))))
+    (final_weaker l.ahead s.lines.input m.input (λ bytes. begins_mark bytes ≡ true) (Decide s []) e
+    (mark_decides s.dialect) (drops l.ahead l.opened l.is_told))))
 
 -- where memory is refused at the start, a load answers that and changes nothing
 pub loads_refused : {A : Type 0} (mode : Mode) (s : IterState) {old : Texts} {e : Error A} → IsMemory e →

@@ -31,7 +31,8 @@ pub record IsReadable (a : Ahead) : Type 0 where
   pub few : length a.bytes < most_reads
   pub not_interrupted : a.fault ≢ Some Interrupted
 
--- an open iterator has this left: no interrupted read, and fewer bytes than the reads that may still be made and the bytes that were read already
+-- an open iterator has this left: no interrupted read, and fewer bytes than the reads that may
+-- still be made and the bytes that were read already
 pub record CanRead (s : IterState) (a : Ahead) : Type 0 where
   pub is_open : IsOpen s
   pub is_told : TellsLeft s a

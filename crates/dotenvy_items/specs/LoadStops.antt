@@ -1,18 +1,16 @@
 -- Where a load stops: on which lines, and what it leaves.
 use Rattle.std.specs.Prelude.{ℕ, ◌≡◌, ◌⊎◌, List, [], ◌∷◌, ◌++◌, Some, Result, Ok, Err}
-use Rattle.dotenvy_format.specs.declared.dialect.Dialect.{Dialect}
 use Rattle.dotenvy_base.specs.declared.errors.Error.{Error}
 use Rattle.dotenvy_lines.specs.declared.lines.Stage.TheVariants.{Ended}
-use Rattle.dotenvy_format.specs.LogicalLine.{Logical}
-use Rattle.dotenvy_format.specs.Entries.{Entry, AreFirstLines, Gives, GiveAll}
+use Rattle.dotenvy_format.specs.Entries.{Entry}
 use Rattle.dotenvy_format.specs.Decided.{HasDecided}
 use Rattle.dotenvy_format.specs.Marks.{without_mark}
 use Rattle.dotenvy_base.specs.Environment.{Texts}
 use Rattle.dotenvy_base.specs.Source.{Ahead}
-use Rattle.dotenvy_lines.specs.Lines.{whole_lines, GoesOn, FailsFor, no_line}
+use Rattle.dotenvy_lines.specs.Lines.{GoesOn, FailsFor, no_line}
 use Rattle.dotenvy_items.specs.Meaning.{values_of, recalled_of}
 use Rattle.dotenvy_items.specs.Iter.{IterState, TellsLeft}
-use Rattle.dotenvy_items.specs.NextItem.{UsesLines, StandsOn}
+use Rattle.dotenvy_items.specs.NextItem.{UsesUpTo, StandsOn}
 use Rattle.dotenvy_items.specs.LoadsRest.{IsAnswer, Rule}
 
 -- what is told, without the byte order mark at its start
@@ -30,17 +28,6 @@ StopsAtEntry rule s old done entry answer =
     LoadsAll rule s old done
     × IsAnswer (rule (values_of old) (recalled_of s.remembered) (done ++ entry ∷ [])).answer answer
 
--- lines that give these entries were used, then the one that gives this entry, and nothing after it
-pub record UsesUpToEntry (dialect : Dialect) (a : Ahead) (done : List Entry) (entry : Entry)
-    (left : List ℕ) : Type 0 where
-  pub lines : List Logical
-  pub before : ℕ
-  pub are_before : AreFirstLines (whole_lines a) before lines
-  pub give : GiveAll dialect lines done
-  pub last : Logical
-  pub gives : Gives dialect last (entry ∷ [])
-  pub uses : UsesLines a (lines ++ last ∷ []) left
-
 -- a load stopped at an entry: t has the lines after it left, and tells the lines that it is on
 pub record StopsInLine {A : Type 0} (rule : Rule) (a : Ahead) (s : IterState) (old : Texts)
     (answer : Result (Unit {0}) (Error A)) (t : IterState) : Type 0 where
@@ -48,7 +35,7 @@ pub record StopsInLine {A : Type 0} (rule : Rule) (a : Ahead) (s : IterState) (o
   pub entry : Entry
   pub stops : StopsAtEntry rule s old done entry answer
   pub left : List ℕ
-  pub uses : UsesUpToEntry s.dialect a done entry left
+  pub uses : UsesUpTo s.dialect a done entry left
   pub is_left : t.lines.input.left ≡ Some (record { bytes = left; fault = a.fault })
   pub stands : StandsOn s uses.before uses.uses.count t
   pub goes_on : GoesOn t.lines

@@ -3,7 +3,6 @@ use Rattle.std.specs.Prelude.{ℕ, ◌≡◌, ◌⊎◌, ◌+◌, List, [], ◌�
 use Rattle.std.specs.Prelude.{Err, IfSome, IfOk, IsTrue, drop, string_bytes}
 use Rattle.std.specs.Str.{chars}
 use Rattle.std.specs.IoError.{error_kind}
-use Rattle.std.specs.declared.io.ErrorKind.{ErrorKind}
 use Rattle.std.specs.declared.string.String.{String}
 use Rattle.dotenvy_base.specs.declared.errors.Error.{Error}
 use Rattle.dotenvy_lines.specs.declared.lines.Stage.TheVariants.{Ended}
@@ -68,17 +67,18 @@ pub record UsesLines (a : Ahead) (lines : List Logical) (left : List ℕ) : Type
   pub are_first : AreFirstLines (whole_lines a) count lines
   pub rest : physical_lines left ≡ drop count (physical_lines a.bytes)
 
--- lines that give no entry were used, then the one that gives this entry, and nothing after it
-pub record UsesUpTo (dialect : Dialect) (a : Ahead) (entry : Entry) (left : List ℕ) : Type 0 where
-  pub silent : List Logical
+-- lines that give these entries were used, then the one that gives this entry, and nothing after it
+pub record UsesUpTo (dialect : Dialect) (a : Ahead) (done : List Entry) (entry : Entry)
+    (left : List ℕ) : Type 0 where
+  pub lines : List Logical
   pub before : ℕ
-  pub are_before : AreFirstLines (whole_lines a) before silent
+  pub are_before : AreFirstLines (whole_lines a) before lines
+  pub give : GiveAll dialect lines done
   pub last : Logical
-  pub give_none : GiveAll dialect silent []
   pub gives : Gives dialect last (entry ∷ [])
-  pub uses : UsesLines a (silent ++ last ∷ []) left
+  pub uses : UsesLines a (lines ++ last ∷ []) left
 
--- after so many physical lines that give no entry, an item takes the lines up to the last one used,
+-- after so many physical lines before it, an entry takes the lines up to the last one used,
 -- as they are counted from s to t
 abbrev pub StandsOn : IterState → ℕ → ℕ → IterState → Type 0
 StandsOn s before used t =
@@ -86,39 +86,25 @@ StandsOn s before used t =
     × Counts s.lines.lines_taken used t.item_lines.1
     × Counts s.lines.lines_taken used t.lines.lines_taken
 
--- which bytes were used for an entry: those up to the end of the line that gives it; unless the end
--- of input was read, they decide the entry whatever follows
-pub record UsesForEntry (a : Ahead) (s : IterState) (entry : Entry) (t : IterState) : Type 0 where
+-- the entry was taken, the first of these, which are all that s has left: the bytes up to the end of
+-- its line were used, which decide it whatever follows, unless the end of input was read; and t has
+-- the later entries left, goes on in the same dialect, and remembers what the entry declares
+pub record TakesEntry (names : Texts) (a : Ahead) (s : IterState) (entries : List Entry)
+    (entry : Entry) (t : IterState) : Type 0 where
   pub used : List ℕ
   pub left : List ℕ
   pub moves : Moves a s.lines.input used left t.lines.input
-  pub reaches : UsesUpTo s.dialect a entry left
+  pub uses : UsesUpTo s.dialect a [] entry left
   pub stays : IsAtEnd a.fault left t.lines.input ⊎ DecideFirst s.dialect used (entry ∷ [])
-
--- the entry is the first of these entries, and the bytes left have the later ones
-pub record IsFirstEntry (dialect : Dialect) (fault : Option ErrorKind) (entries : List Entry)
-    (entry : Entry) (left : List ℕ) : Type 0 where
   pub later : List Entry
   pub first : entries ≡ entry ∷ later
-  pub has_left : HasEntriesLeft dialect fault left later
-
--- after an entry the iterator goes on in the same dialect, and remembers what the entry declares
-pub record GoesOnAfter (names : Texts) (s : IterState) (entry : Entry) (t : IterState)
-    : Type 0 where
+  pub has_left : HasEntriesLeft s.dialect a.fault left later
+  pub stands : StandsOn s uses.before uses.uses.count t
   pub goes_on : GoesOn t.lines
   pub dialect : t.dialect ≡ s.dialect
   pub remembers :
       RemembersEntry (names_of names s.remembered) (recalled_of s.remembered)
       (recalled_of t.remembered) entry
-
--- the entry was taken, the first of these, which are all that s has left: what was used for it,
--- that it is the first, the lines that it is on, and how t goes on
-pub record TakesEntry (names : Texts) (a : Ahead) (s : IterState) (entries : List Entry)
-    (entry : Entry) (t : IterState) : Type 0 where
-  pub uses : UsesForEntry a s entry t
-  pub is_first : IsFirstEntry s.dialect a.fault entries entry uses.left
-  pub stands : StandsOn s uses.reaches.before uses.reaches.uses.count t
-  pub after : GoesOnAfter names s entry t
 
 -- the next item says the first of the entries left; it is none where there is none and no fault; or
 -- it is a fault of reading, on no line, before which no entry is decided

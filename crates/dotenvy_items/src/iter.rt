@@ -10,10 +10,8 @@ ghost use Rattle.dotenvy_items.specs.Iter.{fresh, items_measure, AsksBetween, Dr
 ghost use Rattle.dotenvy_base.specs.Environment.{KeepsNames};
 ghost use Rattle.dotenvy_format.specs.Run.{Keep, Replace, run};
 ghost use Rattle.dotenvy_format.specs.Loads.{load_result, override_result};
-ghost use Rattle.dotenvy_items.specs.Meaning.{names_of};
-ghost use Rattle.dotenvy_items.specs.inside.ParsedLine.{AnswersLine, Remembers, HasKey};
 ghost use Rattle.dotenvy_lines.specs.Lines.{lines_measure, no_line};
-ghost use Rattle.dotenvy_items.specs.inside.ItemStep.{AddsLine, GivesNext, item_lines_then};
+ghost use Rattle.dotenvy_items.specs.inside.ItemStep.{lines_after, AddsLine, GivesNext, item_lines_then};
 ghost use Rattle.dotenvy_items.specs.Iter.{state_of};
 ghost use Rattle.dotenvy_items.specs.NextItem.{unnumbered, GivesKey, GivesName, IsNumbered, NextItem};
 ghost use Rattle.dotenvy_items.specs.LoadsRest.{ChangesOnlyKeys, LoadsRest, OnlyAdds};
@@ -21,7 +19,7 @@ ghost use Rattle.dotenvy_items.specs.LoadStops.{Stops};
 ghost use Rattle.dotenvy_items.specs.inside.LoadStep.{mode_of, stopped, LoadIs};
 
 use crate::loads::{Mode, load_line};
-use crate::parse::{Line, Pair, ParsedLine, parse_line};
+use crate::parse::{Line, Pair, parse_line};
 use crate::remembered::Remembered;
 use dotenvy_base::environment::Environment;
 use dotenvy_base::errors::{Error, Result};
@@ -85,13 +83,6 @@ impl<R: Source, A: Allocator> Model for Reading<R, A> {
           remembered = remembered_of s.remembered.entries;
           dialect = s.dialect;
         } };
-}
-
-// Whether memory was refused.
-fn is_refused<A: Allocator>(said: &ParsedLine<A>) -> bool
-    ensures { IsTrue result ↔ IsMemoryErr said.now }
-{
-    matches!(said, Err(Error::Memory(_)))
 }
 
 /// An iterator over these lines, of which no item was taken, and that remembers nothing.
@@ -315,41 +306,42 @@ impl<R: Source, A: Allocator + Clone> Reading<R, A> {
         ensures key { GivesKey result }
         ensures dialect { self.new.dialect ≡ self.old.dialect }
     {
-        let said = self.said_by(outcome, env);
-        if is_refused(&said) {
-            self.lines.fail();
+        let said = match outcome {
+            Ok(()) => {
+                let line = Line {
+                    text: self.lines.line(),
+                    dialect: self.dialect,
+                    alloc: self.lines.allocator(),
+                };
+                parse_line(line, &mut self.remembered, env)
+            }
+            Err(fault) => Err(fault),
+        };
+        match &said {
+            Ok(_) => {}
+            Err(error) => self.fail_if_refused(error),
         }
         said.transpose()
     }
 
-    // What the last logical line says. Its own fault stays as it is.
-    fn said_by(&mut self, outcome: Result<(), A>, env: &Environment<A>) -> ParsedLine<A>
-        ensures says { OnOk outcome (AnswersLine self.old.dialect
-            (names_of env.now.names self.old.remembered) (chars self.old.line) result) }
-        ensures remembers { OnOk outcome (Remembers (chars self.old.line) self.old.remembered
-            self.new.remembered result) }
-        ensures fault { IfErr outcome
-            (λ e. (result ≡ Err e) × (self.new.remembered ≡ self.old.remembered)) }
-        ensures key { IfOk result HasKey }
-        ensures same { self.new ≡ record self.old { remembered = self.new.remembered } }
+    // Refused memory is final.
+    fn fail_if_refused(&mut self, error: &Error<A>)
+        ensures { self.new
+            ≡ record self.old { lines = lines_after error.now self.old.lines } }
     {
-        outcome?;
-        let line = Line {
-            text: self.lines.line(),
-            dialect: self.dialect,
-            alloc: self.lines.allocator(),
-        };
-        parse_line(line, &mut self.remembered, env)
+        if matches!(error, Error::Memory(_)) {
+            self.lines.fail();
+        }
     }
 }
 
 impl<R: Source, A: Allocator + Clone> Iter<R, A> {
-    /// Loads what is left: drops a byte order mark at the present place, then sets each name that is absent; a name that
-    /// is there keeps its value (docs/GRAMMAR.md, "Loading").
+    /// Loads what is left: drops a byte order mark at the present place, then sets each name that is absent; a name
+    /// that is there keeps its value (docs/GRAMMAR.md, "Loading").
     ///
     /// Stops at the first fault and returns it; what stands before it stays set. `first_line` and `last_line` are then
-    /// the lines of that fault, or 0 for one that is on no line, and the next call loads what follows it. A value with a
-    /// NUL that would be set is such a fault. After `Ok` nothing is left, and the lines are as they were. An iterator
+    /// the lines of that fault, or 0 for one that is on no line, and the next call loads what follows it. A value with
+    /// a NUL that would be set is such a fault. After `Ok` nothing is left, and the lines are as they were. An iterator
     /// that has ended or failed loads nothing and returns `Ok`.
     ///
     /// ```text
@@ -425,9 +417,7 @@ impl<R: Source, A: Allocator + Clone> Iter<R, A> {
     fn stop(&mut self, error: &Error<A>)
         ensures { self.new ≡ stopped error.now self.old }
     {
-        if matches!(error, Error::Memory(_)) {
-            self.reading.lines.fail();
-        }
+        self.reading.fail_if_refused(error);
         self.item_lines = self.reading.lines.last_lines();
     }
 

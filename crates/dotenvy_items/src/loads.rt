@@ -9,10 +9,10 @@ ghost use Rattle.dotenvy_items.specs.LoadsRest.{ChangesOnlyKeys};
 ghost use Rattle.dotenvy_items.specs.inside.LoadStep.{mode_of, LoadsLine, SetsIn};
 
 use crate::meaning::Names;
-use crate::parse::{Line, pair_of, scan_line};
+use crate::parse::{Line, declaration_of, pair_of};
 use crate::remembered::Remembered;
 use dotenvy_base::environment::{Environment, set_absent};
-use dotenvy_base::errors::{Result, fault_error};
+use dotenvy_base::errors::Result;
 use std::alloc::Allocator;
 
 /// What a load does with a name that is there.
@@ -37,8 +37,8 @@ impl Mode {
         }
     }
 
-    // Sets the value of a name, if the mode lets it. A name that is there lets the mode guess that the next one is, too,
-    // and an absent one that the next one is absent.
+    // Sets the value of a name, if the mode lets it. A name that is there lets the mode guess that the next one is,
+    // too, and an absent one that the next one is absent.
     fn set<A: Allocator + Clone>(
         &mut self,
         env: &mut Environment<A>,
@@ -81,10 +81,9 @@ pub(crate) fn load_line<A: Allocator + Clone>(
         env: &*env,
         remembered,
     };
-    let declaration = match scan_line(line.text, &names, line.dialect) {
-        Ok(Some(declaration)) => declaration,
-        Ok(None) => return Ok(()),
-        Err(fault) => return Err(fault_error(line.alloc.clone()?, fault.text, fault.index)),
+    let declaration = match declaration_of(&line, &names)? {
+        Some(declaration) => declaration,
+        None => return Ok(()),
     };
     if mode.passes_by(env, declaration.key) {
         return Ok(());

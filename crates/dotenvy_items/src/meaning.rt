@@ -121,8 +121,8 @@ impl<'n, A: Allocator> Names<'n, A> {
         }
     }
 
-    /// What the first pass finds out about a value; or what is left of it where no value goes on, which is nothing where
-    /// it lacks its end.
+    /// What the first pass finds out about a value; or what is left of it where no value goes on, which is nothing
+    /// where it lacks its end.
     pub(crate) fn measure<'a>(
         &self,
         value: &'a str,

@@ -1,5 +1,5 @@
 //! What one logical line says.
-ghost use Rattle.std.specs.Prelude.{◌≡◌, ◌<◌, ◌++◌, length, List, ℕ, IfOk, IfErr};
+ghost use Rattle.std.specs.Prelude.{◌≡◌, ◌<◌, ◌++◌, length, List, ℕ, IfOk, IfErr, Ok};
 ghost use Rattle.std.specs.Str.{chars};
 ghost use Rattle.dotenvy_format.specs.Characters.{byte_len};
 ghost use Rattle.dotenvy_format.specs.Outcome.{value_index};
@@ -7,7 +7,7 @@ ghost use Rattle.dotenvy_base.specs.Errors.{IsMemory};
 ghost use Rattle.dotenvy_items.specs.Remembered.{remembered_of};
 ghost use Rattle.dotenvy_items.specs.Meaning.{look_up_of, names_of};
 ghost use Rattle.dotenvy_format.specs.Value.{Piece};
-ghost use Rattle.dotenvy_items.specs.inside.FirstPass.{IsAssigned, ScansAssigned, Scans, GivesPair, GivesCopies};
+ghost use Rattle.dotenvy_items.specs.inside.FirstPass.{IsAssigned, ScansAssigned, Scans, GivesPair, IsFaultOf};
 ghost use Rattle.dotenvy_items.specs.inside.ParsedLine.{AnswersLine, Remembers, HasKey};
 
 use crate::meaning::{Known, Names};
@@ -69,15 +69,6 @@ pub(crate) struct Line<'a, A: Allocator> {
     pub(crate) text: &'a str,
     pub(crate) dialect: Dialect,
     pub(crate) alloc: &'a A,
-}
-
-// The texts of a declaration: those that are answered, and those that are remembered.
-#[derive(Drop)]
-struct Copies<A: Allocator> {
-    key: String<A>,
-    value: String<A>,
-    remembered_key: String<A>,
-    remembered_value: Option<String<A>>,
 }
 
 // How many bytes of the text stand before what is left of it.
@@ -152,6 +143,21 @@ pub fn scan_line<'n, 'a, A: Allocator>(
     }
 }
 
+/// What a line declares, if anything. Its fault is the error.
+pub(crate) fn declaration_of<'n, 'a, A: Allocator + Clone>(
+    line: &Line<'a, A>,
+    names: &Names<'n, A>,
+) -> Result<Option<Declaration<'n, 'a>>, A>
+    ensures declared { IfOk result (λ declared. Scans line.now.dialect (look_up_of names.now)
+        (chars line.now.text.now) (Ok declared)) }
+    ensures fault { IfErr result (IsFaultOf line.now.dialect (chars line.now.text.now)) }
+{
+    match scan_line(line.text, names, line.dialect) {
+        Ok(declared) => Ok(declared),
+        Err(fault) => Err(fault_error(line.alloc.clone()?, fault.text, fault.index)),
+    }
+}
+
 /// The second pass: the key of a declaration, and what its value means.
 pub(crate) fn pair_of<'n, A: Allocator + Clone>(
     alloc: A,
@@ -174,32 +180,6 @@ pub(crate) fn pair_of<'n, A: Allocator + Clone>(
     }
 }
 
-// The memory for a declaration that is remembered, all but that of the map.
-fn copies_of<'n, A: Allocator + Clone>(
-    alloc: A,
-    declaration: Declaration<'n, '_>,
-    names: &Names<'n, A>,
-    dialect: Dialect,
-) -> Result<Copies<A>, A>
-    requires { (rest : List ℕ) × (pieces : List Piece)
-        × IsAssigned dialect (look_up_of names.now) rest pieces declaration.value }
-    ensures copies { GivesCopies dialect (look_up_of names.now) declaration.entry result }
-    ensures refused { IfErr result IsMemory }
-{
-    let (key, value) = pair_of(alloc.clone()?, declaration, names, dialect)?;
-    let remembered_key = String::from_str(alloc.clone()?, declaration.key)?;
-    let remembered_value = match declaration.value {
-        None => None,
-        Some(_) => Some(String::from_str(alloc, value.as_str())?),
-    };
-    Ok(Copies {
-        key,
-        value,
-        remembered_key,
-        remembered_value,
-    })
-}
-
 /// What one logical line says: nothing, a key and its value, or a fault. A pair is remembered.
 pub(crate) fn parse_line<A: Allocator + Clone>(
     line: Line<'_, A>,
@@ -217,18 +197,16 @@ pub(crate) fn parse_line<A: Allocator + Clone>(
         env,
         remembered: &*remembered,
     };
-    let declaration = match scan_line(line.text, &names, line.dialect) {
-        Ok(Some(declaration)) => declaration,
-        Ok(None) => return Ok(None),
-        Err(fault) => return Err(fault_error(line.alloc.clone()?, fault.text, fault.index)),
+    let declaration = match declaration_of(&line, &names)? {
+        Some(declaration) => declaration,
+        None => return Ok(None),
     };
-    let copies = copies_of(line.alloc.clone()?, declaration, &names, line.dialect)?;
-    let Copies {
-        key,
-        value,
-        remembered_key,
-        remembered_value,
-    } = copies;
+    let (key, value) = pair_of(line.alloc.clone()?, declaration, &names, line.dialect)?;
+    let remembered_key = String::from_str(line.alloc.clone()?, declaration.key)?;
+    let remembered_value = match declaration.value {
+        None => None,
+        Some(_) => Some(String::from_str(line.alloc.clone()?, value.as_str())?),
+    };
     remember(remembered, remembered_key, remembered_value)?;
     Ok(Some((key, value)))
 }

@@ -1,6 +1,6 @@
 //! The written form of pairs, and the listing of a file.
 
-ghost use Rattle.std.specs.Prelude.{◌≡◌, ◌≤◌, ◌+◌, ◌++◌, ◌∷◌, [], length, filter, IfOk, IfErr, IsTrue, chars, encode_utf8_all, string_bytes, string_len};
+ghost use Rattle.std.specs.Prelude.{◌≡◌, ◌≤◌, ◌+◌, ◌++◌, ◌∷◌, [], length, IfOk, IfErr, IsTrue, chars, encode_utf8_all, string_bytes, string_len};
 ghost use Rattle.std.specs.String.{string_capacity};
 ghost use Rattle.dotenvy_format.specs.Keys.{is_key};
 ghost use Rattle.dotenvy_format.specs.Characters.{byte_len};
@@ -10,10 +10,10 @@ ghost use Rattle.dotenvy_format.specs.Written.{needs_backslash, written_characte
 ghost use Rattle.dotenvy_base.specs.Output.{Sends, Writes};
 ghost use Rattle.dotenvy_base.specs.Environment.{AreTexts};
 ghost use Rattle.dotenvy_lines.specs.Input.{ReadsBetween};
-ghost use Rattle.dotenvy_items.specs.Iter.{fresh, AsksBetween, IsOpen};
+ghost use Rattle.dotenvy_items.specs.Iter.{fresh};
 ghost use Rattle.dotenvy_items.specs.Listed.{pairs_of, Lists};
 
-use crate::iter::{Iter, into_reader, over_lines};
+use crate::iter::{into_reader, over_lines};
 use dotenvy_base::environment::Environment;
 use dotenvy_base::errors::Result;
 use dotenvy_base::output::{MOST_WRITES, write_all};
@@ -30,21 +30,16 @@ fn needs_backslash(c: char) -> bool
     matches!(c, '\\' | '"' | '$')
 }
 
-// How many characters are written after a backslash. Each of them is a byte, so bytes are counted.
-fn backslash_count(text: &str) -> usize
-    ensures { result ≡ length (filter needs_backslash (chars text.now)) }
-{
-    memchr3_iter(b'\\', b'"', b'$', text.as_bytes()).count()
-}
-
 // How many bytes the written form of a pair takes, or the greatest number where that is more.
 fn written_len(key: &str, text: &str) -> usize
     ensures { result ≡ saturated (byte_len (written_text ((chars key.now, chars text.now) ∷ []))) }
 {
     let around = "=\"\"\n".len();
+    // Each character that needs a backslash is a byte.
+    let backslashes = memchr3_iter(b'\\', b'"', b'$', text.as_bytes()).count();
     key.len()
         .saturating_add(text.len())
-        .saturating_add(backslash_count(text))
+        .saturating_add(backslashes)
         .saturating_add(around)
 }
 
@@ -185,26 +180,13 @@ pub fn list_lent<R: Source, W: Sink, A: Allocator + Clone>(
     ensures asks { ReadsBetween (R.told reader.old) (R.told reader.new) }
 {
     let remembering = alloc.clone()?;
+    let mut env = Environment::new(alloc.clone()?);
     let room = Room::new(alloc.clone()?)?;
     let lines = Splitter::in_room(room, reader, READ_LIMIT);
     let mut file = over_lines(lines, remembering, dialect);
-    let listed = list_rest(alloc, &mut file, writer);
+    let loaded = file.load_rest(&mut env);
     let _ = into_reader(file);
-    listed
-}
-
-// Lists what an iterator has left, as `list_with` does of a reader.
-fn list_rest<R: Source, W: Sink, A: Allocator + Clone>(
-    alloc: A,
-    file: &mut Iter<R, A>,
-    writer: &mut W,
-) -> Result<(), A>
-    ensures lists { IsOpen file.old →
-        Lists file.old W.told writer.old writer.new result }
-    ensures asks { AsksBetween file.old file.new }
-{
-    let mut env = Environment::new(alloc.clone()?);
-    file.load_rest(&mut env)?;
+    loaded?;
     let text = listing(alloc, &env)?;
     write_all(writer, text.as_bytes(), MOST_WRITES)
 }

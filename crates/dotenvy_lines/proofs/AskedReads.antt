@@ -13,7 +13,7 @@ use Rattle.dotenvy_lines.specs.declared.lines.Stage.{Stage}
 use Rattle.dotenvy_lines.specs.declared.lines.Stage.TheVariants.{Open}
 use Rattle.dotenvy_lines.specs.Lines.{LinesState}
 use Rattle.dotenvy_lines.specs.Input.{InputState, MakesReads, AsksReads}
-use Rattle.dotenvy_lines.specs.inside.InputSteps.{AsksOnce}
+use Rattle.dotenvy_lines.specs.inside.InputSteps.{AsksOnce, used_up}
 use Rattle.dotenvy_lines.proofs.Inputs.{input_of, IsOpen}
 
 -- no read is made where neither the source, its calls nor the reads left change
@@ -100,6 +100,11 @@ asks_weaker goes_on less s t goes asks =
 pub asks_then : {goes_on later : Type 0} {s t u : InputState} → AsksReads (Unit {0}) s t → AsksReads goes_on t u →
     (later → goes_on) → AsksReads later s u
 asks_then first second goes = asks_weaker _ _ _ _ goes (asks_more _ _ _ _ _ first tt second)
+
+-- to use what was read asks for no read
+pub asks_used : {goes_on : Type 0} {s t v : InputState} (n : ℕ) → v ≡ used_up n t → AsksReads (Unit {0}) s t →
+    AsksReads goes_on s v
+asks_used n used asks = rw used (asks_then asks (asks_none (Unit {0}) _ _ refl refl refl refl) (λ goes. tt))
 
 -- reads, and more reads behind them, where both go on, are asked as those of both
 pub asks_on : (goes_on : Type 0) (s t u : InputState) → AsksReads (Unit {0}) s t → AsksReads (true ≡ true) t u →

@@ -1,5 +1,5 @@
 -- What a byte order mark at the front of bytes decides, and what is used up with it.
-use Rattle.std.proofs.Common.{◌≡◌, ℕ, true, false, List, [], ◌∷◌, ◌++◌, refl, ap, arith, inl, inr}
+use Rattle.std.proofs.Common.{◌≡◌, ℕ, true, false, List, [], ◌∷◌, ◌++◌, Ok, refl, ap, arith, inl, inr}
 use Rattle.std.proofs.lemmas.Bool.{cases_Bool}
 use Rattle.std.proofs.lemmas.Bool.Decides.{nat_tests}
 use Rattle.std.specs.Prelude.{nat_eq}
@@ -7,7 +7,12 @@ use Rattle.std.specs.List.{starts_with}
 use Rattle.dotenvy_format.specs.declared.dialect.Dialect.{Dialect}
 use Rattle.dotenvy_format.specs.Decided.{up_to_last_line_feed, HasDecided}
 use Rattle.dotenvy_format.specs.Marks.{byte_order_mark, without_mark}
-use Rattle.dotenvy_lines.specs.Input.{begins_mark}
+use Rattle.dotenvy_base.specs.declared.errors.Error.{Error}
+use Rattle.dotenvy_base.specs.Source.{Ahead}
+use Rattle.dotenvy_lines.specs.declared.lines.Stage.TheVariants.{Open}
+use Rattle.dotenvy_lines.specs.Input.{InputState, Moves, IsFinal, DropsMark, begins_mark}
+use Rattle.dotenvy_lines.specs.Lines.{LinesState}
+use Rattle.dotenvy_lines.proofs.Inputs.{ahead_of, final_behind}
 use Rattle.dotenvy_format.specs.PhysicalLines.{line_texts}
 use Rattle.dotenvy_lines.proofs.LineEntries.{decided-none}
 
@@ -52,3 +57,26 @@ marked bytes = elim (cases_Bool (starts_with nat_eq bytes byte_order_mark)) [
   | inl is ↦ with_mark bytes is
   | inr none ↦ record { used = []; joins = rw none; stays = λ more rest e. no_mark bytes more rest none (rw none at e) }
 ]
+
+-- a byte order mark was dropped on the way from s to t, if one stood next, and no line was taken
+pub record Unmarks (a : Ahead) (s t : LinesState) : Type 0 where
+  pub moves : Moves a s.input (marked a.bytes).used (without_mark a.bytes) t.input
+  pub is_open : t.stage ≡ Open
+  pub taken : t.lines_taken ≡ s.lines_taken
+
+-- what dropping a mark comes to
+pub unmarks : (A : Type 0) {a : Ahead} {s t : LinesState} → t.stage ≡ Open → t.lines_taken ≡ s.lines_taken →
+    DropsMark {A = A} a s.input (Ok tt) t.input → Unmarks a s t
+unmarks A {a = a} is_open taken drops = record {
+  moves = record { joins = (marked a.bytes).joins; is_left = drops.0; reads = drops.1 };
+  is_open = is_open;
+  taken = taken;
+}
+
+-- a final fault behind the mark comes after the mark and the bytes before it
+pub final_marked : {A : Type 0} {a : Ahead} {s t : LinesState} (P : List ℕ → Type 0) (e : Error A) (m : InputState) →
+    Unmarks a s t → IsFinal (ahead_of (without_mark a.bytes) a.fault) t.input P e m →
+    IsFinal a s.input (λ bytes. P (without_mark bytes)) e m
+final_marked {a = a} P e m dropped =
+    final_behind m P (λ bytes. P (without_mark bytes)) e dropped.moves
+    (λ front later cut holds. rw ((marked a.bytes).stays front later cut) holds)

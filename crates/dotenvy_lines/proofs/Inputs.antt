@@ -1,9 +1,9 @@
 -- Reads, and the first lines of bytes.
 use Rattle.std.proofs.Common.{◌≡◌, ℕ, ◌+◌, ◌-◌, ◌<◌, ◌≤◌, Bool, true, false, not, List}
 use Rattle.std.proofs.Common.{[], ◌∷◌, ◌++◌, length, take, drop, refl, sym, ap, inl, inr}
-use Rattle.std.proofs.Common.{append-nil, append_assoc, ◌⊎◌, arith, position, length-append}
+use Rattle.std.proofs.Common.{append-nil, append_assoc, ◌⊎◌, arith, length-append}
 use Rattle.std.proofs.Common.{length-drop}
-use Rattle.std.specs.Prelude.{Option, Some, None, ◌==◌, nat_eq, MatchBool}
+use Rattle.std.specs.Prelude.{Option, Some, None, ◌==◌, nat_eq, MatchBool, MatchOption}
 use Rattle.std.specs.IoError.{error_kind}
 use Rattle.std.proofs.Math.Seq.{take-append_seam}
 use Rattle.std.proofs.lemmas.Option.{none-some}
@@ -12,7 +12,7 @@ use Rattle.memchr.specs.Find.{IsFirstByte, is_byte}
 use Rattle.std.proofs.lemmas.List.Sums.{position_or_len_is}
 use Rattle.std.proofs.lemmas.List.Folds.{list_all-append}
 use Rattle.std.proofs.lemmas.Grind.{common_steps}
-use Rattle.std.proofs.lemmas.Bool.{and_parts, false_from_ne_true, MatchBool-at_false}
+use Rattle.std.proofs.lemmas.Bool.{and_parts, false_from_ne_true}
 use Rattle.std.proofs.lemmas.Bool.Decides.{nat_tests}
 use Rattle.std.proofs.lemmas.List.{take-append-drop, take_all}
 use Rattle.std.specs.declared.io.ErrorKind.{ErrorKind}
@@ -26,7 +26,7 @@ use Rattle.dotenvy_base.specs.Errors.{IsMemory, IsIoOf}
 use Rattle.dotenvy_lines.specs.Input.{InputState, IsTold, ReadsFit, BoundIsMet, IsReadFault}
 use Rattle.dotenvy_lines.specs.Input.{IsFinal, end_reads, Moves, begins_mark}
 use Rattle.dotenvy_lines.specs.inside.InputSteps.{left_of, IsAllRead, FaultIsNext, Takes}
-use Rattle.dotenvy_lines.specs.inside.InputSteps.{used_up, IsLinePiece, MovesLine}
+use Rattle.dotenvy_lines.specs.inside.InputSteps.{used_up, IsLinePiece}
 
 -- Lines.
 -- the byte is a line feed
@@ -44,20 +44,18 @@ pub no_place : (xs : List ℕ) → length xs ≤ position_or_len is_lf xs → no
 no_place [] h = refl
 no_place (x ∷ xs) h = let later = no_place xs in grind (arith, common_steps, later)
 
--- the first line feed ends a whole line, and bytes in which none is found have none
-pub ruleset first_line = (at_place, no_place, nat_tests)
-
--- what was found as the first byte that is a line feed, or none, is the place of the first line feed, or none
-pub found_place : (bytes : List ℕ) (found : Option ℕ) → IsFirstByte (is_byte 10) bytes found →
-    found ≡ position is_lf bytes
-found_place bytes None none =
+-- the bytes up to what was found as their first line feed are a whole line; where none was found they have none
+pub found_line : (bytes : List ℕ) (found : Option ℕ) → IsFirstByte (is_byte 10) bytes found →
+    MatchOption found (no_line_feed bytes ≡ true)
+    (λ n. (n < length bytes) × (is_whole_line (take (n + 1) bytes) ≡ true))
+found_line bytes None none =
     let place = position_or_len_is is_lf bytes (length bytes) 0 (omega arith)
     (λ k below. false_from_ne_true _ (none k (omega arith) below)) (λ h. absurd (omega arith)) in
-    grind (arith, nat_tests, place)
-found_place bytes (Some n) (first, here) =
+    no_place bytes (omega (arith, place))
+found_line bytes (Some n) (first, here) =
     let place = position_or_len_is is_lf bytes n 0 (omega arith)
     (λ k below. false_from_ne_true _ (first.before k (omega arith) below)) (λ h. here) in
-    grind (arith, nat_tests, place, first.high)
+    (first.high, rw place at (at_place bytes (omega (arith, place, first.high))))
 
 -- bytes without a line feed and a whole line behind them are a whole line
 pub whole_after : (xs line : List ℕ) → no_line_feed xs ≡ true → is_whole_line line ≡ true →
@@ -105,11 +103,6 @@ moves_both first next = record {
   is_left = next.is_left;
   reads = omega arith;
 }
-
--- the same, with all that the steps speak of written out
-pub moves_on : (a : Ahead) (s t v : InputState) (used more left later : List ℕ) → Moves a s used left t →
-    Moves (ahead_of left a.fault) t more later v → Moves a s (used ++ more) later v
-moves_on a s t v used more left later first next = moves_both first next
 
 -- a wait behind some steps leaves what these used as it is
 pub moves_still : {a : Ahead} {s t : InputState} {used left : List ℕ} (v : InputState) → Moves a s used left t →
@@ -159,6 +152,12 @@ final_before a s t v P Q used left e joins fits weaker =
           } in
           inr (f.0, bound))
     ])
+
+-- a final fault before which one thing holds is one before which all holds that it says
+pub final_weaker : {A : Type 0} (a : Ahead) (s v : InputState) (P Q : List ℕ → Type 0) (e : Error A) →
+    ((bytes : List ℕ) → P bytes → Q bytes) → IsFinal a s P e v → IsFinal a s Q e v
+final_weaker a s v P Q e weaker final =
+    final_before a s s v P Q [] a.bytes e refl (omega arith) (λ kind front later cut why. weaker front) final
 
 -- the same, where the bytes were used in such steps
 pub final_behind : {A : Type 0} {a : Ahead} {s t : InputState} {used left : List ℕ} (v : InputState)
@@ -260,30 +259,19 @@ pub record ReadOn (a : Ahead) (s : InputState) (whole : Bool) (t : InputState) :
   pub is_line : MatchBool whole (is_whole_line line ≡ true) ((no_line_feed line ≡ true) × (t.unread ≡ 0))
 
 -- the unread bytes of a line that is being read are used with what was read of it
-pub read_on : {a : Ahead} {s t v : InputState} {whole : Bool} → LineSoFar a s t →
-    ((b : Ahead) → t.left ≡ Some b → MovesLine b t whole v) → ReadOn a s whole v
-read_on {whole = whole} r move =
-    let m = move _ r.moves.is_left in record {
-      line = r.line ++ m.some;
-      left = m.left;
-      moves = moves_both r.moves (moves_piece m.joins m.is_left m.unread m.reads m.at_end);
-      is_line = either_way whole (whole_after r.line m.some r.none)
-          (λ is. (none_after r.line m.some r.none is.0, is.1)) m.is_line;
-    }
-
--- where a piece of a line is used up, the line moves on by it
-pub moves_line : {a : Ahead} {s t : InputState} {piece : List ℕ} {whole : Bool} → s.left ≡ Some a →
-    IsLinePiece s piece whole → t ≡ used_up (length piece) s → MovesLine a s whole t
-moves_line {a = a} {piece = piece} {whole = whole} left is after = rw after (record {
-  some = piece;
-  left = drop (length piece) a.bytes;
-  joins = cc (is.told a left, take-append-drop (length piece) a.bytes);
-  is_left = rw left;
-  is_line = either_way whole (λ line. line) (λ line. (line.0, omega (arith, line.1))) is.is_line;
-  unread = omega arith;
-  reads = refl;
-  at_end = refl;
-})
+pub read_on : {a : Ahead} {s t v : InputState} {piece : List ℕ} {whole : Bool} → LineSoFar a s t →
+    IsLinePiece t piece whole → v ≡ used_up (length piece) t → ReadOn a s whole v
+read_on {piece = piece} {whole = whole} r is used =
+    let left = drop (length piece) r.left in
+    let joins : r.left ≡ piece ++ left =
+    cc (is.told _ r.moves.is_left, take-append-drop (length piece) r.left) in
+    rw used (record {
+      line = r.line ++ piece;
+      left = left;
+      moves = moves_both r.moves (moves_piece joins (rw r.moves.is_left) (omega (arith, is.within)) refl refl);
+      is_line = either_way whole (whole_after r.line piece r.none)
+          (λ k. (none_after r.line piece r.none k.0, omega (arith, k.1))) is.is_line;
+    })
 
 -- Byte order marks.
 -- bytes that are no unfinished byte order mark tell whether a mark is at the front, whatever follows them
@@ -323,7 +311,3 @@ pub some-or-none : {n len : ℕ} {P : Type 0} (empty : Bool) → empty ≡ (len 
     MatchBool (not empty) (0 < n) P
 some-or-none true test is none = none (grind (arith, nat_tests))
 some-or-none false test is none = grind (arith, nat_tests)
-
--- what holds where a test failed
-pub when-not : (b : Bool) (P Q : Type 0) → b ≡ false → MatchBool b P Q → Q
-when-not b P Q h k = MatchBool-at_false P Q h k

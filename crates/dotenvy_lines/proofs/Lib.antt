@@ -3,6 +3,7 @@ pub mod AskedReads
 pub mod NumberedLines
 pub mod LineJoins
 pub mod LineEntries
+pub mod LinesRead
 pub mod WalkedPieces
 pub mod LinePieces
 pub mod TakenLines

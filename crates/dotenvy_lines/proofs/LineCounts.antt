@@ -5,23 +5,18 @@ use Rattle.std.proofs.lemmas.List.{length-map}
 use Rattle.std.specs.declared.io.ErrorKind.{ErrorKind}
 use Rattle.dotenvy_format.specs.declared.dialect.Dialect.{Dialect}
 use Rattle.dotenvy_format.specs.PhysicalLines.{physical_lines, line_text, line_texts}
-use Rattle.dotenvy_format.specs.LogicalLine.{Logical, Text, Open}
-use Rattle.dotenvy_format.specs.Outcome.{Outcome}
-use Rattle.dotenvy_format.specs.Entries.{Entry, Declares, Fails, AreLogicalLines, outcome_entries, Gives, GiveAll}
+use Rattle.dotenvy_format.specs.LogicalLine.{Logical, HasText, StaysOpen}
+use Rattle.dotenvy_format.specs.Entries.{Entry, Declares, Fails, AreLogicalLines, Gives, GiveAll}
 use Rattle.dotenvy_format.specs.Items.{LookUp, meaning, or_else, with_value, items_from}
 use Rattle.dotenvy_format.specs.Decided.{up_to_last_line_feed, without_open_end}
 use Rattle.dotenvy_lines.specs.Reading.{HasEntriesLeft}
 use Rattle.dotenvy_format.proofs.lines.EntriesOnce.{some_length, next_positive}
 use Rattle.dotenvy_format.proofs.lines.DecidedFront.{front_is}
 
--- what a line says adds one entry at most
-outcome_one : (outcome : Outcome) → length (outcome_entries outcome) ≤ 1
-outcome_one outcome = grind arith
-
 -- a logical line gives one entry at most
 gives_one : (dialect : Dialect) (next : Logical) (entries : List Entry) → Gives dialect next entries →
     length entries ≤ 1
-gives_one dialect (Text text) entries (outcome, says, is) = rw is (outcome_one outcome)
+gives_one dialect (HasText text) entries (outcome, says, is) = rw is (grind arith)
 gives_one dialect _ entries gives = rw gives (omega arith)
 
 -- logical lines give no more entries than there are lines
@@ -43,7 +38,7 @@ lines_count lines (next ∷ logical) (some, k, is, later) =
 -- the logical lines before an open end are no more than all of them
 closed_count : (lines : List Logical) → length (without_open_end lines) ≤ length lines
 closed_count [] = omega arith
-closed_count (Open text n ∷ lines) = omega arith
+closed_count (StaysOpen text n ∷ lines) = omega arith
 closed_count (_ ∷ lines) = omega (arith, closed_count lines)
 
 -- bytes up to their last line feed have no more physical lines than all the bytes

@@ -3,7 +3,7 @@ use Rattle.std.proofs.Common.{◌≡◌, ◌≢◌, ℕ, length, arith, List, []
 use Rattle.std.proofs.lemmas.Option.{none-some}
 use Rattle.std.specs.declared.io.ErrorKind.{ErrorKind}
 use Rattle.dotenvy_format.specs.declared.dialect.Dialect.{Dialect}
-use Rattle.dotenvy_format.specs.LogicalLine.{Logical, Open, IsNext, IsOpenEnd}
+use Rattle.dotenvy_format.specs.LogicalLine.{Logical, StaysOpen, IsNext, IsOpenEnd}
 use Rattle.dotenvy_format.specs.Entries.{Entry, AreLogicalLines, Gives, GiveAll}
 use Rattle.dotenvy_format.specs.Decided.{up_to_last_line_feed, without_open_end, HasDecided}
 use Rattle.dotenvy_lines.specs.Input.{InputState}
@@ -35,7 +35,7 @@ left-none dialect fault bytes e f = rw (e, f) (entries-none dialect)
 decided_give : (dialect : Dialect) (next : Logical) (lines : List Logical) (front after : List Entry) →
     (IsOpenEnd next → ⊥) → Gives dialect next front → GiveAll dialect (without_open_end lines) after →
     GiveAll dialect (without_open_end (next ∷ lines)) (front ++ after)
-decided_give dialect (Open text n) lines front after no_open gives later = absurd (no_open tt)
+decided_give dialect (StaysOpen text n) lines front after no_open gives later = absurd (no_open tt)
 decided_give dialect _ lines front after no_open gives later = (front, after, gives, later, refl)
 
 -- where a logical line that is no open end is the next one, its entries are decided before those of what it leaves
@@ -50,7 +50,7 @@ decided_first dialect count next front after no_open some is_next later gives ha
 }
 
 -- the entries of the next logical line come first, and then those of what it leaves
-left_next : {count : ℕ} {bytes : List ℕ} {s t : InputState} {next : Logical} (dialect : Dialect)
+pub left_next : {count : ℕ} {bytes : List ℕ} {s t : InputState} {next : Logical} (dialect : Dialect)
     (fault : Option ErrorKind) (front after : List Entry)
     (k : TakesNext (record { bytes = bytes; fault = fault }) s next count t) → Gives dialect next front →
     HasEntriesLeft dialect fault k.left after → HasEntriesLeft dialect fault bytes (front ++ after)
@@ -62,17 +62,6 @@ left_next {count} {next = next} dialect None front after k gives has = record {
 left_next {count} {next = next} dialect (Some kind) front after k gives has =
     decided_first dialect count next front after (λ is_open. none-some kind (sym (k.open_at_end is_open))) k.some
     k.is_next (sym k.later) gives has
-
--- a logical line was taken: the entries left are its own, and then those of what it leaves
-pub took : {count : ℕ} (dialect : Dialect) (fault : Option ErrorKind) (bytes : List ℕ) (entries : List Entry)
-    (s t : InputState) (next : Logical) (front : List Entry) →
-    (k : TakesNext (record { bytes = bytes; fault = fault }) s next count t) →
-    Gives dialect next front → HasEntriesLeft dialect fault bytes entries →
-    (later : List Entry) × HasEntriesLeft dialect fault k.left later × (entries ≡ front ++ later)
-took dialect fault bytes entries s t next front k gives has =
-    let l = left_exists dialect fault k.left in
-    let all = left_next dialect fault front l.0 k gives l.1 in
-    (l.0, l.1, left_once dialect fault bytes entries (front ++ l.0) has all)
 
 -- where nothing is left no line is whole
 pub no_lines : (fault : Option ErrorKind) (left : List ℕ) → left ≡ [] →
@@ -96,7 +85,7 @@ decided-none dialect bytes undecided =
   where
     at : (lines : List Logical) → AreLogicalLines (lines_so_far bytes) lines → HasDecided dialect bytes []
     at [] are = record { lines = []; are_lines = are; give = refl }
-    at (Open text n ∷ lines) are = record { lines = Open text n ∷ lines; are_lines = are; give = refl }
+    at (StaysOpen text n ∷ lines) are = record { lines = StaysOpen text n ∷ lines; are_lines = are; give = refl }
     at (next ∷ lines) are = absurd (undecided are.1 next are.0 are.2)
 
 -- where a fault is told behind bytes that decide nothing, no entry is left

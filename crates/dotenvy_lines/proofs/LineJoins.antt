@@ -22,14 +22,14 @@ use Rattle.dotenvy_format.specs.Characters.{line_feed, byte_len}
 use Rattle.dotenvy_format.specs.PhysicalLines.{no_line_feed, physical_lines, line_text}
 use Rattle.dotenvy_format.specs.PhysicalLines.{is_whole_line, is_last_line, AreCut}
 use Rattle.dotenvy_format.specs.Decided.{up_to_last_line_feed}
-use Rattle.dotenvy_format.specs.LogicalLine.{Logical, Skip, Text, Open, Broken, IsNext, IsSkipped}
+use Rattle.dotenvy_format.specs.LogicalLine.{Logical, Skip, HasText, StaysOpen, Broken, IsNext, IsSkipped}
 use Rattle.dotenvy_format.specs.LogicalLine.{IsOpenEnd, IsOneLine}
 use Rattle.dotenvy_base.specs.Source.{Ahead}
 use Rattle.dotenvy_lines.specs.Input.{InputState, IsTold, ReadsFit, IsFinal, Moves, end_reads}
 use Rattle.dotenvy_lines.specs.inside.InputSteps.{TakesLine}
 use Rattle.dotenvy_lines.specs.Lines.{LinesState, whole_before, whole_lines, IsAtEnd, Counts, GoesOn}
 use Rattle.dotenvy_lines.specs.inside.NextLine.{lines_so_far, IsNextAlways, TakesNext, IsUndecided, AdvanceIs}
-use Rattle.dotenvy_lines.specs.inside.JoinedLines.{begun_at_end, joined_at_end, TakesJoined, JoinsNext}
+use Rattle.dotenvy_lines.specs.inside.JoinedLines.{JoinsNext}
 use Rattle.dotenvy_lines.specs.inside.JoinedLines.{is_refused, stage_if, stage_after, IsOutcome}
 use Rattle.dotenvy_lines.specs.declared.physical_line.Taken.{Taken}
 use Rattle.dotenvy_lines.specs.declared.physical_line.Taken.TheVariants.{Going as taken_going}
@@ -280,7 +280,7 @@ begun_chars text u some h = some (sym (encodes-chars text u) ∙ ap encode_utf8_
 -- what a physical line that was taken makes: texts that go on, or the next logical line; and it is counted
 abbrev pub JoinedBy : Ahead → InputState → ℕ → Taken → List ℕ → InputState → ℕ → Type 0
 JoinedBy a s before (taken_going m) now t after = Joining a s before now m t after
-JoinedBy a s before taken_ended now t after = TakesCounted a s before (Text now) t after
+JoinedBy a s before taken_ended now t after = TakesCounted a s before (HasText now) t after
 JoinedBy a s before taken_comment now t after = TakesCounted a s before Skip t after
 JoinedBy a s before taken_broken now t after = TakesCounted a s before Broken t after
 
@@ -330,33 +330,36 @@ line_joined v u now taken j finds makes one =
     let found = finds (rest_of j) j.told in
     line_joins u now taken j (record { left = found.0; fits = found.1 }) (makes (rest_of j) (found.0, j.told.1)) one
 
--- the logical line that the end of input makes is joined from the text and from the mode reached
-begun_is : {a : Ahead} {s t : InputState} {count : ℕ} (m : LineMode) (text : List ℕ) → IsUtf8 text →
-    TakesNext a s (at_input_end m (chars text)) count t → TakesJoined a s (begun_at_end m) text count t
-begun_is Outside text u k = k
-begun_is _ text u k = rw (encodes-chars text u) at k
+-- at the end of input a line in which a quote is open stays open
+pub open_at_end : (m : LineMode) (text : List ℕ) → m ≢ Outside → IsUtf8 text →
+    at_input_end m (chars text) ≡ StaysOpen (chars text) (length text)
+open_at_end Outside text other u = absurd (other refl)
+open_at_end _ text other u = rw (encodes-chars text u) refl
 
--- at the end of input, what was joined is what that makes of the text and of the mode reached
+-- at the end of input, where nothing is in the line buffer, nothing is left
+pub joining_none : {a : Ahead} {s t : InputState} {before now : ℕ} {m : LineMode} (text : List ℕ) → text ≡ [] →
+    (j : Joining a s before (chars text) m t now) → j.took.left ≡ [] →
+    (count : ℕ) × (a.bytes ≡ []) × Counts before count now
+joining_none {a} text empty j end =
+    let none = j.first (rw empty chars-nil) in
+    let lines : physical_lines a.bytes ≡ [] = sym (rw (end, none) at j.took.rest) in
+    (0, sym (concat-lines a.bytes) ∙ ap concat lines, rw none at j.took.counts)
+
+-- at the end of input, the text that was taken is the next logical line, as the mode reached makes it
 pub joining_finish : {a : Ahead} {s t v : InputState} {before now : ℕ} (text : List ℕ) (m : LineMode) → IsUtf8 text →
-    (j : Joining a s before (chars text) m t now) → Waits (rest_of j) t v → IsAtEnd a.fault j.took.left v →
-    (count : ℕ) × TakesJoined a s (joined_at_end text m) text count v × Counts before count now
-joining_finish {a} [] m u j waits end =
-    let lines : physical_lines a.bytes ≡ [] = sym (rw (end.1, j.first chars-nil) at j.took.rest) in
-    (0, (sym (concat-lines a.bytes) ∙ ap concat lines, end.0), rw (j.first chars-nil) at j.took.counts)
-joining_finish {a} {s} {t} {v} (c ∷ text) m u j waits end =
+    text ≢ [] → (j : Joining a s before (chars text) m t now) → Waits (rest_of j) t v → IsAtEnd a.fault j.took.left v →
+    TakesCounted a s before (at_input_end m (chars text)) v now
+joining_finish {a} {v = v} text m u some j waits end =
     let k = j.took in
     let texts = map Some j.taken in
     let all = rw (no_lines a.fault k.left end.1, append-nil texts) at k.lines in
-    let begun : j.taken ≢ [] = λ h. begun_chars (c ∷ text) u (λ e. cc) (j.joined ∙ ap concat h) in
+    let begun : j.taken ≢ [] = λ h. begun_chars text u some (j.joined ∙ ap concat h) in
     let some : texts ≢ [] = λ h. begun (nil_from_length j.taken (sym (length-map j.taken Some) ∙ ap length h)) in
     let cut = rw all at (cut_line_texts (whole_before a.fault a.bytes)) in
     let is_next =
     at_end j.taken m some cut (λ h. begun (j.shown [] (rw append-nil h))) (rw j.joined at j.is_going) in
-    let moves = moves_still v k.moves waits.left waits.fits in
-    let next =
-    taken_next {next = at_input_end m (chars (c ∷ text))} k moves some
-    (rw (all, j.joined, length-map j.taken Some) is_next) (λ h. end.0) (inl end) in
-    (next.0, begun_is m (c ∷ text) u next.1, next.2)
+    taken_next k (moves_still v k.moves waits.left waits.fits) some
+    (rw (all, j.joined, length-map j.taken Some) is_next) (λ h. end.0) (inl end)
 
 -- whole texts before another line, which are cut as bytes are, end with a line feed
 cut_ends : (taken : List (List ℕ)) (l : Option (List ℕ)) → AreCut (map Some taken ++ l ∷ []) → taken ≢ [] →
@@ -385,7 +388,7 @@ undecided {m = m} j front none always count next some is =
     let is_open =
     next-open j.taken m some_texts cut (λ h. begun (j.shown [] (rw append-nil h))) going inside in
     let same =
-    one_next texts (length j.taken) count (Open text (byte_len text)) next some_texts cut is_open (rw e at is) in
+    one_next texts (length j.taken) count (StaysOpen text (byte_len text)) next some_texts cut is_open (rw e at is) in
     rw (← same.1) tt
 
 -- a final fault met before a line feed, behind texts that go on, comes before a logical line is whole

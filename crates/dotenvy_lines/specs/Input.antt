@@ -67,7 +67,8 @@ ReadsFit a s b t =
     s.reads + s.unread + length b.bytes + end_reads s.at_end
     ≤ t.reads + t.unread + length a.bytes + end_reads t.at_end
 
--- the bound on reads was met on the way from s to t after a front of the bytes, of which P holds: no read is left, and each gave a byte at least
+-- the bound on reads was met on the way from s to t after a front of the bytes, of which P holds:
+-- no read is left, and each gave a byte at least
 pub record BoundIsMet (a : Ahead) (s : InputState) (P : List ℕ → Type 0) (t : InputState)
     : Type 0 where
   pub front : List ℕ

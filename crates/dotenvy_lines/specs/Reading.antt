@@ -44,7 +44,8 @@ pub record StopsAtBound (dialect : Dialect) (a : Ahead) (certain : ℕ) (read : 
   pub has_decided : HasDecided dialect (without_mark bytes) decided
   pub ends : read ≡ decided ++ Fails (Io Other) ∷ []
 
--- a reading of a from s on, where these are the entries without the byte order mark: all of them and the fault that is told; or it stops before
+-- a reading of a from s on, where these are the entries without the byte order mark: all of them and
+-- the fault that is told; or it stops before
 abbrev pub IsReading : Dialect → Ahead → InputState → List Entry → List Entry → Type 0
 IsReading dialect a s entries read =
     (read ≡ entries ++ told_fault a.fault)

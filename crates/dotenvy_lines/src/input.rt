@@ -1,14 +1,11 @@
 //! The bytes of a source, one physical line at a time.
 
-ghost use Rattle.std.specs.Prelude.{[], ◌≡◌, ◌≤◌, ◌<◌, ◌+◌, ◌==◌, true, false, Some, None, IfOk, IsOk, IsTrue, ◌↔◌, OnOk, MatchOption, position, nat_eq, length, take, drop};
+ghost use Rattle.std.specs.Prelude.{[], ◌≡◌, ◌≤◌, ◌<◌, ◌+◌, ◌==◌, true, false, Some, None, IfOk, IsOk, IsTrue, ◌↔◌, OnOk, length, take, drop};
 ghost use Rattle.std.specs.IoError.{error_kind};
 ghost use Rattle.dotenvy_base.specs.Source.{Ahead};
 ghost use Rattle.dotenvy_lines.specs.Input.{most_bytes, input_measure, DropsMark, AsksReads};
 ghost use Rattle.dotenvy_lines.specs.Lines.{fresh_lines};
-ghost use Rattle.dotenvy_lines.specs.inside.InputSteps.{WhereTold, ReadsOnce, IsAllRead, used_up, IsLinePiece, ReadsMore, FindsMore, MovesLine, SkipsLine, MarkIsUndecided, AsksOnce};
-ghost use Rattle.std.specs.List.{starts_with};
-ghost use Rattle.dotenvy_format.specs.PhysicalLines.{is_whole_line, no_line_feed};
-ghost use Rattle.dotenvy_format.specs.Marks.{byte_order_mark};
+ghost use Rattle.dotenvy_lines.specs.inside.InputSteps.{WhereTold, ReadsOnce, IsAllRead, used_up, IsLinePiece, ReadsMore, FindsMore, SkipsLine, AsksOnce};
 ghost use Rattle.dotenvy_base.specs.Errors.{IsIoOf};
 
 use crate::buffer::Buffer;
@@ -134,9 +131,9 @@ impl<R: Source, A: Allocator> Input<R, A> {
         ensures { IsLinePiece self.now result.bytes.now result.is_whole }
     {
         let unread = self.unread();
-        match whole_line_len(unread) {
-            Some(len) => LinePiece {
-                bytes: &unread[..len],
+        match memchr(b'\n', unread) {
+            Some(place) => LinePiece {
+                bytes: &unread[..place + 1],
                 is_whole: true,
             },
             None => LinePiece {
@@ -144,31 +141,6 @@ impl<R: Source, A: Allocator> Input<R, A> {
                 is_whole: false,
             },
         }
-    }
-}
-
-fn too_many_reads<A: Allocator>() -> Error<A>
-    ensures { IsIoOf (λ e. error_kind e ≡ ErrorKind.Other) result }
-{
-    Error::Io(io::Error::other("too many reads"))
-}
-
-#[tactic(auto, using(crate::proofs::Inputs::found_place))]
-fn line_feed_place(bytes: &[u8]) -> Option<usize>
-    ensures { result ≡ position (λ b. b == 10) bytes.now }
-{
-    memchr(b'\n', bytes)
-}
-
-// The length of the first line of the bytes, its LF included.
-#[tactic(auto, using(crate::proofs::Inputs::first_line))]
-fn whole_line_len(bytes: &[u8]) -> Option<usize>
-    ensures { MatchOption result (no_line_feed bytes.now ≡ true)
-        (λ n. (n ≤ length bytes.now) × (is_whole_line (take n bytes.now) ≡ true)) }
-{
-    match line_feed_place(bytes) {
-        Some(place) => Some(place + 1),
-        None => None,
     }
 }
 
@@ -204,20 +176,11 @@ impl<R: Source, A: Allocator> Input<R, A> {
         ensures asks { AsksReads (IsOk result) self.old self.new }
     {
         if self.reads_left == 0 {
-            return Err(too_many_reads());
+            return Err(Error::Io(io::Error::other("too many reads")));
         }
         self.reads_left -= 1;
         self.at_end = read_once(&mut self.reader, &mut self.buffer)?;
         Ok(())
-    }
-
-    // Nothing is unread, and more may come.
-    fn is_waiting(&self) -> bool
-        ensures waits { result ≡ true → (self.now.unread ≡ 0) × (self.now.at_end ≡ false) }
-        ensures told { (a : Ahead) → self.now.left ≡ Some a → result ≡ false →
-            self.now.unread ≡ 0 → (a.bytes ≡ []) × (a.fault ≡ None) × (self.now.at_end ≡ true) }
-    {
-        self.buffer.is_empty() && !self.at_end
     }
 
     /// Whether there is a byte to use. Reads until one is unread, or the end is read.
@@ -228,24 +191,10 @@ impl<R: Source, A: Allocator> Input<R, A> {
         ensures told { WhereTold self.old.left (λ a. FindsMore a self.old result self.new) }
         ensures asks { AsksReads (IsOk result) self.old self.new }
     {
-        'waiting: while self.is_waiting() {
+        'waiting: while self.unread().is_empty() && !self.is_at_end() {
             self.read_more()?;
         }
-        Ok(!self.buffer.is_empty())
-    }
-
-    // Uses the unread bytes of the physical line that stands next, and answers whether its LF is among them.
-    fn use_piece(&mut self) -> bool
-        ensures measure { input_measure self.new ≤ input_measure self.old }
-        ensures some { 0 < self.old.unread → input_measure self.new < input_measure self.old }
-        ensures spent { result ≡ false → self.new.unread ≡ 0 }
-        ensures told { (a : Ahead) → self.old.left ≡ Some a → MovesLine a self.old result self.new }
-        ensures asks { AsksReads (Unit {0}) self.old self.new }
-    {
-        let piece = self.line_piece();
-        let (len, is_whole) = (piece.bytes.len(), piece.is_whole);
-        self.use_up(len);
-        is_whole
+        Ok(!self.unread().is_empty())
     }
 
     /// Skips what is left of the next physical line, and keeps none of it.
@@ -257,34 +206,14 @@ impl<R: Source, A: Allocator> Input<R, A> {
         ensures asks { AsksReads (IsOk result) self.old self.new }
     {
         'skipping: loop {
-            if self.use_piece() {
-                return Ok(());
-            }
-            if self.is_at_end() {
+            let piece = self.line_piece();
+            let (len, is_whole) = (piece.bytes.len(), piece.is_whole);
+            self.use_up(len);
+            if is_whole || self.is_at_end() {
                 return Ok(());
             }
             self.read_more()?;
         }
-    }
-
-    // Whether a byte order mark may stand next, and more has to be read to know.
-    fn is_undecided(&self) -> bool
-        ensures told { (a : Ahead) → self.now.left ≡ Some a → MarkIsUndecided a self.now result }
-        ensures unended { result ≡ true → self.now.at_end ≡ false }
-        ensures short { result ≡ true → self.now.unread < 3 }
-    {
-        let unread = self.unread();
-        !self.is_at_end()
-            && unread.len() < BYTE_ORDER_MARK.len()
-            && BYTE_ORDER_MARK.starts_with(unread)
-    }
-
-    fn is_at_mark(&self) -> bool
-        ensures len { result ≡ true → 3 ≤ self.now.unread }
-        ensures told { (a : Ahead) → self.now.left ≡ Some a →
-            result ≡ starts_with nat_eq (take self.now.unread a.bytes) byte_order_mark }
-    {
-        self.unread().starts_with(&BYTE_ORDER_MARK)
     }
 
     /// Drops a byte order mark, if the next bytes are one. A part of a mark stays.
@@ -293,10 +222,13 @@ impl<R: Source, A: Allocator> Input<R, A> {
         ensures told { WhereTold self.old.left (λ a. DropsMark a self.old result self.new) }
         ensures asks { AsksReads (IsOk result) self.old self.new }
     {
-        'deciding: while self.is_undecided() {
+        'deciding: while !self.is_at_end()
+            && self.unread().len() < BYTE_ORDER_MARK.len()
+            && BYTE_ORDER_MARK.starts_with(self.unread())
+        {
             self.read_more()?;
         }
-        if self.is_at_mark() {
+        if self.unread().starts_with(&BYTE_ORDER_MARK) {
             self.use_up(BYTE_ORDER_MARK.len());
         }
         Ok(())

@@ -8,7 +8,7 @@ ghost use Rattle.dotenvy_lines.specs.Input.{most_reads, AsksReads, DropsMark};
 ghost use Rattle.dotenvy_lines.specs.inside.InputSteps.{WhereTold};
 ghost use Rattle.dotenvy_lines.specs.Lines.{lines_measure, WhereOpen, fresh_lines};
 ghost use Rattle.dotenvy_lines.specs.inside.NextLine.{AdvanceIs, outcome_of, given_text};
-ghost use Rattle.dotenvy_lines.specs.inside.JoinedLines.{joined_at_end, JoinsNext, UsesSome, stage_after, is_refused, IsOutcome};
+ghost use Rattle.dotenvy_lines.specs.inside.JoinedLines.{JoinsNext, UsesSome, stage_after, is_refused, IsOutcome};
 ghost use Rattle.dotenvy_lines.specs.inside.Splitter.{last_lines};
 
 use crate::buffer::Buffer;
@@ -40,18 +40,6 @@ pub enum Joined {
     BrokenLine,
 }
 
-fn at_input_end(text: &str, mode: LineMode) -> Joined
-    ensures { result ≡ joined_at_end text.now mode }
-{
-    if text.is_empty() {
-        return Joined::Nothing;
-    }
-    match mode {
-        LineMode::Outside => Joined::Whole,
-        _ => Joined::OpenEnd,
-    }
-}
-
 // Takes physical lines until they make a logical line, whose text is left in the line buffer, and counts them. More
 // than 2^64 - 1 are not counted; so many reads are never made.
 fn join_lines<R: Source, A: Allocator>(
@@ -69,7 +57,11 @@ fn join_lines<R: Source, A: Allocator>(
     let mut mode = LineMode::Outside;
     'joining: loop {
         if !input.has_more()? {
-            return Ok(at_input_end(text.as_str(), mode));
+            return Ok(match mode {
+                _ if text.is_empty() => Joined::Nothing,
+                LineMode::Outside => Joined::Whole,
+                _ => Joined::OpenEnd,
+            });
         }
         let taken = take_line(input, text, mode)?;
         *lines_taken = lines_taken.saturating_add(1);
@@ -275,30 +267,21 @@ fn stage_after(joined: Joined, is_used_up: bool, is_refused: bool) -> Stage
     }
 }
 
-fn broken_line<A: Allocator>() -> Error<A>
-    ensures { IsIoOf (λ e. error_kind e ≡ ErrorKind.InvalidData) result }
-{
-    Error::Io(io::Error::new(ErrorKind::InvalidData, "the line is not UTF-8"))
-}
-
-// The fault of a line that stays open: all of its text, and the length of that in bytes.
-fn open_end<A: Allocator + Clone>(alloc: &A, line: &str) -> Error<A>
-    ensures { IsMemory result ⊎ IsLineParseOf (chars line.now) (length line.now) result }
-{
-    match alloc.clone() {
-        Ok(alloc) => fault_error(alloc, line, line.len()),
-        Err(refused) => Error::Memory(refused),
-    }
-}
-
+// What `advance` returns for what was joined. The fault of a line that stays open is on all of its text.
 fn outcome<A: Allocator + Clone>(alloc: &A, joined: Joined, line: &str) -> Option<Result<(), A>>
     ensures { IsOutcome joined line.now result }
 {
     match joined {
         Joined::Nothing => None,
         Joined::Skipped | Joined::Whole => Some(Ok(())),
-        Joined::OpenEnd => Some(Err(open_end(alloc, line))),
-        Joined::BrokenLine => Some(Err(broken_line())),
+        Joined::OpenEnd => Some(Err(match alloc.clone() {
+            Ok(alloc) => fault_error(alloc, line, line.len()),
+            Err(refused) => Error::Memory(refused),
+        })),
+        Joined::BrokenLine => Some(Err(Error::Io(io::Error::new(
+            ErrorKind::InvalidData,
+            "the line is not UTF-8",
+        )))),
     }
 }
 

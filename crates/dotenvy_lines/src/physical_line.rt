@@ -99,19 +99,6 @@ fn drop_carriage_return<A: Allocator>(text: &mut String<A>)
     }
 }
 
-// Adds to a logical line what it keeps of its last physical line, where `end` ends it.
-fn keep_front<A: Allocator>(text: &mut String<A>, front: &str, end: char) -> Result<(), A>
-    ensures kept { OnOk result (chars (string_bytes text.new)
-        ≡ kept_before end (chars (string_bytes text.old) ++ chars front.now)) }
-    ensures memory { IfErr result IsMemory }
-{
-    text.push_str(front)?;
-    if end == '\n' {
-        drop_carriage_return(text);
-    }
-    Ok(())
-}
-
 // Walks a piece of a line, and keeps what the logical line keeps of it.
 fn walk_on<A: Allocator>(mode: LineMode, piece: &str, text: &mut String<A>) -> Result<Progress, A>
     ensures walks { IfOk result (WalksFrom mode (chars (string_bytes text.old)) (chars piece.now)
@@ -124,7 +111,10 @@ fn walk_on<A: Allocator>(mode: LineMode, piece: &str, text: &mut String<A>) -> R
             Ok(Progress::Going(next))
         }
         Walked::EndedAt(at, end) => {
-            keep_front(text, &piece[..at], end)?;
+            text.push_str(&piece[..at])?;
+            if end == '\n' {
+                drop_carriage_return(text);
+            }
             Ok(Progress::Ended)
         }
     }
@@ -140,26 +130,6 @@ fn still_blank(progress: Progress) -> Progress
     }
 }
 
-// One more piece of a line that was blank so far, and may begin with white space.
-fn begin_after_blanks<A: Allocator>(
-    mode: LineMode,
-    piece: &str,
-    text: &mut String<A>,
-) -> Result<Progress, A>
-    ensures walks { IfOk result (WalksOn (Progress.Blank mode) (chars (string_bytes text.old))
-        (chars piece.now) (chars (string_bytes text.new))) }
-    ensures memory { IfErr result IsMemory }
-{
-    let trimmed = piece.trim_start();
-    if trimmed.is_empty() {
-        return Ok(still_blank(walk_on(mode, piece, text)?));
-    }
-    if trimmed.starts_with('#') {
-        return Ok(Progress::Comment);
-    }
-    walk_on(mode, piece, text)
-}
-
 // One more piece of a line that was blank so far.
 #[inline(always)]
 fn begin<A: Allocator>(mode: LineMode, piece: &str, text: &mut String<A>) -> Result<Progress, A>
@@ -170,25 +140,17 @@ fn begin<A: Allocator>(mode: LineMode, piece: &str, text: &mut String<A>) -> Res
     if piece.starts_with('#') {
         return Ok(Progress::Comment);
     }
-    begin_after_blanks(mode, piece, text)
-}
-
-// One more piece of a line. What is not kept was still seen to be text.
-#[inline(always)]
-fn go_on<A: Allocator>(progress: Progress, piece: &str, text: &mut String<A>) -> Result<Progress, A>
-    ensures walks { IfOk result (WalksOn progress (chars (string_bytes text.old))
-        (chars piece.now) (chars (string_bytes text.new))) }
-    ensures memory { IfErr result IsMemory }
-{
-    match progress {
-        Progress::Blank(mode) => begin(mode, piece, text),
-        Progress::Going(mode) => walk_on(mode, piece, text),
-        Progress::Ended => Ok(Progress::Ended),
-        Progress::Comment => Ok(Progress::Comment),
+    let trimmed = piece.trim_start();
+    if trimmed.is_empty() {
+        return Ok(still_blank(walk_on(mode, piece, text)?));
     }
+    if trimmed.starts_with('#') {
+        return Ok(Progress::Comment);
+    }
+    walk_on(mode, piece, text)
 }
 
-// Takes what was read of a physical line, as far as it is text.
+// Takes what was read of a physical line, as far as it is text. What is not kept was still seen to be text.
 fn take_piece<R: Source, A: Allocator>(
     input: &mut Input<R, A>,
     text: &mut String<A>,
@@ -205,7 +167,11 @@ fn take_piece<R: Source, A: Allocator>(
     let front = text_front(piece.bytes);
     let len = front.len();
     let after = after_text(piece.bytes.len() - len, piece.is_whole, input.is_at_end());
-    let progress = go_on(progress, front, text)?;
+    let progress = match progress {
+        Progress::Blank(mode) => begin(mode, front, text)?,
+        Progress::Going(mode) => walk_on(mode, front, text)?,
+        Progress::Ended | Progress::Comment => progress,
+    };
     input.use_up(len);
     Ok(Step { progress, after })
 }

@@ -1,49 +1,34 @@
 -- What is answered of the names that are required.
-use Rattle.std.proofs.lemmas.Bool.{and_parts}
-use Rattle.std.proofs.Common.{◌≡◌, ◌≢◌, ℕ, Bool, true, false, not, ◌&&◌, cond, List, [], ◌∷◌, Ok, Err, refl}
-use Rattle.std.specs.List.{filter, list_all}
+use denote.Ref.{Bor}
+use Rattle.std.proofs.Common.{◌≡◌, ◌≢◌, ◌<◌, ℕ, zero, suc, Bool, true, false, not, cond, List, [], ◌∷◌}
+use Rattle.std.proofs.Common.{Result, Ok, Err, refl, sym, ◌∙◌, arith, get_or, length}
+use Rattle.std.specs.Prelude.{OnErr}
 use Rattle.std.specs.FinMap as fin
 use Rattle.dotenvy.specs.Environment.{Texts}
 use Rattle.env_layers.specs.declared.missing.Missing.{Missing}
 use Rattle.env_layers.specs.declared.missing.Missing.TheVariants.{Names, Memory}
-use Rattle.env_layers.specs.Missing.{absent_names, IsMemoryMissing, TellsNames, AnswersRequire}
+use Rattle.env_layers.specs.Missing.{absent_names, lent_texts, IsMemoryMissing, AnswersRequire}
 
--- where each passes a test, none fails it
-none_fails : {X : Type 0} (test : X → Bool) (xs : List X) → list_all test xs ≡ true → filter (λ x. not (test x)) xs ≡ []
-none_fails test [] all = refl
-none_fails test (x ∷ xs) all =
-    let both = and_parts (test x) (list_all test xs) all in rw both.0 (none_fails test xs both.1)
+-- a name that is absent is among the absent ones
+some_absent : (names : Texts) (asked : List (Bor (List ℕ))) (n : ℕ) (d : Bor (List ℕ)) → n < length asked →
+    fin.contains_key names (get_or asked n d).now ≡ false → absent_names names (lent_texts asked) ≢ []
+some_absent names [] n d few absent = absurd (omega (arith, few))
+some_absent names (x ∷ asked) zero d few absent = rw absent (λ e. cc)
+some_absent names (x ∷ asked) (suc n) d few absent =
+    elim (fin.contains_key names x.now) as (λ b.
+    cond (not b) (x.now ∷ absent_names names (lent_texts asked)) (absent_names names (lent_texts asked)) ≢ [])
+    [ true ↦ some_absent names asked n d (omega (arith, few)) absent | false ↦ λ e. cc ]
 
--- where not each passes a test, some fails it
-some_fails : {X : Type 0} (test : X → Bool) (xs : List X) → list_all test xs ≡ false →
-    filter (λ x. not (test x)) xs ≢ []
-some_fails test [] all none = cc
-some_fails {X = X} test (x ∷ xs) all none =
-    elim (test x) as (λ passes. (passes && list_all test xs) ≡ false →
-    cond (not passes) (x ∷ filter (λ x. not (test x)) xs) (filter (λ x. not (test x)) xs) ≡ [] → ⊥) [
-      | true ↦ some_fails test xs
-      | false ↦ λ failed is. cc
-    ] all none
+-- a call that fails at an absent name fails where some name is absent
+pub fails_with_absent : {T E : Type 0} (names : Texts) (asked : List (Bor (List ℕ))) (n : ℕ) (d : Bor (List ℕ))
+    (result : Result T E) (test : Bool) → n < length asked → test ≡ fin.contains_key names (get_or asked n d).now →
+    test ≡ false → OnErr result (absent_names names (lent_texts asked) ≢ [])
+fails_with_absent names asked n d (Ok x) test few is absent = tt
+fails_with_absent names asked n d (Err e) test few is absent = some_absent names asked n d few (sym is ∙ absent)
 
--- where each name is there, the answer is Ok
-pub answers_all : (A : Type 0) (names : Texts) (asked : List (List ℕ)) →
-    list_all (λ name. fin.contains_key names name) asked ≡ true →
-    AnswersRequire {A = A} (absent_names names asked) (Ok tt)
-answers_all A names asked all = rw (none_fails (λ name. fin.contains_key names name) asked all) refl
-
--- where not each name is there, the answer tells the absent ones, or that memory was refused
-pub answers_absent : {A : Type 0} (names : Texts) (asked : List (List ℕ)) (missing : Missing A) →
-    list_all (λ name. fin.contains_key names name) asked ≡ false → TellsNames (absent_names names asked) missing →
-    AnswersRequire (absent_names names asked) (Err missing)
-answers_absent {A = A} names asked missing all tells =
-    elim (absent_names names asked) as (λ absent. absent ≢ [] → TellsNames {A = A} absent missing →
-    AnswersRequire absent (Err missing)) [
-      | [] ↦ λ some tells. absurd (some refl)
-      | _ ∷ _ ↦ λ some tells. tells
-    ] (some_fails (λ name. fin.contains_key names name) asked all) tells
-
--- refused memory tells whatever is absent
-pub tells_memory : {A : Type 0} (absent : List (List ℕ)) (missing : Missing A) → IsMemoryMissing missing →
-    TellsNames absent missing
-tells_memory absent (Names names) is = absurd is
-tells_memory absent (Memory error) is = tt
+-- where some name is absent, the answer may be that memory was refused
+pub answers_failed : {A : Type 0} (absent : List (List ℕ)) (missing : Missing A) → absent ≢ [] →
+    IsMemoryMissing missing → AnswersRequire absent (Err missing)
+answers_failed [] missing some is = absurd (some refl)
+answers_failed (name ∷ absent) (Names names) some is = absurd is
+answers_failed (name ∷ absent) (Memory error) some is = tt

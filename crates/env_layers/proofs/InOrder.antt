@@ -24,7 +24,7 @@ use Rattle.dotenvy.specs.Meaning.{values_of, recalled_of}
 use Rattle.env_layers.specs.declared.layers.Mode.{Mode}
 use Rattle.env_layers.specs.declared.layers.Mode.TheVariants.{Keep, Override}
 use Rattle.env_layers.specs.Layers.{after_load, rule_of}
-use Rattle.env_layers.specs.Laws.{Layer, Adds, HasLayerEntries, layer_result, Applies}
+use Rattle.env_layers.specs.Laws.{Layer, IsAddCall, HasLayerEntries, layer_result, Applies}
 use Rattle.env_layers.specs.Laws.{LayersInOrder, AcceptedExactly}
 
 -- a load in either mode that was not refused memory takes all that is left
@@ -38,14 +38,14 @@ nothing_recalled = fun_ext
     (λ name. rw (fin.get-empty (slice_cmp nat_cmp) (encode_utf8_all name)) refl)
 
 -- a fresh iterator over fewer than 2^32 bytes, which tells no fault, can read them all
-can_read : {A : Type 0} (old : Texts) (layer : Layer) (new : Texts) (added : Adds A old layer new) →
+can_read : {A : Type 0} (old : Texts) (layer : Layer) (new : Texts) (added : IsAddCall A old layer new) →
     CanRead (fresh added.told V15) (record { bytes = layer.bytes; fault = None })
 can_read old layer new added = let few = added.few in
     record { is_open = refl; is_told = (added.tells, λ told. cc); few = omega (arith, few) }
 
 -- the call's load leaves and answers what the closed rule of the layer says
 leaves_rule : {A : Type 0} (old : Texts) (layer : Layer) (new : Texts) (entries : List Entry) → LoadsTakeAll A →
-    (added : Adds A old layer new) →
+    (added : IsAddCall A old layer new) →
     HasLayerEntries layer entries → Leaves (layer_result layer (values_of old) entries) added.adds.loaded added.answer
 leaves_rule old layer new entries all added has =
     let adds = added.adds in
@@ -81,7 +81,7 @@ stands before loaded (Err e) = refl
 
 -- an accepted call applies the rule of its layer
 accepted_applies : {A : Type 0} (old : Texts) (layer : Layer) (new : Texts) → HasOneReading → LoadsTakeAll A →
-    Adds A old layer new → layer.accepted ≡ true →
+    IsAddCall A old layer new → layer.accepted ≡ true →
     Applies (values_of old) layer (values_of new)
 accepted_applies old layer new one all added accepted =
     let reading = one V15 (without_mark layer.bytes) in
@@ -97,7 +97,7 @@ accepted_applies old layer new one all added accepted =
     }
 
 -- a call that was not accepted changes nothing
-refused_stays : {A : Type 0} (old : Texts) (layer : Layer) (new : Texts) → Adds A old layer new →
+refused_stays : {A : Type 0} (old : Texts) (layer : Layer) (new : Texts) → IsAddCall A old layer new →
     layer.accepted ≡ false → new ≡ old
 refused_stays old layer new added refused = added.adds.stands
     ∙ rw (stands old added.adds.loaded added.answer, ← added.accepted, refused) refl

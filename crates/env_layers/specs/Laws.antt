@@ -28,7 +28,7 @@ abbrev pub TellsAll : Told → List ℕ → Type 0
 TellsAll told bytes = told.ahead ≡ Some (record { bytes = bytes; fault = None })
 
 -- one call of `add`, as its contract says, which was not refused memory
-pub record Adds (A : Type 0) (old : Texts) (layer : Layer) (new : Texts) : Type 0 where
+pub record IsAddCall (A : Type 0) (old : Texts) (layer : Layer) (new : Texts) : Type 0 where
   pub answer : Result (Unit {0}) (Error A)
   pub told : Told
   pub tells : TellsAll told layer.bytes
@@ -55,12 +55,12 @@ pub record Applies (env : LookUp) (layer : Layer) (after : LookUp) : Type 0 wher
 -- calls of `add` one after another leave what the rules leave, applied in order to the layers that were accepted
 abbrev pub LayersInOrder : Type 0 → Type 0
 LayersInOrder A =
-    (old new : Texts) (layers : List Layer) → FoldsTo (Adds A) old layers new →
+    (old new : Texts) (layers : List Layer) → FoldsTo (IsAddCall A) old layers new →
     FoldsTo Applies (values_of old) (filter (λ layer. layer.accepted) layers) (values_of new)
 
 -- a layer is accepted exactly where its rule answers Ok
 abbrev pub AcceptedExactly : Type 0 → Type 0
 AcceptedExactly A =
-    (old new : Texts) (layer : Layer) (entries : List Entry) → Adds A old layer new →
+    (old new : Texts) (layer : Layer) (entries : List Entry) → IsAddCall A old layer new →
     HasLayerEntries layer entries →
     layer.accepted ≡ is_ok ((layer_result layer (values_of old) entries).answer)

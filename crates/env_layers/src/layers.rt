@@ -1,7 +1,5 @@
 //! Layers over an environment.
-ghost use Rattle.std.specs.Prelude.{◌≡◌, IfOk, OnErr};
-ghost use Rattle.std.specs.FinMap.{contains_key};
-ghost use Rattle.std.specs.List.{list_all};
+ghost use Rattle.std.specs.Prelude.{◌≡◌, ◌≢◌, [], IfOk, OnErr};
 ghost use Rattle.std.specs.Path.{path_bytes, path_buf_bytes};
 ghost use Rattle.dotenvy.specs.Environment.{KeepsNames};
 ghost use Rattle.dotenvy.specs.Find.{IsPathOf};
@@ -168,28 +166,24 @@ impl<A: Allocator + Clone> Layers<A> {
     pub fn require(&self, alloc: A, names: &[&str]) -> std::result::Result<(), Missing<A>>
         ensures { AnswersRequire (absent_names self.now.names (lent_texts names.now)) result }
     {
-        if self.contains_all(names) {
+        let absent = self.absent(alloc, names)?;
+        if absent.is_empty() {
             return Ok(());
         }
-        Err(Missing::Names(self.absent(alloc, names)?))
+        Err(Missing::Names(absent))
     }
 
-    fn contains_all(&self, names: &[&str]) -> bool
-        ensures { result
-            ≡ list_all (λ name. contains_key self.now.names name) (lent_texts names.now) }
-    {
-        names.iter().all(|name| self.env.contains(name))
-    }
-
-    // The names that have no value, in the order given.
+    // The names that have no value, in the order given. Memory is asked for only if there is one.
     fn absent(&self, alloc: A, names: &[&str]) -> std::result::Result<Vec<String<A>, A>, AllocError>
-        ensures { IfOk result
+        ensures ok { IfOk result
             (λ found. HoldsTexts found.items (absent_names self.now.names (lent_texts names.now))) }
+        ensures err { OnErr result (absent_names self.now.names (lent_texts names.now) ≢ []) }
     {
-        let mut absent = Vec::new(alloc.clone()?);
+        let mut absent = Vec::new(alloc);
         'names: for name in names {
             if !self.env.contains(name) {
-                absent.push(String::from_str(alloc.clone()?, name)?)?;
+                let name = String::from_str(absent.allocator().clone()?, name)?;
+                absent.push(name)?;
             }
         }
         Ok(absent)

@@ -37,21 +37,6 @@ fn write_others<A: Allocator, W: fmt::Write>(
     Ok(())
 }
 
-// Writes the names in a row, with a comma and a blank between each two.
-fn write_names<A: Allocator, W: fmt::Write>(
-    names: &[String<A>],
-    f: &mut fmt::Formatter<W>,
-) -> fmt::Result
-    ensures { WritesOnOk W.write_str_gives f.old result
-        (join_by string_bytes (codes ", ") names.now) f.new }
-{
-    let Some((first, others)) = names.split_first() else {
-        return Ok(());
-    };
-    f.write_str(first)?;
-    write_others(others, f)
-}
-
 impl<A: Allocator> fmt::Display for Missing<A> {
     ghost use Rattle.env_layers.specs.Missing.{missing_text};
     ghost use Rattle.std.specs.Prelude.{Some};
@@ -62,7 +47,11 @@ impl<A: Allocator> fmt::Display for Missing<A> {
         match self {
             Missing::Names(names) => {
                 write!(f, "environment variables not found: ")?;
-                write_names(names, f)
+                let Some((first, others)) = names.split_first() else {
+                    return Ok(());
+                };
+                f.write_str(first)?;
+                write_others(others, f)
             }
             Missing::Memory(_) => write!(f, "out of memory"),
         }

@@ -1,8 +1,8 @@
 -- What the code finds on lines, and what it then knows.
 use Rattle.std.specs.Prelude.{ℕ, ◌≡◌, ◌≢◌, ◌⊎◌, List, [], ◌∷◌, Option, Some, None, Result, Ok, Err}
-use Rattle.std.specs.Prelude.{string_bytes, IsTrue}
+use Rattle.std.specs.Prelude.{string_bytes, encode_utf8_all}
 use Rattle.std.specs.List.{flat_map}
-use denote.Ref.{Bor}
+use Rattle.std.specs.BTreeSet.{contains_text}
 use Rattle.std.specs.Str.{chars}
 use Rattle.std.specs.declared.io.ErrorKind.TheVariants.{InvalidData}
 use Rattle.dotenvy_base.specs.declared.errors.Error.{Error}
@@ -12,15 +12,12 @@ use Rattle.dotenvy_base.specs.Errors.{IsMemory}
 use Rattle.dotenvy_base.specs.Source.{Ahead}
 use Rattle.dotenvy_format.specs.declared.dialect.Dialect.{Dialect}
 use Rattle.dotenvy_format.specs.Entries.{Failure, LineParse, Io, Entry, Fails, outcome_entries}
-use Rattle.dotenvy_format.specs.Keys.{is_key}
-use Rattle.dotenvy_format.specs.Outcome.{Outcome, Nothing, Pair, Fault as SaysFault, Says}
-use Rattle.dotenvy_items.specs.declared.parse.Fault.{Fault}
-use Rattle.dotenvy_checker.specs.declared.lines.Written.{Written}
-use Rattle.dotenvy_format.specs.Value.{Piece, IsValue}
+use Rattle.dotenvy_format.specs.Outcome.{Outcome, Says}
+use Rattle.dotenvy_format.specs.Value.{Piece}
 use Rattle.dotenvy_lines.specs.declared.lines.Stage.TheVariants.{Failed}
 use Rattle.dotenvy_lines.specs.Lines.{LinesState, WhereOpen}
 use Rattle.dotenvy_lines.specs.inside.Splitter.{SplitterState, last_lines}
-use Rattle.dotenvy_checker.specs.Numbered.{at_line}
+use Rattle.dotenvy_lines.specs.Numbered.{at_line}
 use Rattle.dotenvy_checker.specs.declared.lines.Checker.{Checker}
 use Rattle.dotenvy_checker.specs.Findings.{Finding, Names, no_names, has_value, piece_findings}
 use Rattle.dotenvy_checker.specs.Findings.{declared_after, findings_from}
@@ -28,21 +25,21 @@ use Rattle.dotenvy_checker.specs.Checks.{names_in, FewLines, ReadsEntries}
 use Rattle.dotenvy_checker.specs.inside.Reports.{Adds, nothing_found}
 
 -- the names that the process has
-abbrev pub env_of : {A : Type 0} → Checker A → Names
-env_of checker = names_in checker.env.now.names
+abbrev pub process_names : {A : Type 0} → Checker A → Names
+process_names checker = names_in checker.names.env.now.names
 
 -- the names that the file declared so far
 abbrev pub declared_of : {A : Type 0} → Checker A → Names
-declared_of checker = names_in checker.declared.names
+declared_of checker name = contains_text checker.declared (encode_utf8_all name)
 
 -- the names that have a value so far: the process has them, or the file declared them
 abbrev pub known_of : {A : Type 0} → Checker A → Names
-known_of checker = has_value (env_of checker) (declared_of checker)
+known_of checker = has_value (process_names checker) (declared_of checker)
 
 -- a checker of this file, of which nothing was read, under this environment and in this dialect
 pub record IsNew {A : Type 0} (name : List ℕ) (env : Env) (dialect : Dialect) (checker : Checker A)
     : Type 0 where
-  pub environment : checker.env.now ≡ env
+  pub environment : checker.names.env.now ≡ env
   pub declared : declared_of checker ≡ no_names
   pub in_dialect : checker.dialect ≡ dialect
   pub file : checker.report.file.now ≡ name
@@ -50,29 +47,14 @@ pub record IsNew {A : Type 0} (name : List ℕ) (env : Env) (dialect : Dialect) 
   pub found : checker.report.found ≡ nothing_found
 
 -- these findings are added to the report, and nothing else changes
-pub record Finds {A : Type 0} (findings : List (ℕ × Finding)) (old new : Checker A) : Type 0 where
+pub record AddsOnly {A : Type 0} (findings : List (ℕ × Finding)) (old new : Checker A) : Type 0 where
   pub same : new ≡ record old { report = new.report }
   pub report : Adds findings old.report new.report
 
 -- the findings of these pieces of a value are added, on this line, and nothing else changes
 abbrev pub FindsPieces : {A : Type 0} → ℕ → List Piece → Checker A → Checker A → Type 0
 FindsPieces number pieces old new =
-    Finds (at_line number (flat_map (piece_findings (known_of old)) pieces)) old new
-
--- what a declaration assigns has these pieces: none where no value is assigned
-abbrev pub AssignsPieces : Dialect → Option (Bor (List ℕ)) → List Piece → Type 0
-AssignsPieces dialect None pieces = pieces ≡ []
-AssignsPieces dialect (Some text) pieces = IsValue dialect (chars text.now) pieces
-
--- what a line says: nothing, a key and the pieces of what is assigned to it, or a fault
-abbrev pub SaysWritten : Dialect → List ℕ → Result (Option Written) Fault → Type 0
-SaysWritten dialect line (Ok None) = Says dialect line Nothing
-SaysWritten dialect line (Ok (Some written)) =
-    (pieces : List Piece) × IsTrue (is_key (chars written.key.now))
-    × Says dialect line (Pair (chars written.key.now) pieces)
-    × AssignsPieces dialect written.value pieces
-SaysWritten dialect line (Err fault) =
-    Says dialect line (SaysFault (chars fault.text.now) fault.index)
+    AddsOnly (at_line number (flat_map (piece_findings (known_of old)) pieces)) old new
 
 -- the names that are declared after entries
 abbrev pub declared_by : Names → List (ℕ × Entry) → Names
@@ -84,9 +66,9 @@ declared_by declared ((number, entry) ∷ numbered) =
 pub record ChecksEntries {A : Type 0} (numbered : List (ℕ × Entry)) (old new : Checker A)
     : Type 0 where
   pub report :
-      Adds (findings_from (env_of old) (declared_of old) numbered) old.report new.report
+      Adds (findings_from (process_names old) (declared_of old) numbered) old.report new.report
   pub declared : declared_of new ≡ declared_by (declared_of old) numbered
-  pub env : env_of new ≡ env_of old
+  pub env : process_names new ≡ process_names old
   pub dialect : new.dialect ≡ old.dialect
 
 -- this entry, which is on this line, is checked
@@ -107,7 +89,8 @@ ChecksText number text old new =
     (outcome : Outcome) × Says old.dialect text outcome
     × ChecksEntries (at_line number (outcome_entries outcome)) old new
 
--- the outcome of a line is checked: what its text says, or the fault that it is; but no final fault
+-- the outcome of a line is checked: what its text says, or the fault that it is; but no final
+-- fault
 abbrev pub ChecksOutcome : {A : Type 0} → SplitterState → Result (Unit {0}) (Error A) → Checker A →
     Checker A → Type 0
 ChecksOutcome lines (Ok done) old new =

@@ -1,19 +1,10 @@
 -- What the code finds in one word.
 use Rattle.std.specs.Prelude.{ℕ, ◌≡◌, true, false, List, Result, Ok, Err, string_bytes}
-use Rattle.dotenvy_checker.specs.declared.words.Word.{Word}
-use Rattle.dotenvy_checker.specs.declared.words.Word.TheVariants.{Next, Strict, Unknown, File}
 use Rattle.dotenvy_checker.specs.declared.words.Words.{Words}
 use Rattle.dotenvy_checker.specs.declared.failure.Failure.{Failure}
 use Rattle.dotenvy_checker.specs.declared.failure.Failure.TheVariants.{UnknownOption, Write, Memory}
-use Rattle.dotenvy_checker.specs.Words.{is_option, is_next, is_strict, is_unknown, with_word}
+use Rattle.dotenvy_checker.specs.Words.{is_unknown, with_word}
 use Rattle.dotenvy_checker.specs.Answers.{asked_by}
-
--- what the word is
-abbrev pub IsWord : List ℕ → Word → Type 0
-IsWord text Next = (is_option text ≡ true) × (is_next text ≡ true)
-IsWord text Strict = (is_option text ≡ true) × (is_next text ≡ false) × (is_strict text ≡ true)
-IsWord text Unknown = (is_option text ≡ true) × (is_next text ≡ false) × (is_strict text ≡ false)
-IsWord text File = is_option text ≡ false
 
 -- one more word was added, or it is unknown, unless an allocation failed
 abbrev pub AddsWord : {A : Type 0} → Words A → List ℕ → Result (Unit {0}) (Failure A) → Words A →

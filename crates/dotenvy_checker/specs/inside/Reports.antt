@@ -9,9 +9,9 @@ use Rattle.dotenvy_checker.specs.declared.report.Finding.{Finding as CodeFinding
 use Rattle.dotenvy_checker.specs.declared.report.Finding.TheVariants as code
 use Rattle.dotenvy_checker.specs.declared.report.Found.{Found}
 use Rattle.dotenvy_checker.specs.declared.report.Report.{Report}
-use Rattle.dotenvy_checker.specs.Findings.{Finding, Wrong, NoValue, EndsAtUnderscore, LastBackslash}
+use Rattle.dotenvy_checker.specs.Findings.{Finding, Wrong, NoValue, EndsAtUnderscore, DroppedBackslash}
 use Rattle.dotenvy_checker.specs.Findings.{DeclaredTwice, is_fault}
-use Rattle.dotenvy_checker.specs.Report.{place_text, report}
+use Rattle.dotenvy_checker.specs.Report.{report}
 
 -- the finding that the code names
 abbrev pub finding_of : CodeFinding → Finding
@@ -19,7 +19,7 @@ finding_of (code.WrongText text index) = Wrong (LineParse (chars text.now) index
 finding_of code.BrokenLine = Wrong (Io InvalidData)
 finding_of (code.NoValue name) = NoValue (chars name.now)
 finding_of (code.EndsAtUnderscore name) = EndsAtUnderscore (chars name.now)
-finding_of code.LastBackslash = LastBackslash
+finding_of code.LastBackslash = DroppedBackslash
 finding_of (code.DeclaredTwice name) = DeclaredTwice (chars name.now)
 
 -- whether there are faults, and whether there are warnings, with these findings added
@@ -41,11 +41,3 @@ pub record Adds {A : Type 0} (findings : List (ℕ × Finding)) (old new : Repor
 -- nothing is found
 abbrev pub nothing_found : Found
 nothing_found = record { faults = false; warnings = false }
-
--- the place of a finding was appended to a report of this file: the file and the line
-pub record AddsPlace {A : Type 0} (line : ℕ) (old new : Report A) : Type 0 where
-  pub file : new.file.now ≡ old.file.now
-  pub text :
-      string_bytes new.text
-      ≡ string_bytes old.text ++ place_text (chars old.file.now) line
-  pub found : new.found ≡ old.found

@@ -4,7 +4,7 @@ use Rattle.std.proofs.Common.{List, [], ◌∷◌, ◌++◌, refl, sym, ap, arit
 use Rattle.std.proofs.Common.{take, drop, length, length-append, length-drop, append_assoc}
 use Rattle.std.specs.Prelude.{◌==◌, ◌||◌, Option, Some, None, unwrap_or}
 use Rattle.std.specs.List.{list_all, prefix_len, position_from}
-use Rattle.std.specs.Str.{chars, IsUtf8, encode_utf8_all}
+use Rattle.std.specs.Str.{chars, IsUtf8, IsCharBoundary, encode_utf8_all}
 use Rattle.std.proofs.Math.Utf8.{encode, scalar, scalars}
 use Rattle.std.proofs.Math.Seq.{take-append_seam, drop-append_seam}
 use Rattle.std.proofs.lemmas.List.Sums.{position_or_len_is}
@@ -71,9 +71,9 @@ class_run class (c ∷ cs) are =
     ]
 
 -- the bytes that pass at the front of a text are a text, and its characters are of the class
-pub run_passes : (class : Class) (text : List ℕ) → IsUtf8 text
-    → PassesTo (has_character class) text (prefix_len (in_run class) text)
-run_passes class text utf8 = rw utf8.1.1 at (class_run class utf8.0 utf8.1.0)
+pub run_passes : (class : Class) {text bytes : List ℕ} {end len : ℕ} → IsUtf8 text → bytes ≡ text
+    → end ≡ prefix_len (in_run class) bytes → len ≡ end → PassesTo (has_character class) text len
+run_passes class utf8 same is e = rw (e, is, same) (rw utf8.1.1 at (class_run class utf8.0 utf8.1.0))
 
 -- a search for a byte that fails, with places counted from n, tells where the bytes end that pass
 run_from : (byte : ℕ → Bool) (n : ℕ) (bytes : List ℕ)
@@ -137,6 +137,15 @@ pub passed_first : {passes : ℕ → Bool} {text rest after : List ℕ} {c : ℕ
 passed_first {text} {after} {c} utf8 passed begins h =
     let follows = rw (← passed.left) at (IsUtf8-drop text passed.len utf8 passed.front.boundary) in
     passed_run utf8 passed (first_passes follows begins h) (rw begins.bytes (sym (drop-append_seam (encode c) after)))
+
+-- the text may be cut where this is left of it
+pub passed_boundary : {passes : ℕ → Bool} {text after : List ℕ} → Passed passes text after
+    → IsCharBoundary text (length text - length after)
+passed_boundary {text} {after} passed =
+    let size = ap length passed.left in
+    let at : length text - length after ≡ passed.len =
+    omega (arith, length-drop passed.len text, passed.front.boundary.0) in
+    rw at passed.front.boundary
 
 -- where the next character fails, or there is none, what stands before is the longest front
 pub passed_all : {passes : ℕ → Bool} {text after : List ℕ} → IsUtf8 text → Passed passes text after

@@ -8,7 +8,7 @@ use Rattle.std.proofs.lemmas.List.{append-nil, map-append}
 use Rattle.dotenvy_format.specs.declared.dialect.Dialect.{Dialect}
 use Rattle.dotenvy_format.specs.Characters.{line_feed}
 use Rattle.dotenvy_format.specs.PhysicalLines.{physical_lines, line_text, line_texts, AreCut}
-use Rattle.dotenvy_format.specs.LogicalLine.{Logical, Skip, Text, Open, Broken}
+use Rattle.dotenvy_format.specs.LogicalLine.{Logical, Skip, HasText, StaysOpen, Broken}
 use Rattle.dotenvy_format.specs.LogicalLine.{IsNext, IsOpenEnd}
 use Rattle.dotenvy_format.specs.Entries.{Entry, AreLogicalLines, GiveAll, HasEntries}
 use Rattle.dotenvy_format.specs.Decided.{before_some, up_to_last_line_feed, without_open_end, HasDecided}
@@ -63,8 +63,8 @@ next_from-append m seen (Some t ∷ lines) l more some cut g closed =
 -- the next logical line is one of the first lines
 next_within : (lines : Lines) (k : ℕ) (o : Logical) → lines ≢ [] → IsNext lines k o → k ≤ length lines
 next_within lines k Skip some is = let h = some_length lines some in omega (arith, is.1, h)
-next_within lines k (Text t) some is = let h = is.1 in h.within
-next_within lines k (Open t n) some is = omega (arith, is.1)
+next_within lines k (HasText t) some is = let h = is.1 in h.within
+next_within lines k (StaysOpen t n) some is = omega (arith, is.1)
 next_within lines k Broken some is = broken_within lines k is.1
 
 -- lines with more after them are not none
@@ -95,8 +95,8 @@ IsFront xs ys = (later : List Logical) × (ys ≡ xs ++ later)
 open_or_not : (o : Logical) (os : List Logical) →
     (without_open_end (o ∷ os) ≡ []) ⊎ ((¬ (IsOpenEnd o)) × (without_open_end (o ∷ os) ≡ o ∷ without_open_end os))
 open_or_not Skip os = inr (λ h. h, refl)
-open_or_not (Text t) os = inr (λ h. h, refl)
-open_or_not (Open t n) os = inl refl
+open_or_not (HasText t) os = inr (λ h. h, refl)
+open_or_not (StaysOpen t n) os = inl refl
 open_or_not Broken os = inr (λ h. h, refl)
 
 -- the logical lines before an open end are the front of those of the same lines with any after them

@@ -12,7 +12,7 @@ use Rattle.std.proofs.Math.Utf8.{encode}
 use Rattle.dotenvy_format.specs.declared.dialect.Dialect.{Dialect}
 use Rattle.dotenvy_format.specs.PhysicalLines.{no_line_feed, physical_lines, onto_first, line_text}
 use Rattle.dotenvy_format.specs.PhysicalLines.{line_texts, AreCut, is_whole_line, is_last_line}
-use Rattle.dotenvy_format.specs.LogicalLine.{Logical, Skip, Text, Open, Broken, IsNext}
+use Rattle.dotenvy_format.specs.LogicalLine.{Logical, Skip, HasText, StaysOpen, Broken, IsNext}
 use Rattle.dotenvy_format.specs.Entries.{Entry, Fails, LineParse, Io, AreLogicalLines}
 use Rattle.dotenvy_format.specs.Entries.{outcome_entries, Gives, GiveAll, HasEntries}
 use Rattle.dotenvy_format.specs.Items.{LookUp, items}
@@ -51,8 +51,8 @@ some_length (l ∷ lines) some = omega arith
 -- where there are physical lines, the next logical line takes at least one of them
 pub next_positive : (lines : Lines) (k : ℕ) (o : Logical) → lines ≢ [] → IsNext lines k o → 0 < k
 next_positive lines k Skip some is = omega (arith, is.1)
-next_positive lines k (Text t) some is = some_lines lines k t some is.1
-next_positive lines k (Open t n) some is = let h = some_length lines some in omega (arith, is.1)
+next_positive lines k (HasText t) some is = some_lines lines k t some is.1
+next_positive lines k (StaysOpen t n) some is = let h = some_length lines some in omega (arith, is.1)
 next_positive [] k Broken some is = absurd (some refl)
 next_positive (None ∷ lines) k Broken some is = omega (arith, is.1)
 next_positive (Some t ∷ lines) k Broken some is = let e = is.1.1 in omega arith
@@ -89,15 +89,15 @@ lines_within n lines h cut = (lines_of n lines, are_lines_of n lines h cut)
 -- the entries of one logical line, computed
 abbrev pub logical_entries : (dialect : Dialect) → Logical → List Entry
 logical_entries dialect Skip = []
-logical_entries dialect (Text text) = outcome_entries (outcome_of dialect text)
-logical_entries dialect (Open text n) = Fails (LineParse text n) ∷ []
+logical_entries dialect (HasText text) = outcome_entries (outcome_of dialect text)
+logical_entries dialect (StaysOpen text n) = Fails (LineParse text n) ∷ []
 logical_entries dialect Broken = Fails (Io InvalidData) ∷ []
 
 -- a logical line gives the entries that are computed of it
 logical_gives : (dialect : Dialect) (line : Logical) → Gives dialect line (logical_entries dialect line)
 logical_gives dialect Skip = refl
-logical_gives dialect (Text text) = (outcome_of dialect text, outcome_of-is dialect text, refl)
-logical_gives dialect (Open text n) = refl
+logical_gives dialect (HasText text) = (outcome_of dialect text, outcome_of-is dialect text, refl)
+logical_gives dialect (StaysOpen text n) = refl
 logical_gives dialect Broken = refl
 
 -- logical lines give the entries that are computed of each, in order
@@ -116,9 +116,9 @@ all_give dialect (line ∷ lines) = (
 gives_once : (dialect : Dialect) (line : Logical) (es : List Entry) → Gives dialect line es →
     es ≡ logical_entries dialect line
 gives_once dialect Skip es a = a
-gives_once dialect (Text text) es (x, says, a) =
+gives_once dialect (HasText text) es (x, says, a) =
     rw (a, one_outcome dialect text x (outcome_of dialect text) says (outcome_of-is dialect text)) refl
-gives_once dialect (Open text n) es a = a
+gives_once dialect (StaysOpen text n) es a = a
 gives_once dialect Broken es a = a
 
 -- the entries that logical lines give are those that are computed of each, in order

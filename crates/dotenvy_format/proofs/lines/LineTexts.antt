@@ -20,7 +20,7 @@ use Rattle.dotenvy_format.specs.declared.text.Class.{Class}
 use Rattle.dotenvy_format.specs.declared.text.Class.TheVariants.{Token, Quoted}
 use Rattle.dotenvy_format.specs.Characters.{begins_with, hash, line_feed}
 use Rattle.dotenvy_format.specs.LogicalLine.{without_carriage_return}
-use Rattle.dotenvy_format.specs.inside.Walk.{going, leads, kept_before, walk, PassesRun, WalksText}
+use Rattle.dotenvy_format.specs.inside.Walk.{going, leads, kept_before, walk, WalksTo, WalksText}
 use Rattle.dotenvy_format.specs.inside.Slices.{BeginsWith, IsSpan, has_character}
 use Rattle.dotenvy_format.proofs.bytes.Slices.{first_alone, begins_shorter}
 
@@ -133,35 +133,17 @@ quoted_stays quote c h = grind (arith, nat_tests)
 pub run_passes : {m : LineMode} (class : Class) {text front rest : List ℕ} → text ≡ front ++ rest → IsUtf8 front →
     IsUtf8 rest →
     ((c : ℕ) → has_character class c ≡ true → leads m c ≡ Some m) →
-    IsSpan (has_character class) (chars text) (chars front) (chars rest) → PassesRun m text rest
+    IsSpan (has_character class) (chars text) (chars front) (chars rest) → WalksTo m text m rest
 run_passes {m} class {front} splits u v stays span = record {
   front = front;
   splits = splits;
   front_text = u;
   rest_text = v;
-  stays = λ seen. stays_all m (has_character class) stays seen (chars front) span.pass;
+  walks = λ seen. stays_all m (has_character class) stays seen (chars front) span.pass;
 }
-
--- where no character is passed, the mode stays and the whole text is left
-pub run_none : {m : LineMode} {text : List ℕ} → IsUtf8 text → PassesRun m text text
-run_none u = record {
-  front = [];
-  splits = refl;
-  front_text = IsUtf8-nil;
-  rest_text = u;
-  stays = λ seen. rw chars-nil;
-}
-
--- a walk over the characters of a line: some of its front led from a mode to a mode, and this is left
-pub record Walking (start : LineMode) (line : List ℕ) (m : LineMode) (rest : List ℕ) : Type 0 where
-  pub front : List ℕ
-  pub splits : line ≡ front ++ rest
-  pub front_text : IsUtf8 front
-  pub rest_text : IsUtf8 rest
-  pub walks : (seen : List ℕ) → walk start seen (chars front) ≡ going m
 
 -- a walk over a text begins with nothing passed and the whole text left
-pub walking_start : {start : LineMode} {line : List ℕ} → IsUtf8 line → Walking start line start line
+pub walking_start : {start : LineMode} {line : List ℕ} → IsUtf8 line → WalksTo start line start line
 walking_start u = record {
   front = [];
   splits = refl;
@@ -171,7 +153,7 @@ walking_start u = record {
 }
 
 -- a walk over a line is one over what was passed, then one over what is left
-walks_line : {start m : LineMode} {line rest : List ℕ} (w : Walking start line m rest) (seen : List ℕ) →
+walks_line : {start m : LineMode} {line rest : List ℕ} (w : WalksTo start line m rest) (seen : List ℕ) →
     walk start seen (chars line) ≡ walk m (seen ++ chars w.front) (chars rest)
 walks_line {start} {m} {rest} w seen =
     rw (w.splits, chars-append w.front rest w.front_text) (walk-more start m seen (chars w.front) (chars rest)
@@ -182,9 +164,9 @@ pub char_text : (rest after : List ℕ) (c : ℕ) → IsUtf8 rest → rest ≡ e
 char_text rest after c u e = (first_alone rest after c u e).0
 
 -- a walk may pass over a text more, which leads on to another mode
-walking_more : {start m n : LineMode} {line rest after : List ℕ} (more : List ℕ) → Walking start line m rest →
+walking_more : {start m n : LineMode} {line rest after : List ℕ} (more : List ℕ) → WalksTo start line m rest →
     rest ≡ more ++ after → IsUtf8 more → IsUtf8 after → ((seen : List ℕ) → walk m seen (chars more) ≡ going n) →
-    Walking start line n after
+    WalksTo start line n after
 walking_more {start} {m} {after} more w splits u v goes = record {
   front = w.front ++ more;
   splits = rw (w.splits, splits, append_assoc);
@@ -196,19 +178,19 @@ walking_more {start} {m} {after} more w splits u v goes = record {
 }
 
 -- a walk may pass over a run of characters that leave the mode as it is
-pub walking_run : {start m : LineMode} {line rest after : List ℕ} → Walking start line m rest →
-    PassesRun m rest after → Walking start line m after
-walking_run w run = walking_more run.front w run.splits run.front_text run.rest_text run.stays
+pub walking_run : {start m : LineMode} {line rest after : List ℕ} → WalksTo start line m rest →
+    WalksTo m rest m after → WalksTo start line m after
+walking_run w run = walking_more run.front w run.splits run.front_text run.rest_text run.walks
 
 -- a walk may pass over a character that leads to another mode, and goes on in that mode
-pub walking_step : {start m n : LineMode} {line rest after : List ℕ} {c : ℕ} → Walking start line m rest →
-    BeginsWith rest c after → Some n ≡ leads m c → Walking start line n after
+pub walking_step : {start m n : LineMode} {line rest after : List ℕ} {c : ℕ} → WalksTo start line m rest →
+    BeginsWith rest c after → Some n ≡ leads m c → WalksTo start line n after
 walking_step {rest} {after} {c} w begins h =
     let one = first_alone rest after c w.rest_text begins.bytes in
     walking_more (encode c) w begins.bytes one.0 begins.follows (λ seen. rw (one.1, ← h))
 
 -- a walk whose next character ends the logical line ends with that character, at the place before it
-pub walking_ends : {start m : LineMode} {line rest after : List ℕ} {c : ℕ} → Walking start line m rest →
+pub walking_ends : {start m : LineMode} {line rest after : List ℕ} {c : ℕ} → WalksTo start line m rest →
     BeginsWith rest c after → None ≡ leads m c → WalksText start line (EndedAt (length line - length rest) c)
 walking_ends {line} {rest} w begins h =
     let size = ap length w.splits in
@@ -221,12 +203,12 @@ walking_ends {line} {rest} w begins h =
     )
 
 -- a walk with nothing left went over the whole text, and leads to the mode that it reached
-pub walking_done : {start m : LineMode} {line rest : List ℕ} → Walking start line m rest → rest ≡ [] →
+pub walking_done : {start m : LineMode} {line rest : List ℕ} → WalksTo start line m rest → rest ≡ [] →
     WalksText start line (Going m)
 walking_done w h = λ seen. rw (walks_line w seen, h, chars-nil)
 
 -- after a run and a character less is left
-pub run_smaller : {m : LineMode} {text rest after : List ℕ} {c : ℕ} → PassesRun m text rest → BeginsWith rest c after →
+pub run_smaller : {m : LineMode} {text rest after : List ℕ} {c : ℕ} → WalksTo m text m rest → BeginsWith rest c after →
     length after < length text
 run_smaller {rest} run begins =
     let less = begins_shorter begins in omega (arith, ap length run.splits, length-append run.front rest)

@@ -13,7 +13,7 @@ use Rattle.std.proofs.Math.Nat.{add-zero}
 use Rattle.dotenvy_format.specs.Characters.{hash, byte_len, begins_with}
 use Rattle.dotenvy_format.specs.PhysicalLines.{AreCut, is_last_line}
 use Rattle.dotenvy_format.specs.LogicalLine.{input_end, IsOneLine, IsWhole, with_text_before, joined_text}
-use Rattle.dotenvy_format.specs.LogicalLine.{IsSkipped, IsFirstBroken, Logical, Skip, Text, Open}
+use Rattle.dotenvy_format.specs.LogicalLine.{IsSkipped, IsFirstBroken, Logical, Skip, HasText, StaysOpen}
 use Rattle.dotenvy_format.specs.LogicalLine.{Broken, IsNext}
 use Rattle.dotenvy_format.specs.declared.walk.LineMode.{LineMode}
 use Rattle.dotenvy_format.specs.declared.walk.LineMode.TheVariants.{Outside}
@@ -57,7 +57,7 @@ next-skip text lines h = (h, refl)
 -- where the texts taken are a whole logical line, and no comment is skipped, they are the next logical line
 pub next-text : (taken : List (List ℕ)) (lines : Lines) (kept : List ℕ) → ¬ (IsSkipped (map Some taken ++ lines)) →
     IsWhole (concat taken) kept (length taken ≡ length (map Some taken ++ lines)) →
-    IsNext (map Some taken ++ lines) (length taken) (Text kept)
+    IsNext (map Some taken ++ lines) (length taken) (HasText kept)
 next-text taken lines kept shown whole = (
   shown,
   record {
@@ -71,13 +71,13 @@ next-text taken lines kept shown whole = (
 -- where the input ends after the texts taken, anywhere but outside, the next logical line is an open end
 pub next-open : (taken : List (List ℕ)) (m : LineMode) → map Some taken ≢ [] → AreCut (map Some taken) →
     ¬ (IsSkipped (map Some taken)) → IsGoing (concat taken) m → m ≢ Outside →
-    IsNext (map Some taken) (length taken) (Open (concat taken) (byte_len (concat taken)))
+    IsNext (map Some taken) (length taken) (StaysOpen (concat taken) (byte_len (concat taken)))
 next-open taken m some cut shown g differs = (
   shown,
   sym (length-map taken Some),
   joined-texts taken,
   λ j kept is.
-      let e : Text kept ≡ at_input_end m (concat taken) =
+      let e : HasText kept ≡ at_input_end m (concat taken) =
       text_kind taken [] m j kept g (rw append-nil cut) (rw append-nil is) in
       ⊎_elim (λ h. differs h.0) (λ h. let f = h.1 in cc) (mode_ends m (concat taken)),
   refl,
@@ -90,7 +90,7 @@ pub next-broken : (taken : List (List ℕ)) (lines : Lines) (m : LineMode) → A
 next-broken taken lines m cut shown g = (
   shown,
   broken_at taken lines,
-  λ j kept below is. let e : Text kept ≡ Broken = text_kind taken (None ∷ lines) m j kept g cut is in cc,
+  λ j kept below is. let e : HasText kept ≡ Broken = text_kind taken (None ∷ lines) m j kept g cut is in cc,
 )
 
 -- The next logical line as one function: a comment as a whole line is skipped, else the loop tells it.

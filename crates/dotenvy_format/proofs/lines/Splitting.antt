@@ -8,7 +8,7 @@ use Rattle.std.proofs.lemmas.List.Folds.{list_all-append}
 use Rattle.std.proofs.lemmas.Grind.{flat_map-append}
 use Rattle.std.proofs.lemmas.Bool.Decides.{nat_tests}
 use Rattle.dotenvy_format.specs.Characters.{is_blank, is_quote, line_feed, backslash, hash}
-use Rattle.dotenvy_format.specs.Tokens.{QuotedCharacter, one, pair, Token, plain, backslash_pair}
+use Rattle.dotenvy_format.specs.Tokens.{QuotedCharacter, one, pair, Token, one_character, backslash_pair}
 use Rattle.dotenvy_format.specs.Tokens.{quoted, blank_pair, blank, quoted_text, token_text, tokens_text}
 use Rattle.dotenvy_format.specs.Tokens.{is_quoted, stands_for_itself, is_before_break, IsToken, AreTokens}
 use Rattle.dotenvy_format.specs.LogicalLine.{Ending, line_end, escaped_line_end, comment, input_end}
@@ -193,7 +193,7 @@ lead_outside {seen = seen} {cs = cs} last c t = elim (outside_leads c) [
   | inr (inl h) ↦ rw h.1 (grow t (rw (t.is_part, h.0) refl))
   | inr (inr (inl h)) ↦ rw h.1 (grow t (record { inner = []; quote = h.0; are = refl; is = rw t.is_part refl }))
   | inr (inr (inr (inl h))) ↦ rw h.1 (grow t (c, h.0, rw t.is_part refl))
-  | inr (inr (inr (inr h))) ↦ rw h.1 (close (plain c) (grow t (rw t.is_part refl)) h.0)
+  | inr (inr (inr (inr h))) ↦ rw h.1 (close (one_character c) (grow t (rw t.is_part refl)) h.0)
 ]
 
 -- where a character leads is what was read
@@ -333,7 +333,7 @@ walk_alone seen (c ∷ after) h = rw (leads_alone c h) refl
 walk_token : (t : Token) (seen after other : List ℕ) → IsToken t after →
     (is_before_break after ≡ true → is_before_break other ≡ true) →
     walk Outside seen (token_text t ++ other) ≡ walk Outside (seen ++ token_text t) other
-walk_token (plain c) seen after other is alone = rw (plain_leads c is) refl
+walk_token (one_character c) seen after other is alone = rw (plain_leads c is) refl
 walk_token (backslash_pair c) seen after other is alone = elim (escaping_leads c) [
   | inl h ↦ let e : true ≡ false = rw h.0 at (sym is) in cc
   | inr h ↦ rw h.1 (rw append_assoc refl)

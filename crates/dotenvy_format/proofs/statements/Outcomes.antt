@@ -12,6 +12,7 @@ use Rattle.dotenvy_format.specs.Outcome.{HasNoValue}
 use Rattle.dotenvy_format.specs.inside.ParseStatement.{Parsed, parse}
 use Rattle.dotenvy_format.specs.inside.ReadValue.{ValueReading, read_value, value_reach, base}
 use Rattle.std.proofs.lemmas.Bool.{not-true}
+use Rattle.std.proofs.lemmas.Bool.Decides.{nat_tests}
 use Rattle.dotenvy_format.proofs.statements.Statements.{statement-parses}
 use Rattle.dotenvy_format.proofs.statements.StatementPlaces.{by_test, parse-statement, parse-fault, statement_fronts}
 use Rattle.dotenvy_format.proofs.values.Values.{read-value, value-read, no_value}
@@ -48,28 +49,19 @@ value_says : (dialect : Dialect) (line key rest : List ℕ) → is_nothing (trim
 value_says dialect line key rest some is h (Some pieces) e =
     (rw some, rest, is, inr (rw h, value-read dialect rest pieces e))
 value_says dialect line key rest some is h None e =
-    let place = value_place dialect rest in
-    let fault : HasNoValue dialect rest (value_index rest (value_reach dialect rest (base Unquoted))) =
-    record { assigned = rw h; none = no_value dialect rest e; place = _; is_place = place; index_is = refl } in
-    (rw some, inr (key, is, fault))
+    grind (arith, nat_tests, value_place dialect rest, no_value dialect rest e)
 
 -- a line that is neither empty nor a comment says what it is parsed as
 statement_says : (dialect : Dialect) (line : List ℕ) → is_nothing (trimmed line) ≡ false → (r : Parsed) →
     parse (trimmed line) ≡ r → Says dialect line (statement_outcome dialect line r)
 statement_says dialect line some (Ok (key, rest)) e =
-    let is = parse-statement (trimmed line) key rest e in
-    by_test (is_empty_or_comment rest) (λ h. rw h (rw some, rest, is, inl (h, refl)))
-    (λ h. rw h (value_says dialect line key rest some is h (read_value dialect rest (base Unquoted)) refl))
+    grind (arith, nat_tests, parse-statement (trimmed line) key rest e, by_test, value_says)
 statement_says dialect line some (Err left) e =
-    let (none, front, spelled, is_place) = parse-fault (trimmed line) left e in
-    let length_is = front_length (trimmed line) front left spelled in
-    (rw some, inl (record { none = none; place = _; is_place = is_place; line_is = refl; index_is = rw length_is }))
+    grind (arith, nat_tests, parse-fault (trimmed line) left e, front_length)
 
 -- each line says what is computed
 pub outcome_of-is : (dialect : Dialect) (line : List ℕ) → Says dialect line (outcome_of dialect line)
-outcome_of-is dialect line =
-    by_test (is_nothing (trimmed line)) (λ h. rw h h)
-    (λ h. rw h (statement_says dialect line h (parse (trimmed line)) refl))
+outcome_of-is dialect line = grind (arith, nat_tests, by_test, statement_says)
 
 -- a line says only what is computed
 says_only : (dialect : Dialect) (line : List ℕ) (a : Outcome) → Says dialect line a → a ≡ outcome_of dialect line

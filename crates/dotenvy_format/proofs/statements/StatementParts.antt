@@ -1,5 +1,5 @@
 -- What the slices of a line are to the parser of statements over its characters.
-use Rattle.std.proofs.Common.{◌≡◌, ℕ, Bool, true, length, not, ◌&&◌, List, [], ◌∷◌, ◌++◌, refl, sym, ap, ◌∙◌}
+use Rattle.std.proofs.Common.{◌≡◌, ℕ, Bool, true, length, not, ◌&&◌, List, [], ◌∷◌, ◌++◌, refl, sym, ap, ◌∙◌, arith}
 use Rattle.std.specs.Char.{is_whitespace}
 use Rattle.std.specs.Prelude.{◌==◌, bytes_eq, Ok}
 use Rattle.std.specs.List.{list_all}
@@ -13,12 +13,12 @@ use Rattle.dotenvy_format.specs.Characters.{begins_key, continues_key, begins_pa
 use lib.Utf8.{scalar, encode}
 use Rattle.dotenvy_format.specs.inside.Slices.{IsSpan}
 use Rattle.dotenvy_format.proofs.bytes.Slices.{no_characters}
-use Rattle.dotenvy_format.specs.inside.ParseStatement.{export, run, after_run, split_key}
+use Rattle.dotenvy_format.specs.inside.ParseStatement.{export, passing_front, after_passing, split_key}
 
 -- characters that pass the test, before a text that begins with none, are the run, and that text is left
 pub run_is : (passes : ℕ → Bool) (front rest : List ℕ) → list_all passes front ≡ true →
     not (begins_passing passes rest) ≡ true →
-    (run passes (front ++ rest) ≡ front) × (after_run passes (front ++ rest) ≡ rest)
+    (passing_front passes (front ++ rest) ≡ front) × (after_passing passes (front ++ rest) ≡ rest)
 run_is passes [] [] h longest = (refl, refl)
 run_is passes [] (c ∷ rest) h longest = (rw (not-true (passes c) longest) refl, rw (not-true (passes c) longest) refl)
 run_is passes (c ∷ front) rest h longest =
@@ -29,8 +29,7 @@ run_is passes (c ∷ front) rest h longest =
 pub span_splits : {text key left : List ℕ} → begins_passing begins_key text ≡ true →
     IsSpan continues_key text key left → split_key text ≡ Ok (key, skip_leading_whitespace left)
 span_splits {text} {key} {left} begins span =
-    let is = run_is continues_key key left span.pass span.longest in
-    rw (begins, span.spelled, is.0, is.1) refl
+    grind (arith, run_is continues_key key left span.pass span.longest)
 
 -- a text of Unicode scalar values has such alone without the white space at its front
 scalars-skip : (cs : List ℕ) → all_scalars cs ≡ true → all_scalars (skip_leading_whitespace cs) ≡ true

@@ -14,7 +14,8 @@ use Rattle.dotenvy_format.specs.Characters.{byte_len}
 use Rattle.dotenvy_format.specs.Statement.{IsStatement, IsPrefix, is_white_space}
 use Rattle.dotenvy_format.specs.Places.{BeginsStatement, IsPlace}
 use Rattle.dotenvy_format.specs.inside.Slices.{IsSpan}
-use Rattle.dotenvy_format.specs.inside.ParseStatement.{◌>>=◌, split_key, export, Parsed, run, after_run, after_key}
+use Rattle.dotenvy_format.specs.inside.ParseStatement.{◌>>=◌, split_key, export, Parsed}
+use Rattle.dotenvy_format.specs.inside.ParseStatement.{passing_front, after_passing, after_key}
 use Rattle.dotenvy_format.specs.inside.ParseStatement.{after_prefix, after_first_key, parse}
 use Rattle.dotenvy_format.proofs.KeyCharacters.{key_begins_continues}
 use Rattle.dotenvy_format.proofs.statements.Statements.{IsCut, cut_splits, skip_is, skip_white, equals_cut, parse_cut}
@@ -25,7 +26,7 @@ pub by_test : {A : Type 0} (b : Bool) → (b ≡ true → A) → (b ≡ false �
 by_test b holds fails = ⊎_elim holds fails (cases_Bool b)
 
 -- a text is its longest first part that passes the test, and what follows
-span : (passes : ℕ → Bool) (cs : List ℕ) → IsSpan passes cs (run passes cs) (after_run passes cs)
+span : (passes : ℕ → Bool) (cs : List ℕ) → IsSpan passes cs (passing_front passes cs) (after_passing passes cs)
 span passes [] = record { spelled = refl; pass = refl; longest = refl }
 span passes (c ∷ cs) =
     let later = span passes cs in
@@ -34,18 +35,18 @@ span passes (c ∷ cs) =
     (λ h. rw h (record { spelled = refl; pass = refl; longest = rw h }))
 
 -- a text is white space, if any, and what is left when that is skipped
-white_span : (cs : List ℕ) → IsSpan is_whitespace cs (run is_whitespace cs) (skip_leading_whitespace cs)
+white_span : (cs : List ℕ) → IsSpan is_whitespace cs (passing_front is_whitespace cs) (skip_leading_whitespace cs)
 white_span cs = rw (skip_is cs) (span is_whitespace cs)
 
 -- a text that begins a key is cut behind the key and white space
 split_cuts : (text : List ℕ) → begins_passing begins_key text ≡ true →
-    IsCut text (run continues_key text) (skip_leading_whitespace (after_run continues_key text))
+    IsCut text (passing_front continues_key text) (skip_leading_whitespace (after_passing continues_key text))
 split_cuts [] h = cc
 split_cuts (c ∷ cs) h =
     let key = span continues_key (c ∷ cs) in
-    let gap = white_span (after_run continues_key (c ∷ cs)) in
+    let gap = white_span (after_passing continues_key (c ∷ cs)) in
     record {
-      gap = run is_whitespace (after_run continues_key (c ∷ cs));
+      gap = passing_front is_whitespace (after_passing continues_key (c ∷ cs));
       is_key = rw (key_begins_continues c h) (and_from _ _ h (span continues_key cs).pass);
       white = gap.pass;
       spelled = cc (key.spelled, gap.spelled);
@@ -106,7 +107,7 @@ found start cut cs e = let rest = white_span cs in record {
   indent = start.indent;
   prefix = start.prefix;
   before = cut.gap;
-  after = run is_whitespace cs;
+  after = passing_front is_whitespace cs;
   white_space = and_from _ _ (and_from _ _ start.white cut.white) rest.pass;
   is_prefix = start.is_prefix;
   is_key = cut.is_key;
@@ -142,11 +143,12 @@ word_right : (start : Start) (text : List ℕ) → begins_passing begins_key tex
     Right (start.indent ++ (start.prefix ++ text)) (split_key text >>= λ cut. after_word start.is_prefix cut.0 cut.1)
 word_right start text begins others =
     let cut = split_cuts text begins in
-    let left = skip_leading_whitespace (after_run continues_key text) in
+    let left = skip_leading_whitespace (after_passing continues_key text) in
     rw (cut_splits cut) (by_test (begins_with equals_sign left)
     (λ h.
     let equals = equals_text left h in
-    rw (equals.1, after_equals start.is_prefix (run continues_key text) equals.0) (found start cut equals.0 equals.1))
+    rw (equals.1, after_equals start.is_prefix (passing_front continues_key text) equals.0)
+    (found start cut equals.0 equals.1))
     (others _ _ cut))
 
 -- after a key that is no prefix, what is no `=` is a fault
@@ -192,7 +194,7 @@ first_right {text} {key} {left} indent white cut no_equals =
 -- what is parsed of a line is right
 parse-right : (line : List ℕ) → Right line (parse line)
 parse-right line =
-    let indent = run is_whitespace line in
+    let indent = passing_front is_whitespace line in
     let white = white_span line in
     let text = skip_leading_whitespace line in
     let start : Start = record { indent = indent; prefix = []; white = white.pass; is_prefix = inl refl } in

@@ -9,7 +9,7 @@ use Rattle.std.proofs.lemmas.Bool.{and_parts}
 use Rattle.dotenvy_format.specs.Characters.{begins_key, continues_key, equals_sign, begins_passing, begins_with}
 use Rattle.dotenvy_format.specs.Statement.{IsStatement, IsPrefix, is_white_space, begins_with_white_space}
 use Rattle.dotenvy_format.specs.Keys.{is_key}
-use Rattle.dotenvy_format.specs.inside.ParseStatement.{export, after_run, split_key}
+use Rattle.dotenvy_format.specs.inside.ParseStatement.{export, after_passing, split_key}
 use Rattle.dotenvy_format.specs.inside.ParseStatement.{Parsed, after_key, after_prefix, after_first_key}
 use Rattle.dotenvy_format.specs.inside.ParseStatement.{trimmed_statement, parse}
 use Rattle.dotenvy_format.proofs.KeyCharacters.{key_continues}
@@ -30,7 +30,7 @@ white_no_key : (c : ℕ) → is_whitespace c ≡ true → continues_key c ≡ fa
 white_no_key c h = grind (arith, nat_tests, h)
 
 -- to skip white space is to take what follows its longest run
-pub skip_is : (cs : List ℕ) → skip_leading_whitespace cs ≡ after_run is_whitespace cs
+pub skip_is : (cs : List ℕ) → skip_leading_whitespace cs ≡ after_passing is_whitespace cs
 skip_is [] = refl
 skip_is (c ∷ cs) = rw (skip_is cs)
 

@@ -48,10 +48,13 @@ taken (suc n) (c ∷ text) h =
 pub row_boundary : (text : List ℕ) (i : ℕ) → IsUtf8 text → 0 < i → i ≤ prefix_len is_backslash text
     → IsCharBoundary text i
 row_boundary text i utf8 some most =
-    let passes = prefix_len_passes is_backslash text (i - 1) 0 (omega arith) in
-    let here : i ≡ i - 1 + 1 = omega arith in
-    rw here (IsCharBoundary-after_ascii text (i - 1) utf8
-    (omega (arith, prefix_len-le-length is_backslash text)) (grind (arith, nat_tests, passes)))
+    grind (
+      arith,
+      nat_tests,
+      prefix_len_passes is_backslash text (i - 1) 0 (omega arith),
+      IsCharBoundary-after_ascii,
+      prefix_len-le-length is_backslash text,
+    )
 
 -- after a backslash, an odd number of backslashes is read as half of them, and one, each as its own text
 row_read : (dialect : Dialect) (q : Quoting) (half : ℕ) (cs : List ℕ) →

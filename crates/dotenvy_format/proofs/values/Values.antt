@@ -13,7 +13,7 @@ use Rattle.dotenvy_format.specs.declared.text.Quoting.{Quoting}
 use Rattle.dotenvy_format.specs.declared.text.Quoting.TheVariants.{Unquoted, DoubleQuoted}
 use Rattle.dotenvy_format.specs.Value.{Piece, Text, Name, Part}
 use Rattle.dotenvy_format.specs.Value.{plain, escape, braced, bare, bare_before, Segment}
-use Rattle.dotenvy_format.specs.Value.{unquoted_part, single, double, Close, nothing}
+use Rattle.dotenvy_format.specs.Value.{unquoted_part, single, double, Close, no_close}
 use Rattle.dotenvy_format.specs.Value.{lone_backslash, bare_name, tail, part_text, parts_text}
 use Rattle.dotenvy_format.specs.Value.{segment_text, segments_text, close_text}
 use Rattle.dotenvy_format.specs.Value.{part_pieces, segment_pieces, close_pieces, is_plain}
@@ -65,7 +65,7 @@ read_segment dialect (double inner) cs is =
 -- what may be at the end of a value is read as what it means
 read_close : (dialect : Dialect) (close : Close) → IsClose dialect close →
     read_value dialect (close_text close) (base Unquoted) ≡ Some (close_pieces close)
-read_close dialect nothing is = refl
+read_close dialect no_close is = refl
 read_close dialect lone_backslash is = refl
 read_close dialect (bare_name name) is =
     (read_then name_begun (rw append-nil at (name_run {q = Unquoted} name [] is))).reads
@@ -297,7 +297,7 @@ IsRight dialect m text r = MatchOption r (Unit {0}) (λ pieces. IsRead dialect m
 
 -- what the end of the text gives is right in every sound mode
 end_right : (dialect : Dialect) (m : ValueMode) → IsValueMode dialect m → IsRight dialect m [] (value_at_end m)
-end_right dialect (base Unquoted) ok = close_value nothing tt
+end_right dialect (base Unquoted) ok = close_value no_close tt
 end_right dialect (escaping Unquoted) ok = close_value lone_backslash tt
 end_right dialect (naming Unquoted name) ok = rw append-nil (close_value (bare_name name) ok)
 end_right dialect in_tail ok =

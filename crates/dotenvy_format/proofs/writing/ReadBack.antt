@@ -13,7 +13,7 @@ use Rattle.dotenvy_format.specs.declared.text.Quoting.TheVariants.{DoubleQuoted}
 use Rattle.dotenvy_format.specs.declared.dialect.Dialect.{Dialect}
 use Rattle.dotenvy_format.specs.Characters.{double_quote, equals_sign, begins_key, continues_key}
 use Rattle.dotenvy_format.specs.Value.{Piece, Text, Part, plain, escape, double}
-use Rattle.dotenvy_format.specs.Value.{nothing, parts_text, part_pieces}
+use Rattle.dotenvy_format.specs.Value.{no_close, parts_text, part_pieces}
 use Rattle.dotenvy_format.specs.Value.{IsPart, AreParts, IsValue}
 use Rattle.dotenvy_format.specs.Statement.{IsStatement}
 use Rattle.dotenvy_format.specs.Keys.{is_key}
@@ -66,7 +66,7 @@ pub quoted_is_value : (dialect : Dialect) (text : List ℕ) →
     IsValue dialect (quoted_text_of text) (character_pieces text)
 quoted_is_value dialect text = record {
   segments = double (map part_of text) ∷ [];
-  close = nothing;
+  close = no_close;
   are_segments = (are_parts_of dialect text (double_quote ∷ []), tt);
   is_close = tt;
   spelled = simp (written_parts, append-nil, append_assoc);

@@ -13,11 +13,11 @@ use Rattle.dotenvy_format.specs.declared.dialect.Dialect.{Dialect}
 use Rattle.dotenvy_format.specs.Characters.{double_quote, equals_sign, line_feed}
 use Rattle.dotenvy_format.specs.Characters.{begins_key, continues_key}
 use Rattle.dotenvy_format.specs.PhysicalLines.{physical_lines, onto_first}
-use Rattle.dotenvy_format.specs.Tokens.{QuotedCharacter, one, pair, Token, plain, quoted}
+use Rattle.dotenvy_format.specs.Tokens.{QuotedCharacter, one, pair, Token, one_character, quoted}
 use Rattle.dotenvy_format.specs.Tokens.{tokens_text, quoted_text, is_quoted}
 use Rattle.dotenvy_format.specs.Tokens.{AreTokens}
 use Rattle.dotenvy_format.specs.LogicalLine.{line_end, IsWhole, without_carriage_return}
-use Rattle.dotenvy_format.specs.LogicalLine.{IsSkipped, IsNext, Logical, Text}
+use Rattle.dotenvy_format.specs.LogicalLine.{IsSkipped, IsNext, Logical, HasText}
 use Rattle.dotenvy_format.specs.Keys.{is_key}
 use Rattle.dotenvy_format.specs.Outcome.{Pair}
 use Rattle.dotenvy_format.specs.Entries.{Entry, Declares, AreLogicalLines, GiveAll, HasEntries}
@@ -36,11 +36,12 @@ quoted_of c = if needs_backslash c then pair c else one c
 
 -- the tokens of a written pair: each character of the key, `=`, and the written value in double quotes
 abbrev pair_tokens : List ℕ → List ℕ → List Token
-pair_tokens key text = map plain key ++ plain equals_sign ∷ quoted double_quote (map quoted_of text) ∷ []
+pair_tokens key text =
+    map one_character key ++ one_character equals_sign ∷ quoted double_quote (map quoted_of text) ∷ []
 
 -- the tokens of a key's characters may be before other tokens that may be in a row
 are_plain : (key : List ℕ) (ts : List Token) (after : List ℕ) → list_all continues_key key ≡ true →
-    AreTokens ts after → AreTokens (map plain key ++ ts) after
+    AreTokens ts after → AreTokens (map one_character key ++ ts) after
 are_plain [] ts after h are = are
 are_plain (c ∷ key) ts after h are =
     let p = and_parts (continues_key c) (list_all continues_key key) h in
@@ -57,7 +58,7 @@ texts_of_quoted [] = refl
 texts_of_quoted (c ∷ text) = grind (arith, texts_of_quoted text)
 
 -- the characters of a key as tokens, before others, spell the key and the text of the others
-text_of_plain : (key : List ℕ) (ts : List Token) → tokens_text (map plain key ++ ts) ≡ key ++ tokens_text ts
+text_of_plain : (key : List ℕ) (ts : List Token) → tokens_text (map one_character key ++ ts) ≡ key ++ tokens_text ts
 text_of_plain [] ts = refl
 text_of_plain (c ∷ key) ts = rw (text_of_plain key ts)
 
@@ -68,7 +69,7 @@ pair_line key text = key ++ equals_sign ∷ quoted_text_of text
 -- the tokens of a written pair spell it without its line feed
 pair_text : (key text : List ℕ) → tokens_text (pair_tokens key text) ≡ pair_line key text
 pair_text key text =
-    let key_text = text_of_plain key (plain equals_sign ∷ quoted double_quote (map quoted_of text) ∷ []) in
+    let key_text = text_of_plain key (one_character equals_sign ∷ quoted double_quote (map quoted_of text) ∷ []) in
     let inner = texts_of_quoted text in
     cc (append-nil (flat_map quoted_text (map quoted_of text) ++ double_quote ∷ []))
 
@@ -85,7 +86,7 @@ pair_is_whole key text last h = record {
   tokens = pair_tokens key text;
   ending = line_end;
   are_tokens =
-      are_plain key (plain equals_sign ∷ quoted double_quote (map quoted_of text) ∷ []) (line_feed ∷ []) h
+      are_plain key (one_character equals_sign ∷ quoted double_quote (map quoted_of text) ∷ []) (line_feed ∷ []) h
       (refl, ((refl, are_quoted text), tt));
   is_ending = tt;
   spelled = rw (pair_text key text) (simp append_assoc);
@@ -115,7 +116,7 @@ not_skipped (c ∷ key) text lines h skipped =
 
 -- the lines of a written pair with a key are the next logical line, whatever lines follow
 pair_is_next : (key text : List ℕ) (lines : List (Option (List ℕ))) → IsTrue (is_key key) →
-    IsNext (pair_lines key text ++ lines) (length (pair_lines key text)) (Text (pair_line key text))
+    IsNext (pair_lines key text ++ lines) (length (pair_lines key text)) (HasText (pair_line key text))
 pair_is_next key text lines h = (
   not_skipped key text lines h,
   record {
@@ -135,7 +136,7 @@ AreKeys ((key, text) ∷ pairs) = IsTrue (is_key key) × AreKeys pairs
 
 -- the logical line of a written pair
 abbrev pub pair_line_of : List ℕ × List ℕ → Logical
-pair_line_of (key, text) = Text (pair_line key text)
+pair_line_of (key, text) = HasText (pair_line key text)
 
 -- the physical lines of written pairs are those of the first pair, then those of the others
 written_lines : (key text : List ℕ) (pairs : List (List ℕ × List ℕ)) →

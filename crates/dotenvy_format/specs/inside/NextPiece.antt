@@ -79,7 +79,8 @@ pub record IsReadTo (dialect : Dialect) (m : ValueMode) (text : List ℕ) (piece
   pub reads : read_value dialect text m ≡ given pieces (read_value dialect rest n)
   pub counts : value_reach dialect text m ≡ length front + value_reach dialect rest n
 
--- the code's piece means the pieces that are read, whatever names stand for, has the names and backslash of these, and the value goes on where it says
+-- the code's piece means what the pieces that are read mean, whatever names stand for; it has their names and
+-- backslash, and the value goes on where it says
 pub record GivesPiece (dialect : Dialect) (m : ValueMode) (text : List ℕ) (next : Given)
     : Type 0 where
   pub pieces : List Piece

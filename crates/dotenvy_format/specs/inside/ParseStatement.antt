@@ -1,4 +1,4 @@
--- How the code parses a line up to what is assigned: a definition for each function of `statement`, by characters.
+-- How the code parses a line up to what is assigned, by characters.
 use Rattle.std.specs.Prelude.{ℕ, Bool, cond, if◌then◌else◌, List, [], ◌∷◌, ◌==◌, bytes_eq, codes}
 use Rattle.std.specs.Prelude.{Option, Some, None, ok_or, Result, Ok, Err}
 use denote.Ref.{Bor}
@@ -21,20 +21,20 @@ abbrev pub ◌>>=◌ : Parsed → (List ℕ × List ℕ → Parsed) → Parsed
 (Err left) >>= next = Err left
 
 -- the longest first part of the text whose characters pass the test
-abbrev pub run : (ℕ → Bool) → List ℕ → List ℕ
-run passes [] = []
-run passes (c ∷ cs) = cond (passes c) (c ∷ run passes cs) []
+abbrev pub passing_front : (ℕ → Bool) → List ℕ → List ℕ
+passing_front passes [] = []
+passing_front passes (c ∷ cs) = cond (passes c) (c ∷ passing_front passes cs) []
 
 -- what follows `run` in the text
-abbrev pub after_run : (ℕ → Bool) → List ℕ → List ℕ
-after_run passes [] = []
-after_run passes (c ∷ cs) = cond (passes c) (after_run passes cs) (c ∷ cs)
+abbrev pub after_passing : (ℕ → Bool) → List ℕ → List ℕ
+after_passing passes [] = []
+after_passing passes (c ∷ cs) = cond (passes c) (after_passing passes cs) (c ∷ cs)
 
 -- the key that the text begins with, and what follows it, without white space at its start
 abbrev pub split_key : List ℕ → Parsed
 split_key text =
     if begins_passing begins_key text
-    then Ok (run continues_key text, skip_leading_whitespace (after_run continues_key text))
+    then Ok (passing_front continues_key text, skip_leading_whitespace (after_passing continues_key text))
     else Err text
 
 -- the key and what is assigned to it, if what is left begins with `=`

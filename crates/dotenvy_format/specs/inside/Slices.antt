@@ -10,7 +10,8 @@ use Rattle.dotenvy_format.specs.declared.text.Class.TheVariants.{DoubleQuote, To
 use Rattle.dotenvy_format.specs.declared.text.ByteKind.{ByteKind}
 use Rattle.dotenvy_format.specs.declared.text.ByteKind.TheVariants.{Plain as PlainByte}
 use Rattle.dotenvy_format.specs.declared.text.ByteKind.TheVariants.{Token as TokenByte}
-use Rattle.dotenvy_format.specs.declared.text.ByteKind.TheVariants.{Key as KeyByte}
+use Rattle.dotenvy_format.specs.declared.text.ByteKind.TheVariants.{Key as KeyByte, Name as NameByte}
+use Rattle.dotenvy_format.specs.declared.text.ByteKind.TheVariants.{SpaceOrTab as SpaceOrTabByte}
 use Rattle.std.specs.Char.{is_ascii_alphanumeric}
 use Rattle.dotenvy_format.specs.declared.dialect.Dialect.{Dialect}
 use Rattle.dotenvy_format.specs.Characters.{begins_passing, tab, space, underscore, double_quote}
@@ -43,6 +44,8 @@ abbrev pub is_of_kind : ByteKind → ℕ → Bool
 is_of_kind PlainByte b = is_plain_outside b
 is_of_kind TokenByte b = is_token_byte b
 is_of_kind KeyByte b = continues_key b
+is_of_kind (NameByte dialect) b = is_name_byte dialect b
+is_of_kind SpaceOrTabByte b = is_space_or_tab b
 
 -- a run of this class may go on with this byte; some first bytes of long characters are left out
 abbrev pub in_run : Class → ℕ → Bool

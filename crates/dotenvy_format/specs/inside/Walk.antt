@@ -56,10 +56,10 @@ WalksText m text (EndedAt at c) =
     × ((seen : List ℕ) →
     walk m seen (chars text) ≡ ended (kept_before c (seen ++ chars (take at text))))
 
--- the text is some characters that leave the mode unchanged, and the rest
-pub record PassesRun (m : LineMode) (text rest : List ℕ) : Type 0 where
+-- the text is some characters that lead from the first mode to the second, and the rest
+pub record WalksTo (start : LineMode) (text : List ℕ) (m : LineMode) (rest : List ℕ) : Type 0 where
   pub front : List ℕ
   pub splits : text ≡ front ++ rest
   pub front_text : IsUtf8 front
   pub rest_text : IsUtf8 rest
-  pub stays : (seen : List ℕ) → walk m seen (chars front) ≡ going m
+  pub walks : (seen : List ℕ) → walk start seen (chars front) ≡ going m

@@ -1,14 +1,14 @@
 -- What the first pass over a line says, in the words of the format.
-use Rattle.std.specs.Prelude.{ℕ, ◌≡◌, not, List, [], IsTrue, Option, Some, None, is_some}
-use Rattle.std.specs.Prelude.{option_map, Result, Ok, Err, IfOk, string_bytes, if◌then◌else◌}
+use Rattle.std.specs.Prelude.{ℕ, ◌≡◌, ◌⊎◌, not, List, [], IsTrue, Option, Some, None}
+use Rattle.std.specs.Prelude.{Result, Ok, Err, IfOk, string_bytes}
 use Rattle.std.specs.Str.{chars, encode_utf8_all}
 use Rattle.std.specs.declared.string.String.{String}
 use Rattle.dotenvy_base.specs.declared.errors.Error.{Error}
+use Rattle.dotenvy_base.specs.Errors.{IsMemory, IsLineParseOf}
 use Rattle.dotenvy_format.specs.declared.dialect.Dialect.{Dialect}
 use Rattle.dotenvy_items.specs.declared.parse.Declaration.{Declaration}
 use Rattle.dotenvy_items.specs.declared.parse.Value.{Value}
 use Rattle.dotenvy_items.specs.declared.parse.Fault.{Fault}
-use Rattle.dotenvy_items.specs.declared.parse.Copies.{Copies}
 use Rattle.dotenvy_format.specs.Characters.{is_empty_or_comment}
 use Rattle.dotenvy_format.specs.Statement.{IsStatement}
 use Rattle.dotenvy_format.specs.Value.{Piece, IsValue}
@@ -49,6 +49,13 @@ Scans dialect look_up line (Ok (Some declaration)) = IsDeclared dialect look_up 
 Scans dialect look_up line (Err fault) =
     Says dialect line (SaysFault (chars fault.text.now) fault.index)
 
+-- memory was refused, or the error is the fault that the line says
+abbrev pub IsFaultOf : {A : Type 0} → Dialect → List ℕ → Error A → Type 0
+IsFaultOf dialect line e =
+    IsMemory e
+    ⊎ ((text : List ℕ) × (index : ℕ) × Says dialect line (SaysFault text index)
+    × IsLineParseOf text index e)
+
 -- the key, and the meaning of the pieces
 pub record IsPairOf {A : Type 0} (look_up : LookUp) (declaration : Declaration)
     (pieces : List Piece)
@@ -63,21 +70,3 @@ GivesPair dialect look_up declaration answer =
     (rest : List ℕ) (pieces : List Piece) →
     IsAssigned dialect look_up rest pieces declaration.value →
     IfOk answer (IsPairOf look_up declaration pieces)
-
--- the key, the meaning of the pieces, and the same to be remembered; no value where none is given
-pub record AreCopiesOf {A : Type 0} (look_up : LookUp) (declaration : Declaration)
-    (pieces : List Piece) (copies : Copies A) : Type 0 where
-  pub key : string_bytes copies.key ≡ declaration.key.now
-  pub value : string_bytes copies.value ≡ encode_utf8_all (meaning look_up pieces)
-  pub remembered_key : string_bytes copies.remembered_key ≡ declaration.key.now
-  pub remembered_value :
-      option_map string_bytes copies.remembered_value
-      ≡ (if is_some declaration.value then Some (string_bytes copies.value) else None)
-
--- on Ok the copies say the key, and the meaning of what the declaration's value was read from
-abbrev pub GivesCopies : {A : Type 0} → Dialect → LookUp → Declaration →
-    Result (Copies A) (Error A) → Type 0
-GivesCopies dialect look_up declaration answer =
-    (rest : List ℕ) (pieces : List Piece) →
-    IsAssigned dialect look_up rest pieces declaration.value →
-    IfOk answer (AreCopiesOf look_up declaration pieces)

@@ -1,5 +1,5 @@
 -- What one step of reading does to an input.
-use Rattle.dotenvy_lines.specs.Input.{InputState, IsTold, begins_mark, end_reads, most_bytes}
+use Rattle.dotenvy_lines.specs.Input.{InputState, IsTold, end_reads, most_bytes}
 use Rattle.dotenvy_lines.specs.Input.{ReadsFit, IsFinal, Moves}
 use Rattle.std.specs.Prelude.{ℕ, ◌≡◌, ◌+◌, ◌-◌, ◌≤◌, ◌<◌, ◌⊎◌, Bool, true, false, List, [], ◌∷◌}
 use Rattle.std.specs.Prelude.{◌++◌, length, take, drop, Option, Some, None, Result, Ok, Err}
@@ -79,18 +79,6 @@ FindsMore a s (Ok more) t =
     × MatchBool more (0 < t.unread) ((a.bytes ≡ []) × (a.fault ≡ None) × (t.at_end ≡ true))
 FindsMore a s (Err e) t = IsFinal a s (λ bytes. bytes ≡ []) e t
 
--- the unread bytes of the next line were used: up to its line feed, or all that were read
-pub record MovesLine (a : Ahead) (s : InputState) (whole : Bool) (t : InputState) : Type 0 where
-  pub some : List ℕ
-  pub left : List ℕ
-  pub joins : a.bytes ≡ some ++ left
-  pub is_left : t.left ≡ Some (record { bytes = left; fault = a.fault })
-  pub is_line :
-      MatchBool whole (is_whole_line some ≡ true) ((no_line_feed some ≡ true) × (t.unread ≡ 0))
-  pub unread : t.unread + length some ≡ s.unread
-  pub reads : t.reads ≡ s.reads
-  pub at_end : t.at_end ≡ s.at_end
-
 -- the next physical line was used: the bytes up to its line feed, or all that was left
 pub record TakesLine (a : Ahead) (s : InputState) (line : List ℕ) (t : InputState) : Type 0 where
   pub left : List ℕ
@@ -104,13 +92,6 @@ abbrev pub SkipsLine : {A : Type 0} → Ahead → InputState → Result (Unit {0
     InputState → Type 0
 SkipsLine a s (Ok _) t = (line : List ℕ) × TakesLine a s line t
 SkipsLine a s (Err e) t = IsFinal a s (λ bytes. no_line_feed bytes ≡ true) e t
-
--- whether a byte order mark may stand next: a front of it was read, and more may follow; or else
--- all was read, or what was read begins no mark
-abbrev pub MarkIsUndecided : Ahead → InputState → Bool → Type 0
-MarkIsUndecided a s undecided =
-    MatchBool undecided ((s.at_end ≡ false) × (begins_mark (take s.unread a.bytes) ≡ true))
-    (IsAllRead a s.unread ⊎ (begins_mark (take s.unread a.bytes) ≡ false))
 
 -- one read of the source, for at most `most_bytes`; more may follow, unless it met the end, which
 -- is to give no byte, or failed

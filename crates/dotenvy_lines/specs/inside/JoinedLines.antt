@@ -1,44 +1,28 @@
 -- How physical lines are joined to one logical line, and what `advance` makes of it.
-use Rattle.std.specs.Prelude.{ℕ, ◌≡◌, ◌⊎◌, ◌<◌, Bool, true, false, List, [], ◌∷◌, length, Option}
+use Rattle.std.specs.Prelude.{ℕ, ◌≡◌, ◌⊎◌, ◌<◌, Bool, true, false, List, [], length, Option}
 use Rattle.std.specs.Prelude.{Some, None, Result, Ok, Err, IsSomeAnd, IsErrAnd, if◌then◌else◌}
 use Rattle.std.specs.Str.{chars}
 use Rattle.std.specs.IoError.{error_kind}
 use Rattle.std.specs.declared.io.ErrorKind.TheVariants.{InvalidData}
 use Rattle.dotenvy_base.specs.declared.errors.Error.{Error}
 use Rattle.dotenvy_base.specs.declared.errors.Error.TheVariants.{LineParse, Io, EnvVar, Nul, Memory}
-use Rattle.dotenvy_format.specs.declared.walk.LineMode.{LineMode}
-use Rattle.dotenvy_format.specs.declared.walk.LineMode.TheVariants.{Outside, Escaping, Inside}
-use Rattle.dotenvy_format.specs.declared.walk.LineMode.TheVariants.{InsideEscaping, AfterBlank}
 use Rattle.dotenvy_lines.specs.declared.lines.Joined.{Joined}
 use Rattle.dotenvy_lines.specs.declared.lines.Joined.TheVariants.{Nothing, Skipped, Whole, OpenEnd, BrokenLine}
 use Rattle.dotenvy_lines.specs.declared.lines.Stage.{Stage}
 use Rattle.dotenvy_lines.specs.declared.lines.Stage.TheVariants.{Open as stage_open, Ended, Failed}
 use Rattle.dotenvy_base.specs.Source.{Ahead}
-use Rattle.dotenvy_format.specs.LogicalLine.{Skip, Text, Open, Broken}
+use Rattle.dotenvy_format.specs.LogicalLine.{Skip, HasText, StaysOpen, Broken}
 use Rattle.dotenvy_base.specs.Errors.{IsIoOf, IsMemory, IsLineParseOf}
 use Rattle.dotenvy_lines.specs.Input.{InputState, IsFinal, input_measure}
 use Rattle.dotenvy_lines.specs.Lines.{Counts}
 use Rattle.dotenvy_lines.specs.inside.NextLine.{TakesNext, IsUndecided}
 
--- what a logical line that was begun is at the end of input: whole, or still open, by its mode
-abbrev pub begun_at_end : LineMode → Joined
-begun_at_end Outside = Whole
-begun_at_end Escaping = OpenEnd
-begun_at_end (Inside quote) = OpenEnd
-begun_at_end (InsideEscaping quote) = OpenEnd
-begun_at_end AfterBlank = OpenEnd
-
--- what is joined at the end of input: nothing where the text is empty, else the line that was begun
-abbrev pub joined_at_end : List ℕ → LineMode → Joined
-joined_at_end [] m = Nothing
-joined_at_end (b ∷ text) m = begun_at_end m
-
 -- what was joined is the next logical line, with this text, of so many physical lines
 abbrev pub TakesJoined : Ahead → InputState → Joined → List ℕ → ℕ → InputState → Type 0
 TakesJoined a s Nothing text count t = (a.bytes ≡ []) × (a.fault ≡ None)
 TakesJoined a s Skipped text count t = (text ≡ []) × TakesNext a s Skip count t
-TakesJoined a s Whole text count t = TakesNext a s (Text (chars text)) count t
-TakesJoined a s OpenEnd text count t = TakesNext a s (Open (chars text) (length text)) count t
+TakesJoined a s Whole text count t = TakesNext a s (HasText (chars text)) count t
+TakesJoined a s OpenEnd text count t = TakesNext a s (StaysOpen (chars text) (length text)) count t
 TakesJoined a s BrokenLine text count t = TakesNext a s Broken count t
 
 -- the next logical line was joined, and its physical lines were counted; or reading failed

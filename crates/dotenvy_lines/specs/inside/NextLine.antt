@@ -12,7 +12,7 @@ use Rattle.dotenvy_lines.specs.declared.lines.Stage.TheVariants.{Ended}
 use Rattle.dotenvy_base.specs.Source.{Ahead}
 use Rattle.dotenvy_format.specs.PhysicalLines.{physical_lines, line_texts}
 use Rattle.dotenvy_format.specs.Decided.{up_to_last_line_feed}
-use Rattle.dotenvy_format.specs.LogicalLine.{Logical, Skip, Text, Open, Broken, IsNext, IsOpenEnd}
+use Rattle.dotenvy_format.specs.LogicalLine.{Logical, Skip, HasText, StaysOpen, Broken, IsNext, IsOpenEnd}
 
 -- the physical lines that are complete in the bytes read so far: those up to the last line feed
 abbrev pub lines_so_far : List ℕ → List (Option (List ℕ))
@@ -57,7 +57,7 @@ CountsLine s count t =
 -- isn't UTF-8
 abbrev pub TakesFault : {A : Type 0} → Ahead → InputState → Error A → ℕ → InputState → Type 0
 TakesFault a s (LineParse text index) count t =
-    TakesNext a s (Open (chars (string_bytes text)) index) count t
+    TakesNext a s (StaysOpen (chars (string_bytes text)) index) count t
 TakesFault a s (Io e) count t = (error_kind e ≡ InvalidData) × TakesNext a s Broken count t
 TakesFault a s (EnvVar e) count t = ⊥
 TakesFault a s (Nul key) count t = ⊥
@@ -68,7 +68,7 @@ TakesFault a s (Memory e) count t = ⊥
 abbrev pub TakesOutcome : {A : Type 0} → Ahead → InputState → Result (Unit {0}) (Error A) → List ℕ →
     ℕ → InputState → Type 0
 TakesOutcome a s (Ok _) line count t =
-    ((line ≡ []) × TakesNext a s Skip count t) ⊎ TakesNext a s (Text (chars line)) count t
+    ((line ≡ []) × TakesNext a s Skip count t) ⊎ TakesNext a s (HasText (chars line)) count t
 TakesOutcome a s (Err e) line count t = TakesFault a s e count t
 
 -- what an open splitter gives where a is left: the end, the next line and its text, or a final

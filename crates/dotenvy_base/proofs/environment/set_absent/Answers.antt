@@ -1,35 +1,34 @@
-use Rattle.std.proofs.Common.{rules, ap, string_bytes, refl}
-use Rattle.std.specs.FinMap.{insert}
-use Rattle.dotenvy_base.proofs.TextMaps.{of_strings, insert-absent, good-absent, contains-strings}
+use Rattle.std.proofs.Common.{rules, ◌≡◌, None}
+use Rattle.std.specs.BTreeMap.{get}
+use Rattle.std.specs.String.{string_cmp}
+use Rattle.dotenvy_base.proofs.TextMaps.{contains-strings, good-entered, kept-entered, absent-entered}
 use Rattle.dotenvy_base.proofs.environment.set_absent.Goals as goal
 
 pub invariant_of-env : goal.invariant_of-env
-invariant_of-env g c = rw c.in_err-absent.ensures.err.0 c.env.invariant
+invariant_of-env g c =
+    let same : c.entry.follows.lender-at-none.entries ≡ c.env.inside.entries.entries = search rules in
+    rw same c.env.invariant
 
-pub returns-in_err-absent-clause-kept : goal.returns-in_err-absent-clause-kept
-returns-in_err-absent-clause-kept g c = λ there.
-    let here = rw (← c.env.view_is, contains-strings, c.in_err-absent.ensures.err.1) at there in cc
+pub returns-in_err-env-inside-clause-kept : goal.returns-in_err-env-inside-clause-kept
+returns-in_err-env-inside-clause-kept g c = λ there.
+    let absent : get string_cmp c.env.inside.entries c.args.key ≡ None = search rules in
+    let here = rw (← c.env.view_is, contains-strings, absent) at there in cc
 
 pub invariant_of-env-2 : goal.invariant_of-env-2
 invariant_of-env-2 g c =
-    rw (c.in_ok-absent.ensures.ok, insert-absent) (good-absent (of_strings c.env.inside.entries.entries)
-    c.env.inside.loaded _ _ _ c.env.invariant c.requires (search rules))
+    good-entered c.args.key c.args.value c.env.inside.entries.entries c.env.inside.loaded (search rules)
+    c.env.invariant c.requires (search rules)
 
 pub returns-clause-kept : goal.returns-clause-kept
 returns-clause-kept g c = λ there.
-    let here = rw (← c.env.view_is) at there in
-    let there_inside = rw contains-strings at here in (
-      rw (c.in_ok-absent.ensures.absent, there_inside) refl,
-      rw (c.in_ok-absent.ensures.ok, insert-absent, here) c.env.view_is,
+    let here = rw (← c.env.view_is, contains-strings) at there in (
+      search rules,
+      kept-entered c.args.key c.args.value c.env.inside.entries.entries (search rules) c.env.view_is there,
     )
 
 pub returns-clause-ok : goal.returns-clause-ok
 returns-clause-ok g c = λ absent.
-    let here = rw (← c.env.view_is) at absent in
-    let absent_inside = rw contains-strings at here in (
-      rw (c.in_ok-absent.ensures.absent, absent_inside) refl,
-      rw (c.in_ok-absent.ensures.ok, insert-absent, here) (ap
-          (λ e.
-          record { names = insert e.names (string_bytes c.args.key) (string_bytes c.args.value); loaded = e.loaded })
-          c.env.view_is),
+    let here = rw (← c.env.view_is, contains-strings) at absent in (
+      search rules,
+      absent-entered c.args.key c.args.value c.env.inside.entries.entries (search rules) c.env.view_is absent,
     )

@@ -1,12 +1,25 @@
-use Rattle.std.proofs.Common.{inl, rules, ◌≡◌, length}
-use Rattle.dotenvy_c.proofs.Telling.{answered_items}
+use Rattle.std.proofs.Common.{◌≡◌, inl, refl, ap, rules, ◌∙◌, length}
+use Rattle.dotenvy_c.proofs.Telling.{length-records_from}
+use Rattle.dotenvy_c.proofs.items.dotenvy_items.Goals.{then-len-items, else-len-items}
 use Rattle.dotenvy_c.proofs.items.dotenvy_items.Goals as goal
 
 pub returns-clause-items : goal.returns-clause-items
 returns-clause-items c =
-    let items : c.len.result ≡ length c.in-Ok.records.items.items = search rules in
-    let text : c.len-2.result ≡ length c.in-Ok.records.text.items = search rules in
-    λ known. inl
-    (answered_items c.in-Ok.ensures.ok c.write_if_both_fit.result c.len.result c.len-2.result c.args.items.now
-    c.write_if_both_fit.new.items c.args.out.now c.write_if_both_fit.new.out items text c.write_if_both_fit.ensures.fits
-    c.write_if_both_fit.ensures.items c.write_if_both_fit.ensures.texts)
+    let has = c.in-Ok.ensures.ok in
+    let counted : c.len-2.result ≡ length c.in-Ok.records.items.items = search rules in
+    let measured : c.len-3.result ≡ length c.in-Ok.records.text.items = search rules in
+    let size = ap length has.items ∙ length-records_from 0 has.told in
+    λ known.
+    inl record {
+      told = has.told;
+      tells = has.tells;
+      status = refl;
+      items = counted ∙ size;
+      text_len = measured ∙ ap length has.text;
+      fits = rw (← size, ← has.text) (elim c.if-len-items.branch [
+        | then-len-items w ↦ search rules
+        | else-len-items w ↦ search rules
+      ]);
+      records = rw (c.as_slice.ensures.value ∙ has.items) at c.write_if.ensures;
+      texts = rw (c.as_slice-2.ensures.value ∙ has.text) at c.write_if-2.ensures;
+    }

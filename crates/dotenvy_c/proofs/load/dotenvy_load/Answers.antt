@@ -1,9 +1,20 @@
-use Rattle.std.proofs.Common.{inl}
-use Rattle.dotenvy_c.proofs.Answering.{answered}
+use Rattle.std.proofs.Common.{◌≡◌, length, inl, rules, ◌∙◌}
+use Rattle.std.proofs.lemmas.Bool.{le-leb, leb-true}
 use Rattle.dotenvy_c.proofs.load.dotenvy_load.Goals as goal
 
 pub returns-clause-loads : goal.returns-clause-loads
 returns-clause-loads c =
+    let is = c.in-Ok.ensures.ok in
+    let size : c.len.result ≡ length c.in-Ok.loaded.bytes.items = search rules in
     λ known.
-    inl (answered c.in-Ok.ensures.ok c.write_if_fits.result c.as_slice.result.now c.args.out.now
-    c.write_if_fits.new.out c.as_slice.ensures.value c.write_if_fits.ensures.fits c.write_if_fits.ensures.written)
+    inl record {
+      names = is.names;
+      told = is.told;
+      loads = is.loads;
+      status = is.status;
+      index = is.index;
+      block_len = is.block_len;
+      text_len = is.text_len;
+      fits = rw (size, is.bytes) (leb-true _ _, le-leb _ _);
+      written = rw (c.as_slice.ensures.value ∙ is.bytes) at c.write_if.ensures;
+    }

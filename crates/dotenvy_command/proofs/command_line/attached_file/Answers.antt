@@ -1,6 +1,7 @@
-use Rattle.std.proofs.Common.{sym}
+use Rattle.std.proofs.Common.{arith, ap, ◌∙◌, sym}
 use Rattle.std.specs.Prelude.{codes}
-use Rattle.dotenvy_command.proofs.WordKinds.{stripped, assigned, joined}
+use Rattle.std.proofs.lemmas.Str.Pattern.{strip_prefix_char}
+use Rattle.dotenvy_command.proofs.WordKinds.{stripped, assigned, behind_equals, joined}
 use Rattle.dotenvy_command.proofs.command_line.attached_file.Goals as goal
 
 pub returns-in-Some : goal.returns-in-Some
@@ -9,6 +10,8 @@ returns-in-Some c = λ more. assigned c.args.word.now c.in-Some.name
 
 pub returns : goal.returns
 returns c = λ more.
-    joined c.args.word.now c.in_ok-name.name.now c.without_equals.result
+    let front = strip_prefix_char 61 c.in_ok-name.name.now c.strip_prefix-3.result c.strip_prefix-3.ensures.cases
+    (omega arith) in
+    joined c.args.word.now c.in_ok-name.name.now c.unwrap_or.result
     (stripped (codes "-f") c.args.word.now c.in_ok-name.name.now c.in_ok-name.ensures.cases)
-    (sym c.without_equals.ensures) more
+    (sym (ap (λ t. t.now) c.unwrap_or.ensures ∙ behind_equals c.in_ok-name.name c.strip_prefix-3.result front)) more

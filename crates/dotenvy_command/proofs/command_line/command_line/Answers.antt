@@ -12,9 +12,10 @@ pub returns-in_err-clone : goal.returns-in_err-clone
 returns-in_err-clone g c =
     answers_memory (texts c.args.words.now) c.from_residual.result c.from_residual.ensures.1
 
-pub returns-in_err-line : goal.returns-in_err-line
-returns-in_err-line g c =
-    answers_memory (texts c.args.words.now) c.from_residual-in_err-line.result c.from_residual-in_err-line.ensures.1
+pub returns-in_err-clone-2 : goal.returns-in_err-clone-2
+returns-in_err-clone-2 g c =
+    answers_memory (texts c.args.words.now) c.from_residual-in_err-clone-2.result
+    c.from_residual-in_err-clone-2.ensures.1
 
 pub returns-in_err-group : goal.returns-in_err-group
 returns-in_err-group g c =
@@ -42,9 +43,9 @@ returns-then-not-line g c = (
   refl,
 )
 
-pub returns-in_err-line-2 : goal.returns-in_err-line-2
-returns-in_err-line-2 g c =
-    answers_memory (texts c.args.words.now) c.from_residual-in_err-line-2.result c.from_residual-in_err-line-2.ensures.1
+pub returns-in_err-line : goal.returns-in_err-line
+returns-in_err-line g c =
+    answers_memory (texts c.args.words.now) c.from_residual-in_err-line.result c.from_residual-in_err-line.ensures.1
 
 pub returns : goal.returns
 returns g c =
@@ -59,5 +60,5 @@ returns g c =
     ] in (
       Ok (record line { command = texts c.groups.rest.now }),
       ends (texts c.args.words.now) (texts c.groups.rest.now) line c.groups.invariant command listed,
-      rw (copied c.groups.rest.now c.in_ok-line-2.field-0.items c.in_ok-line-2.ensures.items) refl,
+      rw (copied c.groups.rest.now c.in_ok-line.field-0.items c.in_ok-line.ensures.items) refl,
     )

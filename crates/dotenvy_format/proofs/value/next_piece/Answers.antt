@@ -1,9 +1,14 @@
 use Rattle.std.proofs.Common.{refl}
+use Rattle.std.proofs.lemmas.Str.{chars-nil}
+use Rattle.dotenvy_format.proofs.values.Readings.{lacks_end}
 use Rattle.dotenvy_format.proofs.values.NextPiece.{next_by_kind, kind_plain}
 use Rattle.dotenvy_format.proofs.value.next_piece.Goals as goal
 
-pub returns-in-None-clause-next : goal.returns-in-None-clause-next
-returns-in-None-clause-next c = c.at_end.ensures.next c.args.dialect
+pub returns-in-Unquoted-clause-next : goal.returns-in-Unquoted-clause-next
+returns-in-Unquoted-clause-next c = rw (c.in-Unquoted.is, c.in-None.ensures, chars-nil)
+
+pub returns-in-DoubleQuoted-clause-next : goal.returns-in-DoubleQuoted-clause-next
+returns-in-DoubleQuoted-clause-next c = rw (c.in-DoubleQuoted.is, c.in-None.ensures, chars-nil) (lacks_end refl)
 
 pub returns-in-Backslash : goal.returns-in-Backslash
 returns-in-Backslash c =

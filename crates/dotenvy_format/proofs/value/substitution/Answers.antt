@@ -1,15 +1,67 @@
-use Rattle.dotenvy_format.specs.Characters.{left_brace}
-use Rattle.std.proofs.lemmas.Str.{chars_past_char}
-use Rattle.dotenvy_format.proofs.bytes.Slices.{not_first}
-use Rattle.dotenvy_format.proofs.values.Readings.{brace_begun}
-use Rattle.dotenvy_format.proofs.values.NextPiece.{next_after}
+use Rattle.std.proofs.Common.{List, ℕ, [], ◌∷◌, refl, sym}
+use Rattle.std.specs.Str.{chars}
+use Rattle.std.specs.Char.{encode_utf8}
+use Rattle.std.proofs.lemmas.List.{append-nil}
+use Rattle.std.proofs.lemmas.Str.{chars-nil, chars_past_char}
+use Rattle.dotenvy_format.specs.declared.dialect.Dialect.{Dialect}
+use Rattle.dotenvy_format.specs.declared.text.Quoting.{Quoting}
+use Rattle.dotenvy_format.specs.Characters.{left_brace, is_name_character}
+use Rattle.dotenvy_format.specs.inside.ReadValue.{naming}
+use Rattle.dotenvy_format.specs.inside.NextPiece.{IsReadTo}
+use Rattle.dotenvy_format.specs.inside.Slices.{IsSpan}
+use Rattle.dotenvy_format.proofs.bytes.Slices.{not_first, past_first, take_first}
+use Rattle.dotenvy_format.proofs.values.Readings.{brace_begun, name_run, read_then, stop_then, end_read, lacks_end}
+use Rattle.dotenvy_format.proofs.values.Readings.{name_left, name_ended}
+use Rattle.dotenvy_format.proofs.values.NextPiece.{next_after, no_brace_after, gives_name, ends_before, first_scalar}
 use Rattle.dotenvy_format.proofs.value.substitution.Goals as goal
 
-pub bare-requires : goal.bare-requires
-bare-requires c = not_first left_brace c.args.left.now c.utf8.left c.in-None.ensures.cases
+-- the longest run of name characters after a dollar is read as the name
+name_span : {dialect : Dialect} {q : Quoting} {text name rest : List ℕ} →
+    IsSpan (is_name_character dialect) text name rest →
+    IsReadTo dialect (naming q []) text [] (naming q name) rest
+name_span span = rw span.spelled (name_run _ _ span.pass)
+
+pub split_at-requires : goal.split_at-requires
+split_at-requires c =
+    rw c.len_utf8.ensures.value
+    (past_first _ _ c.in-Some-split_first.first c.split_while.ensures.texts.1 c.in-Some-split_first.ensures.bytes)
 
 pub returns-in-Some : goal.returns-in-Some
 returns-in-Some c =
     let found = c.in-Some.ensures.cases in
-    let first = chars_past_char c.args.left.now c.in-Some.name.now left_brace c.utf8.left (rw found.2 found.1.split) in
+    let first = chars_past_char c.args.left.now c.in-Some.inner.now left_brace c.utf8.left (rw found.2 found.1.split) in
     next_after c.braced.result (rw first brace_begun) (c.braced.ensures c.args.dialect)
+
+pub returns-in-Unquoted : goal.returns-in-Unquoted
+returns-in-Unquoted c =
+    rw c.in-Unquoted.is (gives_name [] c.split_while.ensures.texts.1 refl refl
+    (read_then (name_span c.split_while.ensures.span) (rw (c.in-None.ensures, chars-nil) (end_read refl))))
+
+pub returns-in-DoubleQuoted : goal.returns-in-DoubleQuoted
+returns-in-DoubleQuoted c =
+    stop_then (name_span c.split_while.ensures.span)
+    (rw (c.in-DoubleQuoted.is, c.in-None.ensures, chars-nil) (lacks_end refl))
+
+pub returns-in-Some-split_first : goal.returns-in-Some-split_first
+returns-in-Some-split_first c =
+    gives_name [] c.split_while.ensures.texts.1 refl refl
+    (read_then (name_span c.split_while.ensures.span)
+    (name_left (chars c.split_while.result.1.now)
+    (rw (c.in-Some-split_first.ensures.characters, ← c.if-is_left_by_name.ensures))))
+
+pub returns-in-Some-2 : goal.returns-in-Some-2
+returns-in-Some-2 c =
+    let first = c.in-Some-split_first.ensures in
+    let texts = c.split_while.ensures.texts in
+    let span = c.split_while.ensures.span in
+    let bytes = rw (
+      c.len_utf8.ensures.value,
+      take_first _ _ c.in-Some-split_first.first first.bytes,
+      ← append-nil (encode_utf8 c.in-Some-split_first.first),
+    ) at c.split_at.ensures.front in
+    let no_brace = no_brace_after c.args.dialect (chars c.args.left.now) _ _ span
+    (not_first left_brace c.args.left.now c.utf8.left c.in_default.ensures.cases) in
+    gives_name (c.in-Some-split_first.first ∷ []) first.follows (first_scalar texts.1 first) bytes
+    (read_then (name_span span) (rw first.characters (name_ended
+    (ends_before c.args.dialect _ (chars c.split_while.result.0.now) c.in-Some-split_first.first
+    (rw first.characters at span.longest) (rw first.characters at no_brace) (sym c.if-is_left_by_name.ensures)))))

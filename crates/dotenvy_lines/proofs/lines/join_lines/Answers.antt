@@ -1,4 +1,5 @@
-use Rattle.std.proofs.Common.{rules, arith, ◌≡◌, ◌<◌, refl, ap, ℕ, List, [], string_bytes}
+use Rattle.std.proofs.Common.{rules, arith, ◌≡◌, ◌<◌, refl, ap, ℕ, List, [], length, false, string_bytes}
+use Rattle.std.specs.Prelude.{string_len}
 use Rattle.std.specs.Str.{chars}
 use Rattle.std.proofs.lemmas.Str.{IsUtf8-string_bytes}
 use Rattle.std.proofs.lemmas.Result.{err_from_is_err_and}
@@ -8,11 +9,15 @@ use Rattle.dotenvy_lines.specs.declared.physical_line.Taken.TheVariants.{Going a
 use Rattle.dotenvy_lines.specs.declared.physical_line.Taken.TheVariants.{Ended as taken_ended}
 use Rattle.dotenvy_lines.specs.declared.physical_line.Taken.TheVariants.{Comment as taken_comment}
 use Rattle.dotenvy_lines.specs.declared.physical_line.Taken.TheVariants.{Broken as taken_broken}
-use Rattle.dotenvy_lines.proofs.Inputs.{when-not}
-use Rattle.dotenvy_lines.proofs.LineJoins.{joining_empty, rest_of, line_joined}
+use Rattle.dotenvy_base.proofs.Basics.{tested_empty, tested_some}
+use Rattle.std.proofs.lemmas.Bool.{MatchBool-at_false}
+use Rattle.dotenvy_lines.proofs.LineJoins.{joining_empty, rest_of, line_joined, joining_none, open_at_end}
 use Rattle.dotenvy_lines.proofs.LineJoins.{joining_finish, joining_fails}
 use Rattle.dotenvy_lines.proofs.AskedReads.{asks_none, asks_more, asks_on, asks_weaker, asks_failed}
 use Rattle.dotenvy_lines.proofs.lines.join_lines.Goals as goal
+use Rattle.dotenvy_lines.proofs.lines.join_lines.Goals.{then-is_empty}
+use Rattle.dotenvy_lines.proofs.lines.join_lines.Goals.{else-is_empty+in-Outside}
+use Rattle.dotenvy_lines.proofs.lines.join_lines.Goals.{else-is_empty+in_default-2}
 
 pub joining-init : goal.joining-init
 joining-init g c = (
@@ -41,11 +46,26 @@ returns-in_err-has_more-clause-asks g c =
 
 pub returns-then-not-branch-clause-told : goal.returns-then-not-branch-clause-told
 returns-then-not-branch-clause-told g c = λ a told.
+    let text = string_bytes c.joining.text in
+    let u = IsUtf8-string_bytes c.joining.text in
+    let len : string_len c.joining.text ≡ length text = search rules in
     let j = c.joining.invariant.2 a told in
     let found = c.in_ok-has_more.ensures.told (rest_of j) j.told in
-    let none = when-not c.in_ok-has_more.field-0 _ _ c.if-not-branch.true found.2 in
-    rw (c.at_input_end.ensures, c.as_str.ensures.value) (joining_finish (string_bytes c.joining.text) c.joining.mode
-    (IsUtf8-string_bytes c.joining.text) j (record { left = found.0; fits = found.1 }) (none.1, none.0, none.2))
+    let none = MatchBool-at_false {b = c.in_ok-has_more.field-0} _ _ c.if-not-branch.true found.2 in
+    let finish = λ (some : c.is_empty.result ≡ false).
+    joining_finish {v = c.has_more.new.self} text c.joining.mode u
+    (tested_some text _ c.is_empty.result c.is_empty.ensures len some).1 j (record { left = found.0; fits = found.1 })
+    (none.1, none.0, none.2) in
+    elim c.if-is_empty.branch [
+      | then-is_empty w ↦
+          let empty = tested_empty text _ c.is_empty.result c.is_empty.ensures len w.if-is_empty.true in
+          let all = joining_none text empty j none.0 in
+          rw w.result-is (all.0, (all.1, none.1), all.2)
+      | else-is_empty+in-Outside w ↦ rw w.result-is (rw w.in-Outside.is at (finish w.if-is_empty.false))
+      | else-is_empty+in_default-2 w ↦
+          let is_open = open_at_end c.joining.mode text w.in_default-2.not-Outside u in
+          rw w.result-is (rw is_open at (finish w.if-is_empty.false))
+    ]
 
 pub returns-then-not-branch-clause-asks : goal.returns-then-not-branch-clause-asks
 returns-then-not-branch-clause-asks g c =

@@ -1,6 +1,7 @@
 use Rattle.std.proofs.Common.{refl, sym}
 use Rattle.std.proofs.lemmas.Option.{none-some}
 use Rattle.std.proofs.lemmas.Result.{err_from_is_err_and}
+use Rattle.dotenvy_lines.proofs.LinesRead.{answers}
 use Rattle.dotenvy_checker.proofs.CheckedReads.{checked_none, checked_more, checked_all, checked_before, checked_mark}
 use Rattle.dotenvy_checker.proofs.lines.Checker.check_lines.Goals as goal
 
@@ -22,8 +23,7 @@ lines-preserved g c = record {
   shut = λ shut.
       absurd (none-some c.in-Some.outcome
       (sym (c.in-Some.ensures.shut (rw (c.lines.invariant.shut shut).0 shut)).0));
-  came = checked_more c.advance.new.self c.in-Some.outcome c.lines.invariant.came
-      (record { shut = λ shut. (c.in-Some.ensures.shut shut).0; told = c.in-Some.ensures.told })
+  came = checked_more c.in-Some.outcome c.lines.invariant.came (answers c.in-Some.ensures.shut c.in-Some.ensures.told)
       c.in_ok-check_outcome.ensures.checks;
 }
 
@@ -32,10 +32,8 @@ returns-in_err-check_outcome-clause-told g c =
     let p = err_from_is_err_and c.from_residual-in_err-check_outcome.result
     c.from_residual-in_err-check_outcome.ensures.1 in
     rw (p.1, p.2) (checked_before c.in_err-check_outcome.field-0.0 c.lines.invariant.came
-    (record { shut = λ shut. (c.in-Some.ensures.shut shut).0; told = c.in-Some.ensures.told })
-    c.in_err-check_outcome.ensures.error)
+    (answers c.in-Some.ensures.shut c.in-Some.ensures.told) c.in_err-check_outcome.ensures.error)
 
 pub returns-clause-told : goal.returns-clause-told
 returns-clause-told g c =
-    checked_all c.advance.new.self.lines c.advance.new.self.line c.lines.invariant.came
-    (record { shut = λ shut. (c.in_default.ensures.shut shut).0; told = c.in_default.ensures.told })
+    checked_all c.lines.invariant.came (answers c.in_default.ensures.shut c.in_default.ensures.told)

@@ -25,14 +25,11 @@ pieces-preserved g c =
       pieces = i.pieces ++ next.pieces;
       read = read_then i.read (rw (same_dialect i.finds) at next.is_read);
       finds = finds_pieces c.args.line i.pieces next.pieces c.in-Piece.given.piece i.finds next.names
-          c.in_ok-check_piece.ensures.finds;
+          c.in_ok-check_piece.ensures;
     }
 
 pub returns : goal.returns
-returns g c =
-    let i = c.pieces.invariant in record {
-      finds = λ pieces is.
-          finds_at_end c.args.line i.read (rw (same_dialect i.finds) at c.next_piece.ensures.next)
-          c.in_default.not-Piece is i.finds;
-      memory = tt;
-    }
+returns g c = λ pieces is.
+    let i = c.pieces.invariant in
+    finds_at_end c.args.line i.read (rw (same_dialect i.finds) at c.next_piece.ensures.next) c.in_default.not-Piece is
+    i.finds

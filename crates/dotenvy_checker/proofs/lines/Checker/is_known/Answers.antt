@@ -1,4 +1,5 @@
 use Rattle.std.proofs.Common.{sym}
+use Rattle.std.proofs.lemmas.Str.{encodes-chars}
 use Rattle.dotenvy_checker.proofs.KnownNames.{names_in-contains}
 use Rattle.dotenvy_checker.proofs.lines.Checker.is_known.Goals as goal
 
@@ -10,6 +11,4 @@ returns-then-contains g c =
 pub returns-else-contains : goal.returns-else-contains
 returns-else-contains g c =
     let absent = names_in-contains _ c.args.name.now c.contains.result c.utf8.name c.contains.ensures in
-    let declared = names_in-contains _ c.args.name.now c.contains-else-contains.result c.utf8.name
-    c.contains-else-contains.ensures in
-    rw (absent, c.if-contains.false) (sym declared)
+    rw (absent, c.if-contains.false, encodes-chars c.args.name.now c.utf8.name) c.contains-else-contains.ensures

@@ -2,6 +2,7 @@ use Rattle.std.proofs.Common.{rules, arith, length, refl, sym, ap, ◌∙◌}
 use Rattle.dotenvy_base.proofs.Basics.{tested_empty}
 use Rattle.dotenvy_items.proofs.LineLoads.{nothing_loaded}
 use Rattle.std.proofs.lemmas.Grind.{common_steps}
+use Rattle.dotenvy_lines.proofs.LinesRead.{answers}
 use Rattle.dotenvy_items.proofs.LoadSteps.{came_start, came_line, asks_next}
 use Rattle.dotenvy_items.proofs.StoppedLoads.{line_stops, fault_stops, none_stops, mark_stops}
 use Rattle.dotenvy_items.proofs.iter.Iter.load_each_line.Goals as goal
@@ -29,7 +30,7 @@ pub loading-preserved : goal.loading-preserved
 loading-preserved g c = record {
   shut = λ shut. absurd (search rules);
   came =
-      came_line c.loading.invariant.came c.in-Some.ensures.shut c.in-Some.ensures.told c.in_ok-outcome.was
+      came_line c.loading.invariant.came (answers c.in-Some.ensures.shut c.in-Some.ensures.told) c.in_ok-outcome.was
       c.loading.invariant.same
       (rw (c.line-in-Some.ensures, c.loading.invariant.mode) at c.in_ok-load_line.ensures.loads);
   mode = cc;
@@ -46,7 +47,7 @@ loading-preserved-then-is_empty g c =
     let none = tested_empty text (length text) c.is_empty.result c.is_empty.ensures refl c.if-is_empty.true in record {
       shut = λ shut. absurd (search rules);
       came =
-          came_line c.loading.invariant.came c.in-Some.ensures.shut c.in-Some.ensures.told c.in_ok-outcome.was
+          came_line c.loading.invariant.came (answers c.in-Some.ensures.shut c.in-Some.ensures.told) c.in_ok-outcome.was
           c.loading.invariant.same (nothing_loaded _ _ c.advance.new.self.line (sym c.line.ensures ∙ none));
       mode = c.loading.invariant.mode;
       keeps = c.loading.invariant.keeps;
@@ -59,13 +60,13 @@ loading-preserved-then-is_empty g c =
 pub returns-in_err-outcome-clause-loads : goal.returns-in_err-outcome-clause-loads
 returns-in_err-outcome-clause-loads g c =
     let item_lines = ap (λ s. s.item_lines) c.self.view_is in
-    rw item_lines (fault_stops c.loading.invariant.came c.in-Some.ensures.shut c.in-Some.ensures.told
+    rw item_lines (fault_stops c.loading.invariant.came (answers c.in-Some.ensures.shut c.in-Some.ensures.told)
     c.in_err-outcome.was c.loading.invariant.same c.from_residual-in_err-outcome.ensures.1)
 
 pub returns-in_err-load_line-clause-loads : goal.returns-in_err-load_line-clause-loads
 returns-in_err-load_line-clause-loads g c =
     let item_lines = ap (λ s. s.item_lines) c.self.view_is in
-    rw item_lines (line_stops c.loading.invariant.came c.in-Some.ensures.shut c.in-Some.ensures.told
+    rw item_lines (line_stops c.loading.invariant.came (answers c.in-Some.ensures.shut c.in-Some.ensures.told)
     c.in_ok-outcome.was c.loading.invariant.same
     (rw (c.line-in-Some.ensures, c.loading.invariant.mode) at c.in_err-load_line.ensures.loads)
     c.from_residual-in_err-load_line.ensures.1)
@@ -73,7 +74,7 @@ returns-in_err-load_line-clause-loads g c =
 pub returns-clause-loads : goal.returns-clause-loads
 returns-clause-loads g c =
     let item_lines = ap (λ s. s.item_lines) c.self.view_is in
-    rw item_lines (none_stops c.loading.invariant.came c.in_default.ensures.shut c.in_default.ensures.told
+    rw item_lines (none_stops c.loading.invariant.came (answers c.in_default.ensures.shut c.in_default.ensures.told)
     c.loading.invariant.same)
 
 pub returns-clause-shut : goal.returns-clause-shut

@@ -1,4 +1,4 @@
-use Rattle.std.proofs.Common.{rules, ◌≡◌, ◌≢◌, ℕ, List, sym, refl, ◌∙◌}
+use Rattle.std.proofs.Common.{rules, ◌≡◌, ◌≢◌, ℕ, List, [], sym, refl, ◌∙◌}
 use Rattle.std.proofs.lemmas.Option.{none-some}
 use Rattle.dotenvy_base.specs.Source.{Ahead}
 use Rattle.dotenvy_format.specs.Entries.{Entry}
@@ -8,7 +8,9 @@ use Rattle.dotenvy_lines.specs.Reading.{HasEntriesLeft}
 use Rattle.dotenvy_items.specs.inside.Reading.{reads_on}
 use Rattle.dotenvy_lines.proofs.AskedReads.{asks_none, asks_weaker}
 use Rattle.dotenvy_items.proofs.LoadSteps.{asks_next}
-use Rattle.dotenvy_items.proofs.NextItems.{LeadsTo, passed_none, passed_all, next_leads}
+use Rattle.dotenvy_lines.proofs.LinesRead.{answers, read_none, entries_left, read_end}
+use Rattle.dotenvy_lines.proofs.LineEntries.{left_exists, left_once, left-none}
+use Rattle.dotenvy_items.proofs.NextItems.{LeadsTo, next_leads}
 use Rattle.dotenvy_items.proofs.iter.Reading.next.Given as given
 use Rattle.dotenvy_items.proofs.iter.Reading.next.Goals as goal
 use Rattle.dotenvy_items.proofs.iter.Reading.next.Goals.{After-is_some}
@@ -27,10 +29,10 @@ leads : (g : given.Over) (c : After-is_some g) (before : ℕ × ℕ) (a : Ahead)
     c.item_of-item.new.self.lines c.item_of-item.new.self.remembered
 leads g c before a entries is_open told has =
     let invariant = rw (← c.self.view_is) at c.lines.invariant in
-    let (passed, same) = invariant.passed is_open a told entries has in
-    next_leads passed c.in-Some.outcome c.advance.new.self c.item_of-item.new.self
-    (λ shut. (c.in-Some.ensures.shut shut).0) c.in-Some.ensures.told
-    (rw (same, invariant.dialect) at c.item_of-item.ensures.adds) told
+    let (passed, same) = invariant.passed is_open a told in
+    next_leads told has passed c.in-Some.outcome c.advance.new.self c.item_of-item.new.self
+    (answers c.in-Some.ensures.shut c.in-Some.ensures.told)
+    (rw (same, invariant.dialect) at c.item_of-item.ensures.adds)
 
 -- which reads the line that was taken asks for
 asks : (g : given.Over) (c : After-is_some g) →
@@ -45,7 +47,7 @@ pub lines-init : goal.lines-init
 lines-init g c = record {
   falls = search rules;
   shut = λ shut. refl;
-  passed = λ is_open a told entries has. (passed_none is_open told has, refl);
+  passed = λ is_open a told. (read_none told.0 is_open, refl);
   dialect = refl;
   asks = asks_none _ c.args.self.now.lines.input c.args.self.now.lines.input refl refl refl refl;
 }
@@ -66,8 +68,9 @@ lines-preserved g c =
     let invariant = rw (← c.self.view_is) at c.lines.invariant in record {
       falls = search rules;
       shut = λ shut. absurd (shut_gives g after shut);
-      passed = λ is_open a told entries has.
-          (leads g after (0, 0) a entries is_open told has).passes (sym c.is_some.ensures ∙ c.if-is_some.false);
+      passed = λ is_open a told.
+          let has = left_exists c.args.self.now.dialect a.fault a.bytes in
+          (leads g after (0, 0) a has.0 is_open told has.1).passes (sym c.is_some.ensures ∙ c.if-is_some.false);
       dialect = c.item_of-item.ensures.dialect ∙ invariant.dialect;
       asks = asks g after;
     }
@@ -76,12 +79,11 @@ pub returns-clause-next : goal.returns-clause-next
 returns-clause-next g c = λ before.
     let invariant = rw (← c.self.view_is) at c.lines.invariant in (
       λ is_open a told entries has.
-          let (passed, same) = invariant.passed is_open a told entries has in
-          let none =
-          passed_all c.advance.new.self.lines passed
-          (λ shut. cc (c.in_default.ensures.shut shut).1)
-          (λ still. c.in_default.ensures.told _ still (passed.uses.moves.is_left, told.1)) in
-          (none.0, none.1, none.2, refl),
+          let (passed, same) = invariant.passed is_open a told in
+          let after = entries_left passed entries has in
+          let e = read_end told passed (answers c.in_default.ensures.shut c.in_default.ensures.told) in
+          let none = left_once _ a.fault passed.left after.0 [] after.1 (left-none _ a.fault passed.left e.0 e.1) in
+          (after.2 ∙ none, e.1, e.2, refl),
       λ shut.
           let same = invariant.shut shut in
           let end = c.in_default.ensures.shut (λ opened. shut cc) in (refl, rw (end.1, ← same)),

@@ -1,10 +1,8 @@
-use Rattle.std.proofs.Common.{◌≡◌, ◌≢◌, ◌≤◌, List}
+use Rattle.std.proofs.Common.{◌≡◌, ◌≢◌, ◌≤◌}
 use Rattle.dotenvy_lines.specs.declared.lines.Stage.TheVariants.{Open}
-use Rattle.dotenvy_format.specs.Entries.{Entry}
 use Rattle.dotenvy_base.specs.Source.{Ahead}
 use Rattle.dotenvy_lines.specs.Input.{AsksReads, IsTold}
 use Rattle.dotenvy_lines.specs.Lines.{lines_measure}
-use Rattle.dotenvy_lines.specs.Reading.{HasEntriesLeft}
 use Rattle.dotenvy_items.proofs.NextItems.{Passed}
 use Rattle.dotenvy_items.proofs.iter.Reading.next.Given as goal
 
@@ -14,9 +12,7 @@ invariant-lines g l = record {
   falls : lines_measure l.self.lines ≤ lines_measure l.fn.self.lines;
   shut : l.fn.self.lines.stage ≢ Open → l.self ≡ l.fn.self;
   passed : l.fn.self.lines.stage ≡ Open → (a : Ahead) → IsTold l.fn.self.lines.input.left a →
-      (entries : List Entry) → HasEntriesLeft l.fn.self.dialect a.fault a.bytes entries →
-      Passed a l.fn.self.dialect l.fn.self.lines entries l.self.lines
-      × (l.self.remembered ≡ l.fn.self.remembered);
+      Passed a l.fn.self.dialect l.fn.self.lines l.self.lines × (l.self.remembered ≡ l.fn.self.remembered);
   dialect : l.self.dialect ≡ l.fn.self.dialect;
   asks : AsksReads (l.self.lines.stage ≡ Open) l.fn.self.lines.input l.self.lines.input;
 }

@@ -1,0 +1,49 @@
+use Rattle.std.proofs.Common.{[], ◌∷◌, refl, ◌≡◌, ◌+◌, ◌-◌, ◌*◌, ◌/◌, ◌%◌, arith}
+use Rattle.std.proofs.lemmas.Str.{chars-nil}
+use Rattle.dotenvy_format.specs.Value.{escape_meaning, LastBackslash}
+use Rattle.dotenvy_format.specs.inside.ReadValue.{value_goes}
+use Rattle.dotenvy_format.proofs.values.Readings.{stop, escape_read, end_read, lacks_end}
+use Rattle.dotenvy_format.proofs.values.NextPiece.{gives_texts}
+use Rattle.dotenvy_format.proofs.values.BackslashRows.{row_boundary, gives_backslashes}
+use Rattle.dotenvy_format.proofs.value.escape.Goals as goal
+
+pub split_at-requires : goal.split_at-requires
+split_at-requires c = row_boundary c.args.left.now _ c.utf8.left (omega arith) (omega arith)
+
+pub split_at-requires-then-more-gt0 : goal.split_at-requires-then-more-gt0
+split_at-requires-then-more-gt0 c = row_boundary c.args.left.now _ c.utf8.left (omega arith) (omega arith)
+
+pub returns-then-more-gt0 : goal.returns-then-more-gt0
+returns-then-more-gt0 c =
+    let more = c.row_len-more.result in
+    let pairs = more / 2 + more % 2 in
+    let front : pairs - 1 + 1 ≡ pairs = omega arith in
+    let back : pairs - 1 + (pairs - 1) + 1 ≡ 2 * pairs - 1 = omega arith in
+    λ dialect.
+    gives_backslashes c.args.left.now (pairs - 1) c.utf8.left (omega arith)
+    (rw front c.split_at.ensures.front) (rw back c.split_at-then-more-gt0.ensures.back)
+
+pub returns-in-Unquoted : goal.returns-in-Unquoted
+returns-in-Unquoted c =
+    λ dialect.
+    rw c.in-Unquoted.is (record {
+      pieces = LastBackslash ∷ [];
+      is_read = rw (c.in-None.ensures, chars-nil) (end_read refl);
+      follows = c.utf8.left;
+      means = λ look_up. refl;
+      names = refl;
+    })
+
+pub returns-in-DoubleQuoted : goal.returns-in-DoubleQuoted
+returns-in-DoubleQuoted c = λ dialect. rw (c.in-DoubleQuoted.is, c.in-None.ensures, chars-nil) (lacks_end refl)
+
+pub returns-in-Some-escaped : goal.returns-in-Some-escaped
+returns-in-Some-escaped c =
+    λ dialect.
+    let escape = c.in-Some-escaped.ensures in
+    gives_texts (escape_meaning c.in-Some.first ∷ []) c.in-Some.ensures.follows escape.1
+    (rw c.in-Some.ensures.characters (escape_read escape.0))
+
+pub returns-in-None-escaped : goal.returns-in-None-escaped
+returns-in-None-escaped c =
+    λ dialect. rw c.in-Some.ensures.characters (stop (rw (c.in-None-escaped.ensures, value_goes)))
