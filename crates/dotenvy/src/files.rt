@@ -7,15 +7,15 @@ ghost use Rattle.dotenvy_base.specs.Source.{nothing_told};
 ghost use Rattle.dotenvy_items.specs.Iter.{fresh};
 ghost use Rattle.dotenvy_items.specs.LoadsRest.{ChangesOnlyKeys, OnlyAdds};
 
-use crate::find::{open, open_filename};
+use crate::find::{open_filename, opened};
 use dotenvy_base::environment::Environment;
 use dotenvy_base::errors::Result;
 use dotenvy_base::source::Plain;
 use dotenvy_format::dialect::Dialect;
-use dotenvy_items::iter::{Iter, from_read, from_read_iter, from_read_override};
+use dotenvy_items::iter::{Iter, from_read_iter};
 use std::alloc::{Alloc, Allocator};
 use std::env::Env;
-use std::fs::Files;
+use std::fs::{File, Files};
 use std::path::{Path, PathBuf};
 
 /// Loads the file at a path: a name that is there keeps its value (docs/GRAMMAR.md, "Loading").
@@ -32,7 +32,7 @@ pub fn from_path<A: Allocator + Clone, R: Files + Alloc<A = A>>(
 ) -> Result<(), A>
     ensures adds { OnlyAdds env.old env.new }
 {
-    from_read(rt.alloc(), open(rt, path)?, env)
+    from_path_iter(rt, path)?.load(env)
 }
 
 /// As [`from_path`], but each name that the file declares is set.
@@ -47,7 +47,7 @@ pub fn from_path_override<A: Allocator + Clone, R: Files + Alloc<A = A>>(
 ) -> Result<(), A>
     ensures changes { ChangesOnlyKeys env.old env.new }
 {
-    from_read_override(rt.alloc(), open(rt, path)?, env)
+    from_path_iter(rt, path)?.load_override(env)
 }
 
 /// A fresh iterator over the file at a path; nothing is read yet, and nothing is set. `Io` tells why the file could not
@@ -63,7 +63,7 @@ pub fn from_path_iter<A: Allocator + Clone, R: Files + Alloc<A = A>>(
     ensures ok { IfOk result (λ file. file ≡ fresh nothing_told Dialect.V15) }
     ensures fault { IfErr result IsFileFault }
 {
-    from_read_iter(rt.alloc(), open(rt, path)?)
+    from_read_iter(rt.alloc(), opened(File::open(rt, path))?)
 }
 
 /// Searches for the file of a name in the current directory and in those above it, and loads it: a name that is there

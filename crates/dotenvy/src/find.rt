@@ -75,19 +75,12 @@ pub fn open_filename<A: Allocator + Clone, R: Files + Env + Alloc<A = A>>(
     ensures fault { IfErr result IsFileFault }
 {
     let path = find_filename(rt, filename)?;
-    let file = open(rt, path.as_path())?;
+    let file = opened(File::open(rt, path.as_path()))?;
     Ok((path, Iter::with_dialect(rt.alloc(), file, dialect)?))
 }
 
-/// Opens a file for reading.
-pub(crate) fn open<A: Allocator, R: Files>(rt: &R, path: Path<'_>) -> Result<Plain<R::File>, A>
-    ensures fault { IfErr result IsFileFault }
-{
-    opened(File::open(rt, path))
-}
-
-// The file that an opening gave, or why there is none: each fault of an opening is one.
-fn opened<F: Read, A: Allocator>(answer: io::Result<F>) -> Result<Plain<F>, A>
+/// The file that an opening gave, or why there is none: each fault of an opening is one.
+pub(crate) fn opened<F: Read, A: Allocator>(answer: io::Result<F>) -> Result<Plain<F>, A>
     ensures file { OnOk answer (IsOk result) }
     ensures fault { IfErr answer (λ fault. result ≡ Err (or_memory (Error.Io fault))) }
 {

@@ -30,9 +30,12 @@ fn add_entry(alloc: Global, entry: &[u8], pairs: &mut Pairs) -> Result<()>
     Ok(())
 }
 
-// The pairs of a block, in order.
-fn pairs_in(alloc: Global, block: &[u8]) -> Result<Pairs>
-    ensures ok { IfOk result (λ pairs. text_entries pairs.items ≡ block_pairs block.now) }
+/// The environment that a block stands for.
+///
+/// An entry is skipped if it is not UTF-8, has no `=` or has no valid name; of several entries with one name the first
+/// counts. The last entry may lack its NUL. The error is `Memory`.
+pub fn environment_of(alloc: Global, block: &[u8]) -> Result<Environment>
+    ensures names { IfOk result (λ environment. environment.names ≡ block_names block.now) }
     ensures memory { IfErr result IsMemory }
 {
     let mut pairs = Vec::new(alloc);
@@ -43,18 +46,7 @@ fn pairs_in(alloc: Global, block: &[u8]) -> Result<Pairs>
         rest = &after[1..];
     }
     add_entry(alloc, rest, &mut pairs)?;
-    Ok(pairs)
-}
-
-/// The environment that a block stands for.
-///
-/// An entry is skipped if it is not UTF-8, has no `=` or has no valid name; of several entries with one name the first
-/// counts. The last entry may lack its NUL. The error is `Memory`.
-pub fn environment_of(alloc: Global, block: &[u8]) -> Result<Environment>
-    ensures names { IfOk result (λ environment. environment.names ≡ block_names block.now) }
-    ensures memory { IfErr result IsMemory }
-{
-    Environment::from_pairs(alloc, pairs_in(alloc, block)?)
+    Environment::from_pairs(alloc, pairs)
 }
 
 /// The block that stands for an environment, in byte order of the names. The error is `Memory`.

@@ -53,19 +53,6 @@ fn refusal(status: u32) -> Answer
     }
 }
 
-// Loads what is left of a file by the rule that is asked for.
-fn load_file(file: Iter<Bytes<'_>>, options: u32, environment: &mut Environment) -> Result<()>
-    ensures loads { IsOpen file.entry →
-        LoadsRest (rule_asked options) file.entry environment.old.names result environment.new.names }
-    ensures keys { ChangesKeys environment.old.names environment.new.names }
-{
-    if has_option(options, OVERRIDE) {
-        file.load_override(environment)
-    } else {
-        file.load(environment)
-    }
-}
-
 // Loads a file over the environment of a block. The error is `Memory`.
 fn load_over(alloc: Global, file: &[u8], block: &[u8], options: u32) -> Result<Loaded>
     ensures ok { IfOk result (IsLoaded options file.now block.now) }
@@ -73,7 +60,11 @@ fn load_over(alloc: Global, file: &[u8], block: &[u8], options: u32) -> Result<L
 {
     let mut environment = environment_of(alloc, block)?;
     let file = Iter::with_dialect(alloc, Bytes::new(file), dialect_of(options))?;
-    let outcome = load_file(file, options, &mut environment);
+    let outcome = if has_option(options, OVERRIDE) {
+        file.load_override(&mut environment)
+    } else {
+        file.load(&mut environment)
+    };
     let Some(told) = outcome_told(&outcome) else {
         return Err(Error::Memory(AllocError));
     };

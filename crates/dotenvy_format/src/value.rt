@@ -3,7 +3,7 @@
 ghost use Rattle.std.specs.Prelude.{◌≡◌, ◌<◌, ◌==◌, ◌&&◌, not, [], IsTrue};
 ghost use Rattle.std.specs.List.{prefix_len};
 ghost use Rattle.std.specs.Str.{chars};
-ghost use Rattle.dotenvy_format.specs.inside.ReadValue.{base, escaping, in_single, naming, bracing, in_tail};
+ghost use Rattle.dotenvy_format.specs.inside.ReadValue.{base, escaping, in_single, naming, in_tail};
 ghost use Rattle.dotenvy_format.specs.Characters.{backslash, left_brace, begins_with, is_name_character, begins_passing};
 ghost use Rattle.dotenvy_format.specs.Value.{is_left_by_name, is_plain};
 ghost use Rattle.dotenvy_format.specs.inside.NextPiece.{other_quoting, is_empty, kind_of, Escapes, NextPieceIs, IsShorter};
@@ -155,27 +155,19 @@ fn single_quoted(left: &str) -> NextPiece<'_>
     }
 }
 
-// What follows `${`.
-fn braced(left: &str, quoting: Quoting) -> NextPiece<'_>
-    ensures { (dialect : _) →
-        NextPieceIs dialect (bracing quoting []) (chars left.now) result }
-{
-    match left.split_once('}') {
-        Some((name, rest)) => NextPiece::Piece(Given {
-            piece: Piece::Name { name, after: "" },
-            rest,
-            quoting,
-        }),
-        None => NextPiece::Unfinished,
-    }
-}
-
 // What follows `$`. The character after a bare name is text, or is left to what follows.
 fn substitution(left: &str, quoting: Quoting, dialect: Dialect) -> NextPiece<'_>
     ensures { NextPieceIs dialect (naming quoting []) (chars left.now) result }
 {
     if let Some(inner) = left.strip_prefix('{') {
-        return braced(inner, quoting);
+        let Some((name, rest)) = inner.split_once('}') else {
+            return NextPiece::Unfinished;
+        };
+        return NextPiece::Piece(Given {
+            piece: Piece::Name { name, after: "" },
+            rest,
+            quoting,
+        });
     }
     let (name, rest) = split_while(left, Class::Name(dialect));
     match split_first(rest) {

@@ -1,9 +1,9 @@
 -- What the first pass over a line finds, in the words of the format.
-use Rattle.std.proofs.Common.{◌≡◌, ◌≢◌, ℕ, ◌+◌, ◌<◌, false, not, List, [], ◌∷◌, ◌++◌, Option}
+use Rattle.std.proofs.Common.{◌≡◌, ◌≢◌, ℕ, ◌+◌, ◌<◌, Bool, false, not, List, [], ◌∷◌, ◌++◌, Option}
 use Rattle.std.proofs.Common.{Some, None, Ok, Err, refl, sym, ◌∙◌, ap, subst, arith, length, take}
 use Rattle.std.proofs.Common.{length-append, inl, inr}
 use Rattle.std.specs.Prelude.{◌-◌, MatchOption, is_some, if◌then◌else◌, string_bytes}
-use Rattle.std.specs.Str.{chars, encode_utf8_all, IsUtf8, drop_trailing_whitespace}
+use Rattle.std.specs.Str.{chars, encode_utf8_all, IsUtf8, drop_trailing_whitespace, trim_end, trim_start}
 use Rattle.std.proofs.lemmas.Bool.Decides.{nat_tests}
 use Rattle.std.proofs.lemmas.List.{append-nil}
 use Rattle.std.proofs.lemmas.Str.{encodes-chars, encodes-append, chars-nil, chars_from_encodes, IsUtf8-string_bytes}
@@ -18,14 +18,15 @@ use Rattle.dotenvy_items.specs.Remembered.{Remembered}
 use Rattle.dotenvy_items.specs.inside.ParsedLine.{IsLineAnswer, Remembers}
 use Rattle.dotenvy_format.specs.Characters.{byte_len, is_empty_or_comment}
 use Rattle.dotenvy_format.specs.Value.{Piece, IsValue}
-use Rattle.dotenvy_format.specs.Outcome.{Outcome, Pair, Fault as SaysFault, Says, is_nothing, value_index, Assigns}
+use Rattle.dotenvy_format.specs.Outcome.{Outcome, Pair, Fault as SaysFault, HasNoValue, Says, is_nothing, value_index, Assigns}
 use Rattle.dotenvy_format.specs.Items.{LookUp, meaning}
 use Rattle.dotenvy_format.specs.inside.ReadValue.{base, read_value}
 use Rattle.dotenvy_items.specs.inside.ValuePasses.{IsMeasured, KnowsMeaning}
 use Rattle.dotenvy_base.proofs.Basics.{nil_of}
 use Rattle.dotenvy_format.proofs.Basics.{not_is}
+use Rattle.dotenvy_format.proofs.statements.StatementParts.{chars-trim_start, chars-trim_end}
 use Rattle.dotenvy_format.specs.inside.ParseStatement.{parse}
-use Rattle.dotenvy_items.specs.inside.FirstPass.{IsAssigned, ScansAssigned, IsDeclared, Scans, IsPairOf}
+use Rattle.dotenvy_items.specs.inside.FirstPass.{IsAssigned, IsDeclared, Scans, IsPairOf}
 use Rattle.dotenvy_format.proofs.values.Values.{value-read}
 use Rattle.dotenvy_format.proofs.statements.StatementPlaces.{parse-statement, parse-fault, front_bytes}
 
@@ -78,29 +79,35 @@ measured_value dialect look_up value = at (read_value dialect (chars value.text.
     at None e k = absurd k
     at (Some pieces) e k = (pieces, value-read dialect (chars value.text.now) pieces e, k)
 
+-- a line says nothing where its text, without white space around it, is empty or a comment
+pub says_nothing : (line end start : List ℕ) (nothing : Bool) → IsUtf8 line → IsUtf8 end → end ≡ trim_end line →
+    start ≡ trim_start end → nothing ≡ is_empty_or_comment (chars start) →
+    is_nothing (drop_trailing_whitespace (chars line)) ≡ nothing
+says_nothing line end start nothing u v ends starts is =
+    rw (← chars-trim_end line end u ends, ← chars-trim_start end start v starts) (sym is)
+
 -- where what a line's statement assigns is so declared, the line declares it
-pub declared : (dialect : Dialect) (look_up : LookUp) (line key rest : List ℕ) (declaration : Declaration) →
-    is_nothing (drop_trailing_whitespace line) ≡ false → parse (drop_trailing_whitespace line) ≡ Ok (key, rest) →
-    ScansAssigned dialect look_up key rest (Ok declaration) → Scans dialect look_up line (Ok (Some declaration))
-declared dialect look_up line key rest declaration some parsed is = record {
+pub declared : (dialect : Dialect) (look_up : LookUp) (line rest : List ℕ) (pieces : List Piece)
+    (declaration : Declaration) → is_nothing (drop_trailing_whitespace line) ≡ false →
+    parse (drop_trailing_whitespace line) ≡ Ok (chars declaration.key.now, rest) →
+    IsAssigned dialect look_up rest pieces declaration.value → Scans dialect look_up line (Ok (Some declaration))
+declared dialect look_up line rest pieces declaration some parsed is = record {
   some = ap not some;
   rest = rest;
-  statement =
-      parse-statement (drop_trailing_whitespace line) (chars declaration.key.now) rest
-      (parsed ∙ ap (λ k. Ok (k, rest)) (sym is.0));
-  pieces = is.1;
-  is_assigned = is.2;
+  statement = parse-statement (drop_trailing_whitespace line) (chars declaration.key.now) rest parsed;
+  pieces = pieces;
+  is_assigned = is;
 }
 
 -- a line that assigns what has a fault says that fault
-pub value_fault : (dialect : Dialect) (look_up : LookUp) (line key rest : List ℕ) (fault : Fault) →
-    is_nothing (drop_trailing_whitespace line) ≡ false → parse (drop_trailing_whitespace line) ≡ Ok (key, rest) →
-    ScansAssigned dialect look_up key rest (Err fault) → Scans dialect look_up line (Err fault)
-value_fault dialect look_up line key rest fault some parsed is =
-    subst (λ t. Says dialect line (SaysFault t fault.index)) (sym is.0) (
-      ap not some,
-      inr (key, parse-statement (drop_trailing_whitespace line) key rest parsed, is.1),
-    )
+pub value_fault : (dialect : Dialect) (look_up : LookUp) (line key : List ℕ) (fault : Fault) →
+    is_nothing (drop_trailing_whitespace line) ≡ false →
+    parse (drop_trailing_whitespace line) ≡ Ok (key, chars fault.text.now) →
+    HasNoValue dialect (chars fault.text.now) fault.index → Scans dialect look_up line (Err fault)
+value_fault dialect look_up line key fault some parsed is = (
+  ap not some,
+  inr (key, parse-statement (drop_trailing_whitespace line) key (chars fault.text.now) parsed, is),
+)
 
 -- what is left at a fault in a statement is the back of its text
 pub left_of_statement : (text left : List ℕ) → parse text ≡ Err left → (front : List ℕ) × (text ≡ front ++ left)

@@ -1,5 +1,5 @@
 -- The next item: the lines that add nothing are passed, and the first that adds one gives it.
-use Rattle.std.proofs.Common.{◌≡◌, true, false, List, [], ◌∷◌, Option, Some, None, Result, Ok, Err}
+use Rattle.std.proofs.Common.{ℕ, ◌≡◌, true, false, List, [], ◌∷◌, Option, Some, None, Result, Ok, Err}
 use Rattle.std.proofs.Common.{inl, inr, refl, string_bytes}
 use Rattle.std.specs.Prelude.{is_some}
 use Rattle.std.specs.Str.{chars}
@@ -21,10 +21,10 @@ use Rattle.dotenvy_lines.proofs.LinesRead.{Read, TakesLine, Answers, line_taken,
 use Rattle.dotenvy_lines.proofs.LinesRead.{entries_left, read_decided, next_outcome}
 use Rattle.dotenvy_lines.proofs.NumberedLines.{counts_more}
 use Rattle.dotenvy_items.specs.Iter.{IterState, state_of}
-use Rattle.dotenvy_items.specs.NextItem.{Item, ItemIs, TakesEntry}
+use Rattle.dotenvy_items.specs.NextItem.{Item, ItemIs, NextItem, TakesEntry}
 use Rattle.dotenvy_items.specs.Remembered.{Remembered}
-use Rattle.dotenvy_items.specs.inside.Reading.{ReadingState}
-use Rattle.dotenvy_items.specs.inside.ItemStep.{lines_after, AddsEntries, IsRefused, AddsLine, item_lines_then}
+use Rattle.dotenvy_items.specs.inside.Reading.{ReadingState, reads_on}
+use Rattle.dotenvy_items.specs.inside.ItemStep.{lines_after, AddsEntries, IsRefused, AddsLine, GivesNext, item_lines_then}
 
 -- from s on, lines that add nothing were passed
 abbrev pub Passed : Ahead → Dialect → LinesState → LinesState → Type 0
@@ -150,3 +150,9 @@ next_leads {A} {names} {a} {s} {entries} {p} {item} told has k line m v answers 
     at (Err (EnvVar e)) adds (inl (count, takes, counts, goes_on)) = absurd takes
     at (Err (Nul key)) adds (inl (count, takes, counts, goes_on)) = absurd takes
     at (Err (Memory e)) adds (inl (count, takes, counts, goes_on)) = absurd takes
+
+-- the next item is that of what is read, for an iterator that is seen to read it
+pub seen_item : {A : Type 0} {s t : IterState} {item : Option (Item A)} (names : Texts) (u v : ReadingState)
+    (before : ℕ × ℕ) → reads_on u before ≡ s → t ≡ reads_on v (item_lines_then item v.lines before) →
+    GivesNext names u item v → NextItem names s item t
+seen_item names u v before is end gives = rw (← is, end) (gives before)

@@ -294,3 +294,8 @@ loads_by s old same loads = rw same at loads
 pub stops_by : {A : Type 0} {f g : Rule} (s t : IterState) (old : Texts) (answer : Result (Unit {0}) (Error A)) →
     f ≡ g → Stops f s old answer t → Stops g s old answer t
 stops_by s t old answer same stops = rw same at stops
+
+-- a load stops so where its result and its end are these
+pub stops_as : {A : Type 0} {t v : IterState} {answer said : Result (Unit {0}) (Error A)} (rule : Rule) (s : IterState)
+    (old : Texts) → answer ≡ said → v ≡ t → Stops rule s old said t → Stops rule s old answer v
+stops_as rule s old is end stops = rw (is, end) stops

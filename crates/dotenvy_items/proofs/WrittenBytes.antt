@@ -41,7 +41,7 @@ pub escaped_bytes : (c : ℕ) → needs_backslash c ≡ true →
 escaped_bytes c h = rw (h, encode_ascii backslash (omega arith), append-nil (encode_utf8 c))
 
 -- a character that needs no backslash is written as its own bytes
-pub unescaped_bytes : (c : ℕ) → needs_backslash c ≡ false → encode_utf8_all (written_character c) ≡ encode_utf8 c
+unescaped_bytes : (c : ℕ) → needs_backslash c ≡ false → encode_utf8_all (written_character c) ≡ encode_utf8 c
 unescaped_bytes c h = rw (h, append-nil (encode_utf8 c))
 
 -- a written character has its own bytes, and one more if it is kept as one that needs a backslash
@@ -100,8 +100,5 @@ first_bytes {key = key} {value = value} {rest = rest} k v first =
     let pair = written_pair (chars key, chars value) in
     rw (first, k, v, append-nil pair) (encodes-append pair (written_text (texts rest)))
 
--- what the push of one character is proved from
-pub ruleset character_steps = (escaped_bytes, unescaped_bytes, encode_ascii, append_assoc)
-
 -- what the push of a pair is proved from
-pub ruleset written_steps = (pair_bytes, left_len, left_next, left_run, left_none, length-append, append_assoc)
+pub ruleset written_steps = (pair_bytes, left_len, left_next, left_run, left_none, escaped_bytes, length-append, append_assoc)

@@ -11,12 +11,12 @@ ghost use Rattle.dotenvy_base.specs.Environment.{KeepsNames};
 ghost use Rattle.dotenvy_format.specs.Run.{Keep, Replace, run};
 ghost use Rattle.dotenvy_format.specs.Loads.{load_result, override_result};
 ghost use Rattle.dotenvy_lines.specs.Lines.{lines_measure, no_line};
-ghost use Rattle.dotenvy_items.specs.inside.ItemStep.{lines_after, AddsLine, GivesNext, item_lines_then};
+ghost use Rattle.dotenvy_items.specs.inside.ItemStep.{lines_after, AddsLine, GivesNext};
 ghost use Rattle.dotenvy_items.specs.Iter.{state_of};
 ghost use Rattle.dotenvy_items.specs.NextItem.{unnumbered, GivesKey, GivesName, IsNumbered, NextItem};
 ghost use Rattle.dotenvy_items.specs.LoadsRest.{ChangesOnlyKeys, LoadsRest, OnlyAdds};
 ghost use Rattle.dotenvy_items.specs.LoadStops.{Stops};
-ghost use Rattle.dotenvy_items.specs.inside.LoadStep.{mode_of, stopped, LoadIs};
+ghost use Rattle.dotenvy_items.specs.inside.LoadStep.{mode_of, LoadIs};
 
 use crate::loads::{Mode, load_line};
 use crate::parse::{Line, Pair, parse_line};
@@ -156,9 +156,11 @@ impl<R: Source, A: Allocator + Clone> Iter<R, A> {
         // Which reads it asks for, over every reader that tells its calls.
         ensures asks { AsksBetween self.old self.new }
     {
-        let item = self.reading.next(env);
-        self.item_lines = lines_then(&item, &self.reading.lines, self.item_lines);
-        item
+        let Some(item) = self.reading.next(env) else {
+            return None;
+        };
+        self.item_lines = self.reading.lines.last_lines();
+        Some(item)
     }
 
     /// The physical line on which the last item begins, counted from 1.
@@ -254,20 +256,6 @@ pub fn into_lines<R: Source + Drop, A: Allocator>(iter: Iter<R, A>) -> (Splitter
         dialect,
     } = reading;
     (lines, dialect)
-}
-
-// The lines on which the last item stands, once this one was given, if it was.
-fn lines_then<R: Source, A: Allocator + Clone>(
-    item: &Option<Result<Pair<A>, A>>,
-    lines: &Splitter<R, A>,
-    before: (u64, u64),
-) -> (u64, u64)
-    ensures { result ≡ item_lines_then item.now lines.now.lines before }
-{
-    match item {
-        Some(_) => lines.last_lines(),
-        None => before,
-    }
 }
 
 impl<R: Source, A: Allocator + Clone> Reading<R, A> {
@@ -408,17 +396,10 @@ impl<R: Source, A: Allocator + Clone> Iter<R, A> {
     {
         let loaded = self.load_each_line(mode, env);
         if let Err(error) = &loaded {
-            self.stop(error);
+            self.reading.fail_if_refused(error);
+            self.item_lines = self.reading.lines.last_lines();
         }
         loaded
-    }
-
-    // Keeps the lines of the fault at which a load stopped. Refused memory is final.
-    fn stop(&mut self, error: &Error<A>)
-        ensures { self.new ≡ stopped error.now self.old }
-    {
-        self.reading.fail_if_refused(error);
-        self.item_lines = self.reading.lines.last_lines();
     }
 
     // Drops a byte order mark at the present place, then loads line after line. The values that were remembered before

@@ -7,7 +7,7 @@ ghost use Rattle.dotenvy_base.specs.Errors.{IsMemory};
 ghost use Rattle.dotenvy_items.specs.Remembered.{remembered_of};
 ghost use Rattle.dotenvy_items.specs.Meaning.{look_up_of, names_of};
 ghost use Rattle.dotenvy_format.specs.Value.{Piece};
-ghost use Rattle.dotenvy_items.specs.inside.FirstPass.{IsAssigned, ScansAssigned, Scans, GivesPair, IsFaultOf};
+ghost use Rattle.dotenvy_items.specs.inside.FirstPass.{IsAssigned, Scans, GivesPair, IsFaultOf};
 ghost use Rattle.dotenvy_items.specs.inside.ParsedLine.{AnswersLine, Remembers, HasKey};
 
 use crate::meaning::{Known, Names};
@@ -95,30 +95,6 @@ fn fault_index(value: &str, left: &str) -> usize
     }
 }
 
-// The declaration of what is assigned to a key, or the fault in it.
-fn scan_assigned<'n, 'a, A: Allocator>(
-    key: &'a str,
-    text: &'a str,
-    names: &Names<'n, A>,
-    dialect: Dialect,
-) -> std::result::Result<Declaration<'n, 'a>, Fault<'a>>
-    ensures { ScansAssigned dialect (look_up_of names.now) (chars key.now) (chars text.now) result }
-{
-    if is_empty_or_comment(text) {
-        return Ok(Declaration { key, value: None });
-    }
-    match names.measure(text, dialect) {
-        Ok(value) => Ok(Declaration {
-            key,
-            value: Some(value),
-        }),
-        Err(left) => Err(Fault {
-            text,
-            index: fault_index(text, left),
-        }),
-    }
-}
-
 /// The first pass, which takes no memory: nothing, a declaration with the length of its value's meaning, or the fault.
 pub fn scan_line<'n, 'a, A: Allocator>(
     line: &'a str,
@@ -131,14 +107,27 @@ pub fn scan_line<'n, 'a, A: Allocator>(
     if is_empty_or_comment(trimmed.trim_start()) {
         return Ok(None);
     }
-    match split_statement(trimmed) {
-        Ok(statement) => match scan_assigned(statement.key, statement.rest, names, dialect) {
-            Ok(declaration) => Ok(Some(declaration)),
-            Err(fault) => Err(fault),
-        },
+    let statement = match split_statement(trimmed) {
+        Ok(statement) => statement,
+        Err(left) => {
+            return Err(Fault {
+                text: line,
+                index: front_len(trimmed, left),
+            });
+        }
+    };
+    let (key, text) = (statement.key, statement.rest);
+    if is_empty_or_comment(text) {
+        return Ok(Some(Declaration { key, value: None }));
+    }
+    match names.measure(text, dialect) {
+        Ok(value) => Ok(Some(Declaration {
+            key,
+            value: Some(value),
+        })),
         Err(left) => Err(Fault {
-            text: line,
-            index: front_len(trimmed, left),
+            text,
+            index: fault_index(text, left),
         }),
     }
 }

@@ -43,20 +43,6 @@ fn written_len(key: &str, text: &str) -> usize
         .saturating_add(around)
 }
 
-// Appends a character of a value, as it is written, to a text that has room for it.
-#[tactic(auto, using(crate::proofs::WrittenBytes::character_steps))]
-fn push_character<A: Allocator>(out: &mut String<A>, c: char)
-    requires { string_len out.old + byte_len (written_character c) ≤ string_capacity out.old }
-    ensures bytes { string_bytes out.new
-        ≡ string_bytes out.old ++ encode_utf8_all (written_character c) }
-    ensures capacity { string_capacity out.old ≤ string_capacity out.new }
-{
-    if needs_backslash(c) {
-        out.push('\\').unwrap();
-    }
-    out.push(c).unwrap();
-}
-
 // Appends the written form of a pair to a text that has room for it.
 #[tactic(auto, using(crate::proofs::WrittenBytes::written_steps))]
 fn push_written<A: Allocator>(out: &mut String<A>, key: &str, text: &str)
@@ -71,7 +57,8 @@ fn push_written<A: Allocator>(out: &mut String<A>, key: &str, text: &str)
     let mut rest = text;
     'parts: while let Some((first, after_first)) = split_first(rest) {
         if needs_backslash(first) {
-            push_character(out, first);
+            out.push('\\').unwrap();
+            out.push(first).unwrap();
             rest = after_first;
         } else {
             let (plain, after) = split_while(rest, Class::Plain(Quoting::DoubleQuoted));
@@ -80,18 +67,6 @@ fn push_written<A: Allocator>(out: &mut String<A>, key: &str, text: &str)
         }
     }
     out.push_str("\"\n").unwrap();
-}
-
-// How many bytes the listing takes, or the greatest number where that is more.
-fn listing_len<A: Allocator>(env: &Environment<A>) -> usize
-    ensures len { result ≡ saturated (byte_len (written_text (pairs_of env.now.names))) }
-    ensures texts { AreTexts env.now.names }
-{
-    let mut len = 0usize;
-    'pairs: for (key, value) in env.iter() {
-        len = len.saturating_add(written_len(key.as_str(), value.as_str()));
-    }
-    len
 }
 
 // Each pair in its written form, in byte order of the names. Memory is asked for once.
@@ -103,7 +78,11 @@ fn listing<A: Allocator + Clone>(
         (λ text. string_bytes text ≡ written_bytes (pairs_of env.now.names)) }
     ensures texts { AreTexts env.now.names }
 {
-    let mut out = String::with_capacity(alloc, listing_len(env))?;
+    let mut len = 0usize;
+    'lens: for (key, value) in env.iter() {
+        len = len.saturating_add(written_len(key.as_str(), value.as_str()));
+    }
+    let mut out = String::with_capacity(alloc, len)?;
     'pairs: for (key, value) in env.iter() {
         push_written(&mut out, key.as_str(), value.as_str());
     }

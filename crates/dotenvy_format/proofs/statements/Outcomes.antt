@@ -8,7 +8,6 @@ use Rattle.dotenvy_format.specs.Characters.{byte_len, is_empty_or_comment}
 use Rattle.dotenvy_format.specs.Statement.{IsStatement}
 use Rattle.dotenvy_format.specs.Places.{BeginsStatement, BeginsValue}
 use Rattle.dotenvy_format.specs.Outcome.{Outcome, Nothing, Pair, Fault, is_nothing, trimmed, value_index, Says}
-use Rattle.dotenvy_format.specs.Outcome.{HasNoValue}
 use Rattle.dotenvy_format.specs.inside.ParseStatement.{Parsed, parse}
 use Rattle.dotenvy_format.specs.inside.ReadValue.{ValueReading, read_value, value_reach, base}
 use Rattle.std.proofs.lemmas.Bool.{not-true}

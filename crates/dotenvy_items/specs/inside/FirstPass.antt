@@ -12,7 +12,7 @@ use Rattle.dotenvy_items.specs.declared.parse.Fault.{Fault}
 use Rattle.dotenvy_format.specs.Characters.{is_empty_or_comment}
 use Rattle.dotenvy_format.specs.Statement.{IsStatement}
 use Rattle.dotenvy_format.specs.Value.{Piece, IsValue}
-use Rattle.dotenvy_format.specs.Outcome.{Nothing, Fault as SaysFault, Says, trimmed, is_nothing, HasNoValue}
+use Rattle.dotenvy_format.specs.Outcome.{Nothing, Fault as SaysFault, Says, trimmed, is_nothing}
 use Rattle.dotenvy_format.specs.Items.{LookUp, meaning}
 use Rattle.dotenvy_items.specs.inside.ValuePasses.{KnowsMeaning}
 
@@ -22,15 +22,6 @@ IsAssigned dialect look_up rest pieces None = IsTrue (is_empty_or_comment rest) 
 IsAssigned dialect look_up rest pieces (Some value) =
     IsTrue (not (is_empty_or_comment rest)) × (chars value.text.now ≡ rest)
     × IsValue dialect rest pieces × KnowsMeaning look_up value pieces
-
--- the declaration of what is assigned to this key, or the fault in it
-abbrev pub ScansAssigned : (dialect : Dialect) → LookUp → List ℕ → List ℕ →
-    Result Declaration Fault → Type 0
-ScansAssigned dialect look_up key rest (Ok declaration) =
-    (chars declaration.key.now ≡ key) × (pieces : List Piece)
-    × IsAssigned dialect look_up rest pieces declaration.value
-ScansAssigned dialect look_up key rest (Err fault) =
-    (chars fault.text.now ≡ rest) × HasNoValue dialect rest fault.index
 
 -- the line declares this
 pub record IsDeclared (dialect : Dialect) (look_up : LookUp) (line : List ℕ)

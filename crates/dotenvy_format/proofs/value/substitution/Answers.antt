@@ -1,18 +1,19 @@
-use Rattle.std.proofs.Common.{List, ℕ, [], ◌∷◌, refl, sym}
+use Rattle.std.proofs.Common.{◌≡◌, List, ℕ, [], ◌∷◌, lit<, refl, sym}
+use Rattle.std.specs.Prelude.{◌==◌}
 use Rattle.std.specs.Str.{chars}
 use Rattle.std.specs.Char.{encode_utf8}
 use Rattle.std.proofs.lemmas.List.{append-nil}
-use Rattle.std.proofs.lemmas.Str.{chars-nil, chars_past_char}
+use Rattle.std.proofs.lemmas.Str.{chars-nil}
 use Rattle.dotenvy_format.specs.declared.dialect.Dialect.{Dialect}
 use Rattle.dotenvy_format.specs.declared.text.Quoting.{Quoting}
-use Rattle.dotenvy_format.specs.Characters.{left_brace, is_name_character}
-use Rattle.dotenvy_format.specs.inside.ReadValue.{naming}
+use Rattle.dotenvy_format.specs.Characters.{left_brace, right_brace, is_name_character}
+use Rattle.dotenvy_format.specs.inside.ReadValue.{bracing, naming}
 use Rattle.dotenvy_format.specs.inside.NextPiece.{IsReadTo}
 use Rattle.dotenvy_format.specs.inside.Slices.{IsSpan}
-use Rattle.dotenvy_format.proofs.bytes.Slices.{not_first, past_first, take_first}
-use Rattle.dotenvy_format.proofs.values.Readings.{brace_begun, name_run, read_then, stop_then, end_read, lacks_end}
+use Rattle.dotenvy_format.proofs.bytes.Slices.{begins_with_first, characters_fail, cut_once, not_first, past_first, take_first}
+use Rattle.dotenvy_format.proofs.values.Readings.{brace_begun, braced_read, braced_run, stop_open, name_run, read_then, stop_then, end_read, lacks_end}
 use Rattle.dotenvy_format.proofs.values.Readings.{name_left, name_ended}
-use Rattle.dotenvy_format.proofs.values.NextPiece.{next_after, no_brace_after, gives_name, ends_before, first_scalar}
+use Rattle.dotenvy_format.proofs.values.NextPiece.{no_brace_after, gives_name, ends_before, first_scalar}
 use Rattle.dotenvy_format.proofs.value.substitution.Goals as goal
 
 -- the longest run of name characters after a dollar is read as the name
@@ -21,16 +22,38 @@ name_span : {dialect : Dialect} {q : Quoting} {text name rest : List ℕ} →
     IsReadTo dialect (naming q []) text [] (naming q name) rest
 name_span span = rw span.spelled (name_run _ _ span.pass)
 
+-- a brace after the dollar begins a braced name
+brace_read : (dialect : Dialect) (q : Quoting) {text inner : List ℕ} → text ≡ left_brace ∷ inner →
+    IsReadTo dialect (naming q []) text [] (bracing q []) inner
+brace_read dialect q is = rw is brace_begun
+
 pub split_at-requires : goal.split_at-requires
 split_at-requires c =
     rw c.len_utf8.ensures.value
     (past_first _ _ c.in-Some-split_first.first c.split_while.ensures.texts.1 c.in-Some-split_first.ensures.bytes)
 
+pub returns-in_default-split_once : goal.returns-in_default-split_once
+returns-in_default-split_once c =
+    let found = c.in-Some.ensures.cases in
+    let inner = chars c.in-Some.inner.now in
+    let first = begins_with_first c.args.left.now c.in-Some.inner.now left_brace c.utf8.left
+    (rw found.2 found.1.split) in
+    let none = c.in_default-split_once.ensures.cases in
+    let fail = characters_fail (λ d. d == right_brace) c.in-Some.inner.now first.follows none in
+    stop_then (brace_read c.args.dialect c.args.quoting first.characters)
+    (stop_open inner (braced_run {q = c.args.quoting} inner [] fail) refl)
+
 pub returns-in-Some : goal.returns-in-Some
 returns-in-Some c =
     let found = c.in-Some.ensures.cases in
-    let first = chars_past_char c.args.left.now c.in-Some.inner.now left_brace c.utf8.left (rw found.2 found.1.split) in
-    next_after c.braced.result (rw first brace_begun) (c.braced.ensures c.args.dialect)
+    let first = begins_with_first c.args.left.now c.in-Some.inner.now left_brace c.utf8.left
+    (rw found.2 found.1.split) in
+    let brace = c.in-Some-split_once.ensures.cases in
+    let cut = cut_once right_brace c.in-Some.inner.now c.in-Some-split_once.name.now c.in-Some-split_once.rest.now brace.0
+    brace.1 first.follows (lit< tt) brace.2.0 brace.2.1 brace.3 brace.4 in
+    gives_name [] cut.rest_utf8 refl refl
+    (read_then {left = chars c.in-Some.inner.now} (brace_read c.args.dialect c.args.quoting first.characters)
+    (rw cut.spelled (braced_read _ _ cut.none_before)))
 
 pub returns-in-Unquoted : goal.returns-in-Unquoted
 returns-in-Unquoted c =

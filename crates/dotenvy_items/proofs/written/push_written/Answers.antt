@@ -1,15 +1,38 @@
 use Rattle.std.proofs.Common.{length, length-append, arith, ap}
 use Rattle.std.specs.Str.{chars}
-use Rattle.dotenvy_items.proofs.WrittenBytes.{left_len, left_next, left_run}
+use Rattle.dotenvy_items.proofs.WrittenBytes.{escaped_bytes, left_len, left_next, left_run}
 use Rattle.dotenvy_items.proofs.written.push_written.Goals as goal
 
-pub push_character-requires : goal.push_character-requires
-push_character-requires g c =
+pub unwrap-requires-then-needs_backslash : goal.unwrap-requires-then-needs_backslash
+unwrap-requires-then-needs_backslash g c =
     let i = c.parts.invariant in
     let whole = simp length-append at (ap length i.whole) in
     let next = simp length-append at (ap length (left_next c.parts.rest.now c.in-Some.after_first.now c.in-Some.first
     i.utf8 c.in-Some.ensures.bytes)) in
-    omega (arith, whole, next, i.capacity, c.requires, c.args.out.now.bytes.ok.0, c.parts.out.bytes.ok.0)
+    let escaped = ap length (escaped_bytes c.in-Some.first (search arith)) in
+    c.push.ensures.succeeds
+    (omega (arith, whole, next, escaped, i.capacity, c.requires, c.args.out.now.bytes.ok.0, c.parts.out.bytes.ok.0))
+
+pub unwrap-requires-then-needs_backslash-2 : goal.unwrap-requires-then-needs_backslash-2
+unwrap-requires-then-needs_backslash-2 g c =
+    let i = c.parts.invariant in
+    let whole = simp length-append at (ap length i.whole) in
+    let next = simp length-append at (ap length (left_next c.parts.rest.now c.in-Some.after_first.now c.in-Some.first
+    i.utf8 c.in-Some.ensures.bytes)) in
+    let escaped = ap length (escaped_bytes c.in-Some.first (search arith)) in
+    let len = rw c.unwrap-then-needs_backslash.ensures at c.push.ensures.len in
+    c.push-then-needs_backslash.ensures.succeeds (omega (
+      arith,
+      whole,
+      next,
+      escaped,
+      i.capacity,
+      c.requires,
+      c.args.out.now.bytes.ok.0,
+      c.parts.out.bytes.ok.0,
+      len,
+      c.push.ensures.capacity,
+    ))
 
 pub unwrap-requires-else-needs_backslash : goal.unwrap-requires-else-needs_backslash
 unwrap-requires-else-needs_backslash g c =

@@ -1,5 +1,5 @@
-use Rattle.std.proofs.Common.{◌≡◌, ℕ, ◌<◌, Bool, refl, arith, get_or, nat_eq, bit_and, not}
-use Rattle.std.proofs.lemmas.Bool.{agree_below, agree_below_at}
+use Rattle.std.proofs.Common.{ℕ, Bool, refl, arith, get_or, nat_eq, bit_and, not}
+use Rattle.std.proofs.lemmas.Bool.{agree_below_at}
 use Rattle.dotenvy_format.specs.declared.text.TheConstants.{KINDS}
 use Rattle.dotenvy_format.specs.Characters.{continues_key}
 use Rattle.dotenvy_format.specs.Value.{is_plain_outside}

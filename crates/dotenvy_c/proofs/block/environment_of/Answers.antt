@@ -3,7 +3,7 @@ use Rattle.std.proofs.lemmas.List.{take_all, length-drop, drop-drop}
 use Rattle.dotenvy.specs.Environment.{text_entries}
 use Rattle.dotenvy_c.specs.Block.{block_pairs}
 use Rattle.dotenvy_c.proofs.Entries.{entry_added, last_added}
-use Rattle.dotenvy_c.proofs.block.pairs_in.Goals as goal
+use Rattle.dotenvy_c.proofs.block.environment_of.Goals as goal
 
 pub entries-preserved : goal.entries-preserved
 entries-preserved c =
@@ -13,8 +13,9 @@ entries-preserved c =
     (take_all _ _ (let e = length-drop 1 c.split_at.result.1.now in omega (arith, e))
     ∙ ap (drop 1) c.split_at.ensures.back ∙ drop-drop 1 c.in-Some.at c.entries.rest.now)
 
-pub returns-clause-ok : goal.returns-clause-ok
-returns-clause-ok c =
-    last_added (text_entries c.entries.pairs.items) (text_entries c.add_entry-2.new.pairs.items)
+pub returns-clause-names : goal.returns-clause-names
+returns-clause-names c =
+    let pairs = last_added (text_entries c.entries.pairs.items) (text_entries c.add_entry-2.new.pairs.items)
     (block_pairs c.args.block.now) c.entries.rest.now c.in_ok-add_entry-2.ensures.ok c.in_default.ensures
-    c.entries.invariant
+    c.entries.invariant in
+    rw pairs at c.from_pairs.ensures.names

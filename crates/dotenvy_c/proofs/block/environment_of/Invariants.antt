@@ -1,7 +1,7 @@
 use Rattle.std.proofs.Common.{◌≡◌, ◌++◌, length}
 use Rattle.dotenvy.specs.Environment.{text_entries}
 use Rattle.dotenvy_c.specs.Block.{block_pairs}
-use Rattle.dotenvy_c.proofs.block.pairs_in.Given as goal
+use Rattle.dotenvy_c.proofs.block.environment_of.Given as goal
 
 -- the pairs so far, and those of what is left, are those of the block
 abbrev pub invariant-entries : goal.invariant-entries
