@@ -21,18 +21,3 @@ pub same_strings : {A : Type 0} (es fs : List (String A × String A)) →
     are_same_pairs (entries (of_strings es)) (entries (of_strings fs)) ≡ are_same_strings es fs
 same_strings es fs sorted others = rw (entries-strings es sorted, entries-strings fs others)
     (pointwise-map (λ p. (string_bytes p.0, string_bytes p.1)) (λ p q. bytes_eq p.0 q.0 && bytes_eq p.1 q.1) es fs)
-
--- lists of other lengths are not the same, pair by pair
-other_lengths : {T : Type 0} (same : T → T → Bool) (xs ys : List T) → length xs ≢ length ys →
-    pointwise same xs ys ≡ false
-other_lengths same [] [] differ = absurd (differ refl)
-other_lengths same [] (y ∷ ys) differ = refl
-other_lengths same (x ∷ xs) [] differ = refl
-other_lengths same (x ∷ xs) (y ∷ ys) differ =
-    elim (same x y) as (λ b. (b && pointwise same xs ys) ≡ false)
-    [ true ↦ other_lengths same xs ys (λ e. differ (ap suc e)) | false ↦ refl ]
-
--- lists of strings of other lengths are not the same, pair by pair
-pub other_strings : {A : Type 0} (es fs : List (String A × String A)) → length es ≢ length fs →
-    are_same_strings es fs ≡ false
-other_strings es fs differ = other_lengths (λ p q. string_eq p.0 q.0 && string_eq p.1 q.1) es fs differ

@@ -185,10 +185,7 @@ found_among name (d ∷ directories) ((first, File) ∷ asked) path a h =
 found_among name (d ∷ directories) ((first, Other) ∷ asked) path a h =
     found_among name directories asked path (went_on false _ _ a.1 refl) h
 found_among name (d ∷ directories) ((first, Fault fault) ∷ asked) path a h =
-    elim (is_not_found (error_kind fault)) as (λ b. (IsTrue (not b) × (asked ≡ []))
-    ⊎ (IsTrue (not (not b)) × AreAsked (map (λ d. path_in d name) directories) asked) →
-    cond b (search_answer asked) (EndedBy fault) ≡ FoundAt path → IsPathOf name path)
-    [ true ↦ λ x e. found_among name directories asked path (went_on false _ _ x refl) e | false ↦ λ x e. cc ] a.1 h
+    grind (arith, found_among name directories asked path)
 
 -- where the answer is no error, no allocation failed
 not_cut : {A Later : Type 0} (path : PathBuf A) (answer : SearchEnd) →

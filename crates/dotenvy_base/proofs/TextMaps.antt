@@ -1,6 +1,6 @@
 -- A map of strings, and the map of their bytes.
 use Rattle.std.proofs.Common.{◌≡◌, ℕ, Bool, true, false, cond, List, [], ◌∷◌, ◌++◌, filter, T, refl}
-use Rattle.std.proofs.Common.{sym, ◌∙◌, ap, subst}
+use Rattle.std.proofs.Common.{sym, ◌∙◌, ap, subst, arith}
 use Rattle.std.proofs.lemmas.List.{map-append, append-nil}
 use Rattle.std.proofs.lemmas.List.Elements.{filter-append}
 use Rattle.std.specs.Option.{option_or, unwrap_or}
@@ -53,13 +53,7 @@ find-texts : {A : Type 0} (q : List ℕ) (es : List (String A × String A)) →
     find bytes_cmp q (text_entries es)
     ≡ option_map string_bytes (lookup (is_at (λ k. bytes_cmp q (string_bytes k))) es)
 find-texts q [] = refl
-find-texts q (e ∷ es) =
-    elim (is_eq (bytes_cmp q (string_bytes e.0))) as (λ b.
-    cond b (Some (string_bytes e.1)) (find bytes_cmp q (text_entries es))
-    ≡ option_map string_bytes (cond b (Some e.1) (lookup (is_at (λ k. bytes_cmp q (string_bytes k))) es))) [
-      | true ↦ refl
-      | false ↦ find-texts q es
-    ]
+find-texts q (e ∷ es) = rw (find-texts q es) (grind arith)
 
 -- what a look-up by the bytes q answers
 pub get-strings : {A : Type 0} (q : List ℕ) (es : List (String A × String A)) →
@@ -71,12 +65,7 @@ put-texts : {A : Type 0} (k v : String A) (es : List (String A × String A)) →
     text_entries (insert_entry string_cmp es k v)
     ≡ put bytes_cmp (string_bytes k) (string_bytes v) (text_entries es)
 put-texts k v [] = refl
-put-texts k v (e ∷ es) = elim (bytes_cmp (string_bytes k) (string_bytes e.0)) as (λ r.
-    text_entries (match_ordering r ((k, v) ∷ e ∷ es) ((e.0, v) ∷ es) (e ∷ insert_entry string_cmp es k v))
-    ≡ by_order r ((string_bytes k, string_bytes v) ∷ text_entries (e ∷ es))
-    ((string_bytes e.0, string_bytes v) ∷ text_entries es)
-    ((string_bytes e.0, string_bytes e.1) ∷ put bytes_cmp (string_bytes k) (string_bytes v) (text_entries es)))
-    [ Less ↦ refl | Equal ↦ refl | Greater ↦ rw (put-texts k v es) ]
+put-texts k v (e ∷ es) = rw (← put-texts k v es) (grind arith)
 
 -- an insertion among the strings
 pub insert-strings : {A : Type 0} (k v : String A) (es : List (String A × String A)) →
@@ -122,13 +111,6 @@ text_entries-clones [] (f ∷ fs) h = absurd h
 text_entries-clones (e ∷ es) [] h = absurd h
 text_entries-clones (e ∷ es) (f ∷ fs) h = λ i. (h.0.0 i, h.0.1 i) ∷ text_entries-clones es fs h.1 i
 
--- clones of the entries of a map are its entries
-pub entries-clones : {A : Type 0} (es fs : List (String A × String A)) →
-    IsStrictlySortedBy string_cmp (keys_of fs) →
-    AllZip (λ p q. (string_bytes q.0 ≡ string_bytes p.0) × (string_bytes q.1 ≡ string_bytes p.1)) es fs →
-    text_entries fs ≡ entries (of_strings es)
-entries-clones es fs sorted clones = rw (← text_entries-clones es fs clones) (sym (entries-strings fs sorted))
-
 -- no name at all is good
 pub good-empty : (loaded : Bool) → IsEnvironment (record { names = from_entries []; loaded = loaded })
 good-empty loaded k v h = absurd (none-some v (sym (get-empty bytes_cmp k) ∙ h))
@@ -145,11 +127,7 @@ good-insert m loaded k v good name value q w found =
 -- whether a name is among the strings
 pub contains-strings : {A : Type 0} (k : String A) (es : List (String A × String A)) →
     contains_key (of_strings es) (string_bytes k) ≡ is_some (lookup (is_at (string_cmp k)) es)
-contains-strings {A} k es = rw get-strings (same _)
-  where
-    same : (o : Option (String A)) → is_some (option_map string_bytes o) ≡ is_some o
-    same None = refl
-    same (Some w) = refl
+contains-strings k es = rw get-strings (grind arith)
 
 -- a pair that is inserted where its name is absent
 pub insert-absent : {A : Type 0} (k v : String A) (es : List (String A × String A)) →
@@ -210,30 +188,14 @@ keeps_insert m n k v keeps absent q there =
 find-append_all : (q : List ℕ) (es fs : List (List ℕ × List ℕ)) →
     find bytes_cmp q (es ++ fs) ≡ option_or (find bytes_cmp q es) (find bytes_cmp q fs)
 find-append_all q [] fs = refl
-find-append_all q (e ∷ es) fs =
-    elim (is_eq (bytes_cmp q e.0)) as (λ b.
-    cond b (Some e.1) (find bytes_cmp q (es ++ fs))
-    ≡ option_or (cond b (Some e.1) (find bytes_cmp q es)) (find bytes_cmp q fs)) [
-      | true ↦ refl
-      | false ↦ find-append_all q es fs
-    ]
-
--- of two values the first counts, where it is there
-option_or-some : {X : Type 0} (o p : Option X) → is_some o ≡ true → option_or o p ≡ o
-option_or-some None p h = cc
-option_or-some (Some x) p h = refl
-
--- a value, or else an absent one, is the value
-option_or-none : {X : Type 0} (o : Option X) → option_or o None ≡ o
-option_or-none None = refl
-option_or-none (Some x) = refl
+find-append_all q (e ∷ es) fs = rw (find-append_all q es fs) (grind arith)
 
 -- a name that is there already adds nothing at the end
 find_again : (es : List (List ℕ × List ℕ)) (k v q : List ℕ) → is_some (find bytes_cmp k es) ≡ true →
     find bytes_cmp q (es ++ (k, v) ∷ []) ≡ find bytes_cmp q es
 find_again es k v q there = rw (find-append_all q es ((k, v) ∷ []))
     (by_name (λ b. option_or (find bytes_cmp q es) (cond b (Some v) None) ≡ find bytes_cmp q es) q k
-    (λ same. option_or-some _ _ (rw same there)) (option_or-none _))
+    (λ same. rw same (grind arith)) (grind arith))
 
 -- the map of pairs keeps the first value of a name
 pub from_entries_again : (es : List (List ℕ × List ℕ)) (k v : List ℕ) →
@@ -248,11 +210,7 @@ pub from_entries_new : (es : List (List ℕ × List ℕ)) (k v : List ℕ) →
     from_entries {R = bytes_cmp} (es ++ (k, v) ∷ []) ≡ insert (from_entries es) k v
 from_entries_new es k v absent =
     from_entries_push nat_list_cmp_total (slice_cmp-IsAntisymmetric nat_cmp-IsAntisymmetric) es k v
-    (none_of _ (rw (get-from_entries nat_list_cmp_total) at absent))
-  where
-    none_of : (o : Option (List ℕ)) → is_some o ≡ false → o ≡ None
-    none_of None h = refl
-    none_of (Some x) h = cc
+    (let none = rw (get-from_entries nat_list_cmp_total) at absent in grind arith)
 
 -- the good pairs, by their bytes
 abbrev pub good_pairs : {A : Type 0} → List (String A × String A) → List (List ℕ × List ℕ)
@@ -287,15 +245,8 @@ pairs-new names pairs k v is good absent = rw is (simp (map-append, filter-appen
 good_found : (pairs : List (List ℕ × List ℕ)) (k v : List ℕ) → find bytes_cmp k (filter pair_ok pairs) ≡ Some v →
     IsTrue (name_ok k) × IsTrue (value_ok v)
 good_found [] k v h = absurd (none-some v h)
-good_found (p ∷ pairs) k v h = elim (pair_ok p) as (λ b. pair_ok p ≡ b →
-    find bytes_cmp k (cond b (p ∷ filter pair_ok pairs) (filter pair_ok pairs)) ≡ Some v →
-    IsTrue (name_ok k) × IsTrue (value_ok v)) [
-      | false ↦ λ bad. good_found pairs k v
-      | true ↦ λ good. by_name (λ b. cond b (Some p.1) (find bytes_cmp k (filter pair_ok pairs)) ≡ Some v →
-          IsTrue (name_ok k) × IsTrue (value_ok v)) k p.0
-          (λ same e. let both = and_parts _ _ good in (rw same both.0, rw (same_Some p.1 v e) at both.1))
-          (good_found pairs k v)
-    ] refl h
+good_found (p ∷ pairs) k v h =
+    grind (arith, good_found pairs k v, slice_cmp-IsAntisymmetric nat_cmp-IsAntisymmetric k p.0)
 
 -- an environment of the good pairs is a good one
 pub good-pairs : {A E : Type 0} (pairs : List (String A × String A)) (made : Result Env E) →

@@ -8,6 +8,7 @@ use Rattle.std.specs.IoError.{error_kind}
 use Rattle.std.specs.declared.io.Error.{Error}
 use Rattle.std.specs.declared.io.ErrorKind.{ErrorKind}
 use Rattle.std.specs.declared.io.ErrorKind.TheVariants.{Interrupted, Other, WriteZero}
+use Rattle.std.proofs.lemmas.Bool.Decides.{nat_tests}
 use Rattle.std.proofs.lemmas.List.{take-append-drop, take_all, length-take-le}
 use Rattle.std.specs.contracts.io.ErrorKind.{the_type}
 use denote.Enum.Bare.{sameb, differs_true, differs_false}
@@ -32,14 +33,11 @@ pub record OneWrite (before after : SinkTold) (rest : List ℕ) (r : Result ℕ 
 -- after a write of some bytes the last fault is the same, whichever these are
 told_of_some : (last : Option ErrorKind) (xs : List ℕ) (r : Result ℕ Error) → xs ≢ [] →
     fault_after last xs r ≡ fault_after last (0 ∷ []) r
-told_of_some last [] r some = absurd (some refl)
-told_of_some last (x ∷ xs) (Ok n) some = refl
-told_of_some last (x ∷ xs) (Err e) some = refl
+told_of_some last xs r some = grind arith
 
 -- after a write that took something, the last fault is the one that was last before it
 fault_kept : (last : Option ErrorKind) {n : ℕ} (xs : List ℕ) → n ≢ 0 → fault_after last xs (Ok n) ≡ last
-fault_kept last [] some = refl
-fault_kept last {n} (x ∷ xs) some = rw (ne_eqb n 0 some) refl
+fault_kept last xs some = grind (arith, nat_tests)
 
 -- nothing was appended yet
 pub appended_none : (held : Option (List ℕ)) → Appended held held []

@@ -31,27 +31,3 @@ loop-name-preserved g c = record {
   ];
   mark = c.loop-name.invariant.mark;
 }
-
-pub loop-name-init : goal.loop-name-init
-loop-name-init g c = search rules
-
-pub loop-name-smaller : goal.loop-name-smaller
-loop-name-smaller g c = search rules
-
-pub loop-name-smaller-then-not-contains : goal.loop-name-smaller-then-not-contains
-loop-name-smaller-then-not-contains g c = search rules
-
-pub returns-in_err-set-clause-names : goal.returns-in_err-set-clause-names
-returns-in_err-set-clause-names g c = search rules
-
-pub returns-in_err-set-clause-mark : goal.returns-in_err-set-clause-mark
-returns-in_err-set-clause-mark g c = search rules
-
-pub returns-in_err-set-clause-memory : goal.returns-in_err-set-clause-memory
-returns-in_err-set-clause-memory g c = search rules
-
-pub returns-clause-mark : goal.returns-clause-mark
-returns-clause-mark g c = search rules
-
-pub returns-clause-memory : goal.returns-clause-memory
-returns-clause-memory g c = search rules

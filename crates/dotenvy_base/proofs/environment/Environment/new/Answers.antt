@@ -4,6 +4,3 @@ use Rattle.dotenvy_base.proofs.environment.Environment.new.Goals as goal
 
 pub invariant_of-result : goal.invariant_of-result
 invariant_of-result g c = rw c.new.ensures.empty (good-empty false)
-
-pub returns-clause-mark : goal.returns-clause-mark
-returns-clause-mark g c = search rules

@@ -21,6 +21,3 @@ returns-clause-ok g c =
     (λ e.
     record { names = insert e.names (string_bytes c.args.key) (string_bytes c.args.value); loaded = e.loaded })
     c.self.view_is)
-
-pub returns-then-not-is_value-clause-nul : goal.returns-then-not-is_value-clause-nul
-returns-then-not-is_value-clause-nul g c = search rules

@@ -1,10 +1,13 @@
 use Rattle.std.proofs.Common.{rules, sym, ◌∙◌}
-use Rattle.dotenvy_base.proofs.SameEnvironments.{same_strings, other_strings}
+use Rattle.std.specs.Prelude.{◌&&◌}
+use Rattle.std.specs.String.{string_eq}
+use Rattle.std.specs.Cmp.Lexicographic.{unequal}
+use Rattle.dotenvy_base.proofs.SameEnvironments.{same_strings}
 use Rattle.dotenvy_base.proofs.environment.EnvironmentPartialEq.eq.Goals as goal
 
 pub returns-then-len : goal.returns-then-len
 returns-then-len g c =
-    let other = other_strings c.self.inside.entries.entries c.other.inside.entries.entries
+    let other = unequal (λ p q. string_eq p.0 q.0 && string_eq p.1 q.1) c.self.inside.entries.entries c.other.inside.entries.entries
     (λ same. absurd (c.if-len.true (c.len.ensures.len ∙ same ∙ sym c.len-2.ensures.len))) in
     rw (
       ← c.self.view_is,

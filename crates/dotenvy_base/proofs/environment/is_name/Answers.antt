@@ -1,8 +1,0 @@
-use Rattle.std.proofs.Common.{rules}
-use Rattle.dotenvy_base.proofs.environment.is_name.Goals as goal
-
-pub returns-then-not-contains : goal.returns-then-not-contains
-returns-then-not-contains c = search rules
-
-pub returns-else-not-contains : goal.returns-else-not-contains
-returns-else-not-contains c = search rules
