@@ -1,23 +1,8 @@
 -- Facts on tests, options and lists that many proofs use.
 use Rattle.std.proofs.Common.{◌≡◌, ◌≢◌, ℕ, ◌<◌, List, [], ◌∷◌, ◌++◌, length, ap, sym, ◌∙◌, Bool}
-use Rattle.std.proofs.Common.{true, false, ◌&&◌, T, refl, arith}
+use Rattle.std.proofs.Common.{true, false, refl, arith}
 use Rattle.std.specs.Prelude.{◌==◌, IfOk, Result, Ok, Err}
 use Rattle.std.proofs.lemmas.Bool.Decides.{nat_tests}
-
--- of two things that hold together, the first holds
-pub left_holds : (a b : Bool) → T (a && b) → T a
-left_holds true b h = tt
-left_holds false b h = absurd h
-
--- of two things that hold together, the second holds
-pub right_holds : (a b : Bool) → T (a && b) → T b
-right_holds true b h = h
-right_holds false b h = absurd h
-
--- two things that hold do so together
-pub both_hold : (a b : Bool) → T a → T b → T (a && b)
-both_hold true b p q = q
-both_hold false b p q = p
 
 -- a list without length has nothing
 pub nil_of : (xs : List ℕ) → length xs ≡ 0 → xs ≡ []

@@ -1,14 +1,14 @@
 -- Paths as texts: the path of a name in a directory, and the directory above.
-use Rattle.std.proofs.Common.{◌≡◌, ◌≢◌, ℕ, suc, ◌+◌, ◌-◌, ◌<◌, arith, Bool, true, false, not, cond}
-use Rattle.std.proofs.Common.{List, [], ◌∷◌, ◌++◌, Some, refl, ◌∙◌, ap, length}
+use Rattle.std.proofs.Common.{◌≡◌, ◌≢◌, ℕ, suc, ◌+◌, ◌-◌, ◌<◌, arith, false, not, cond}
+use Rattle.std.proofs.Common.{List, [], ◌∷◌, Some, refl, ◌∙◌, ap, length}
 use Rattle.std.proofs.Common.{get_or, take, append_assoc, ne_eqb, length-take-le}
-use Rattle.std.specs.Prelude.{◌==◌, ◌||◌, slice_index}
+use Rattle.std.specs.Prelude.{◌==◌}
 use Rattle.std.specs.List.{list_any, before_last, suffix_len}
 use Rattle.std.specs.Path.{path_join}
-use Rattle.std.proofs.Math.Bool.{or-false}
 use Rattle.std.proofs.lemmas.List.Folds.{list_any_at}
+use Rattle.std.proofs.lemmas.Bool.Decides.{nat_tests}
 use Rattle.std.proofs.lemmas.List.Sums.{suffix_len_is}
-use Rattle.dotenvy_base.specs.Search.{slash, is_slash, begins_with_slash, ends_with_slash, path_in}
+use Rattle.dotenvy_base.specs.Search.{slash, is_slash, ends_with_slash, path_in}
 use Rattle.dotenvy_base.specs.Search.{parent_part, parent_of}
 
 -- the last character is a slash, by its place
@@ -16,34 +16,13 @@ ends_by_place : (c : ℕ) (cs : List ℕ) → (get_or (c ∷ cs) (length cs) 0 =
 ends_by_place c [] = refl
 ends_by_place c (d ∷ cs) = ends_by_place d cs
 
--- the same by the length
-last_by_place : (c : ℕ) (cs : List ℕ) → (get_or (c ∷ cs) (length (c ∷ cs) - 1) 0 == slash) ≡ ends_with_slash (c ∷ cs)
-last_by_place c cs = let e : length (c ∷ cs) - 1 ≡ length cs = omega arith in rw e (ends_by_place c cs)
-
--- the first character is a slash, by its place
-first_by_place : (n : List ℕ) → (slice_index n 0 == slash) ≡ begins_with_slash n
-first_by_place [] = refl
-first_by_place (x ∷ xs) = refl
-
--- a name after a directory that is not empty, with a separator or none
-joined : (absolute ends : Bool) (directory name : List ℕ) →
-    cond absolute name (cond ends directory (directory ++ slash ∷ []) ++ name) ≡ cond
-    absolute name (cond ends (directory ++ name) (directory ++ slash ∷ name))
-joined true ends directory name = refl
-joined false true directory name = refl
-joined false false directory name = simp append_assoc
-
 -- std's `push` of a name gives its path in the directory
 pub join_is_path_in : (directory name : List ℕ) → path_join directory name ≡ path_in directory name
 unfolding path_join
-join_is_path_in [] [] = refl
-join_is_path_in [] (n ∷ ns) = elim (n == slash) as (λ b.
-    cond b (n ∷ ns) (n ∷ ns) ≡ cond (b || true) (n ∷ ns) (cond false (n ∷ ns) (slash ∷ n ∷ ns)))
-    [ true ↦ refl | false ↦ refl ]
+join_is_path_in [] name = grind arith
 join_is_path_in (c ∷ cs) name =
-    let some : (length (c ∷ cs) == 0) ≡ false = ne_eqb (length (c ∷ cs)) 0 (λ e. omega (arith, e)) in
-    simp (some, or-false, last_by_place c cs, first_by_place name)
-    (joined (begins_with_slash name) (ends_with_slash (c ∷ cs)) (c ∷ cs) name)
+    let e : length (c ∷ cs) - 1 ≡ length cs = omega arith in
+    grind (arith, ends_by_place c cs, append_assoc (c ∷ cs) (slash ∷ []) name)
 
 -- a text whose characters are all others has none
 none_at : (text : List ℕ) → ((i : ℕ) → i < length text → get_or text i 0 ≢ slash) → list_any is_slash text ≡ false
@@ -67,9 +46,7 @@ above text = cond (length (before_last is_slash text) == 0) (slash ∷ []) (befo
 
 -- the directory above; there is none above the empty text and the root
 parent_is_part : (text : List ℕ) → text ≢ [] → text ≢ slash ∷ [] → parent_of text ≡ Some (parent_part text)
-parent_is_part [] some other = absurd (some refl)
-parent_is_part (c ∷ []) some other = rw (ne_eqb c slash (λ e. other (rw e refl))) refl
-parent_is_part (c ∷ d ∷ cs) some other = refl
+parent_is_part text some other = grind (arith, nat_tests)
 
 -- the directory above a text without a slash
 pub parent_of_name : (text : List ℕ) → text ≢ [] → ((i : ℕ) → i < length text → get_or text i 0 ≢ slash) →

@@ -1,5 +1,5 @@
 -- When two environments are the same, by the strings that they hold.
-use Rattle.std.proofs.Common.{◌≡◌, ◌≢◌, suc, Bool, true, false, List, [], ◌∷◌, length, refl, ap}
+use Rattle.std.proofs.Common.{◌≡◌, Bool, List}
 use Rattle.std.specs.Prelude.{◌&&◌, bytes_eq, string_bytes}
 use Rattle.std.specs.Cmp.Derive.Mapped.{pointwise-map}
 use Rattle.std.specs.Cmp.Lexicographic.{pointwise}

@@ -1,34 +1,22 @@
 -- A search asks one list of candidates, and has one answer.
-use Rattle.std.proofs.Common.{◌≡◌, ℕ, zero, suc, ◌+◌, ◌<◌, Bool, true, false, not, cond, List, []}
+use Rattle.std.proofs.Common.{◌≡◌, ℕ, zero, suc, ◌+◌, ◌<◌, Bool, not, List, []}
 use Rattle.std.proofs.Common.{◌∷◌, map, Some, None, refl, sym, ◌∙◌, ap, arith}
 use Rattle.std.proofs.Common.{length, inl, inr}
-use Rattle.std.specs.Prelude.{◌==◌, ◌-◌, ◌⊎◌, IsTrue}
-use Rattle.std.specs.List.{list_any, before_last, suffix_len}
+use Rattle.std.specs.Prelude.{◌-◌, ◌⊎◌, IsTrue}
+use Rattle.std.specs.List.{suffix_len}
 use Rattle.dotenvy_base.specs.declared.search.Look.{Look}
 use Rattle.std.proofs.lemmas.List.{length-take}
-use Rattle.dotenvy_base.specs.Search.{slash, is_slash, path_in, parent_part, parent_of, Ascends}
+use Rattle.dotenvy_base.specs.Search.{is_slash, path_in, parent_of, Ascends}
 use Rattle.dotenvy_base.specs.Search.{SearchEnd, ends_search, AreAsked, search_answer, Searches, Sees}
-use Rattle.std.proofs.lemmas.Bool.{cond_both}
-use Rattle.std.proofs.lemmas.Option.{none-some, same_Some}
-
--- what is above a directory of two characters or more has fewer characters
-part_shorter : (c d : ℕ) (cs : List ℕ) → length (parent_part (c ∷ d ∷ cs)) < length (c ∷ d ∷ cs)
-part_shorter c d cs =
-    let before = before_last is_slash (c ∷ d ∷ cs) in
-    let e = length-take (length (c ∷ d ∷ cs) - suffix_len (λ x. not (is_slash x)) (c ∷ d ∷ cs) - 1) (c ∷ d ∷ cs) in
-    elim (list_any is_slash (c ∷ d ∷ cs)) as (λ a.
-    length (cond a (cond (length before == 0) (slash ∷ []) before) []) < length (c ∷ d ∷ cs)) [
-      | true ↦ cond_both (length before == 0) (slash ∷ []) before (λ p. length p < length (c ∷ d ∷ cs))
-          (λ h. omega arith) (λ h. omega (arith, e))
-      | false ↦ omega arith
-    ]
+use Rattle.std.proofs.lemmas.Bool.{cases_Bool}
 
 -- the directory above, where there is one, has fewer characters
 pub parent_shorter : (directory parent : List ℕ) → parent_of directory ≡ Some parent → length parent < length directory
 parent_shorter [] parent h = cc
-parent_shorter (c ∷ []) parent h = elim (is_slash c) as (λ b. cond b None (Some []) ≡ Some parent → length parent < 1)
-    [ true ↦ λ k. cc | false ↦ λ k. rw (← same_Some [] parent k) (omega arith) ] h
-parent_shorter (c ∷ d ∷ cs) parent h = rw (← same_Some _ parent h) (part_shorter c d cs)
+parent_shorter (c ∷ []) parent h = grind arith
+parent_shorter (c ∷ d ∷ cs) parent h =
+    let e = length-take (length (c ∷ d ∷ cs) - suffix_len (λ x. not (is_slash x)) (c ∷ d ∷ cs) - 1) (c ∷ d ∷ cs) in
+    grind arith
 
 -- the directories from this one up are some list, which comes to an end
 abbrev HasAscent : List ℕ → Type 0
@@ -53,11 +41,9 @@ pub one_ascent : (directory : List ℕ) (a b : List (List ℕ)) → Ascends dire
 one_ascent directory [] b x y = absurd x
 one_ascent directory (f ∷ a) [] x y = absurd y
 one_ascent directory (f ∷ []) (g ∷ []) x y = rw (x.0, y.0) refl
-one_ascent directory (f ∷ []) (g ∷ h ∷ b) x y = absurd (none-some h (sym x.1 ∙ y.1))
-one_ascent directory (f ∷ h ∷ a) (g ∷ []) x y = absurd (none-some h (sym y.1 ∙ x.1))
-one_ascent directory (f ∷ h ∷ a) (g ∷ i ∷ b) x y =
-    let e : h ≡ i = same_Some h i (sym x.1 ∙ y.1) in
-    rw (x.0, y.0, one_ascent h (h ∷ a) (i ∷ b) x.2 (rw e y.2)) refl
+one_ascent directory (f ∷ []) (g ∷ h ∷ b) x y = grind arith
+one_ascent directory (f ∷ h ∷ a) (g ∷ []) x y = grind arith
+one_ascent directory (f ∷ h ∷ a) (g ∷ i ∷ b) x y = grind (arith, one_ascent h (h ∷ a) (i ∷ b))
 
 -- some of the candidates are asked in turn, with what is at each
 abbrev HasAsked : List (List ℕ) → (ℕ → Look) → Type 0
@@ -68,10 +54,10 @@ asked_exist : (paths : List (List ℕ)) (looks : ℕ → Look) → HasAsked path
 asked_exist [] looks = ([], refl, tt)
 asked_exist (path ∷ paths) looks =
     let later = asked_exist paths (λ n. looks (1 + n)) in
-    elim (ends_search (looks 0)) as (λ b. ends_search (looks 0) ≡ b → HasAsked (path ∷ paths) looks) [
-      | true ↦ λ e. ((path, looks 0) ∷ [], (refl, inl (e, refl)), (refl, tt))
-      | false ↦ λ e. ((path, looks 0) ∷ later.0, (refl, inr (ap not e, later.1)), (refl, later.2))
-    ] refl
+    elim (cases_Bool (ends_search (looks 0))) [
+      | inl e ↦ ((path, looks 0) ∷ [], (refl, inl (e, refl)), (refl, tt))
+      | inr e ↦ ((path, looks 0) ∷ later.0, (refl, inr (ap not e, later.1)), (refl, later.2))
+    ]
 
 -- where the same is at the candidates, at most one list of them is asked
 asked_once : (paths : List (List ℕ)) (looks : ℕ → Look) (a b : List (List ℕ × Look)) → AreAsked paths a →
@@ -92,12 +78,7 @@ asked_once (path ∷ paths) looks ((p, l) ∷ a) ((q, m) ∷ b) x y s t =
     others : (ends : Bool) → (IsTrue ends × (a ≡ [])) ⊎ (IsTrue (not ends) × AreAsked paths a) →
         (IsTrue ends × (b ≡ [])) ⊎ (IsTrue (not ends) × AreAsked paths b) →
         (AreAsked paths a → AreAsked paths b → a ≡ b) → a ≡ b
-    others ends (inl x) (inl y) later = x.1 ∙ sym y.1
-    others true (inl x) (inr y) later = let f = y.0 in cc
-    others false (inl x) (inr y) later = let f = x.0 in cc
-    others true (inr x) (inl y) later = let f = x.0 in cc
-    others false (inr x) (inl y) later = let f = y.0 in cc
-    others ends (inr x) (inr y) later = later x.1 y.1
+    others ends x y later = grind arith
 
 -- whatever is at the candidates, the search has one answer
 pub search_exists : (directory name : List ℕ) (looks : ℕ → Look) →

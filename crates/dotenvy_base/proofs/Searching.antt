@@ -16,13 +16,13 @@ use Rattle.std.specs.declared.path.PathBuf.{PathBuf}
 use Rattle.dotenvy_base.specs.declared.errors.Error.{Error}
 use Rattle.dotenvy_base.specs.declared.errors.Error.TheVariants.{Io}
 use Rattle.dotenvy_base.specs.declared.search.Look.{Look}
-use Rattle.dotenvy_base.specs.declared.search.Look.TheVariants.{File, Other, Fault}
+use Rattle.dotenvy_base.specs.declared.search.Look.TheVariants.{Other, Fault}
 use Rattle.dotenvy_base.specs.Errors.{IsMemoryErr}
 use Rattle.dotenvy_base.specs.Search.{path_in, parent_of, Ascends, is_not_found, ends_search}
 use Rattle.dotenvy_base.specs.Search.{AreAsked, SearchEnd, FoundAt, FoundNowhere, EndedBy}
 use Rattle.dotenvy_base.specs.Search.{search_answer, Searches}
 use Rattle.dotenvy_base.specs.Find.{LookStep, AsksInTurn, AnswersSearch, Finds, IsPathOf}
-use Rattle.std.proofs.lemmas.Bool.{cond-true, not-false, not-true}
+use Rattle.std.proofs.lemmas.Bool.{not-true}
 use Rattle.dotenvy_base.proofs.SearchOnce.{ascent_exists, search_exists, parent_shorter}
 
 -- the code's test of a kind
@@ -43,22 +43,17 @@ answers_fault A fault h = rw (not-true _ h) refl
 -- the directories begin with the first
 ascends_first : (directory first : List ℕ) (others : List (List ℕ)) →
     Ascends directory (first ∷ others) → first ≡ directory
-ascends_first directory first [] h = h.0
-ascends_first directory first (second ∷ others) h = h.0
+ascends_first directory first others h = grind arith
 
 -- the directories from a parent on, with the directory before them
 ascends_more : (directory parent : List ℕ) (above : List (List ℕ)) → parent_of directory ≡ Some parent →
     Ascends parent above → Ascends directory (directory ∷ above)
-ascends_more directory parent [] e h = absurd h
-ascends_more directory parent (first ∷ others) e h = let f = ascends_first parent first others h in
-    (refl, rw f e, rw f h)
+ascends_more directory parent above e h = grind (arith, ascends_first parent)
 
 -- what doesn't end a search doesn't answer it
 answer_past : (path : List ℕ) (look : Look) (asked : List (List ℕ × Look)) → ends_search look ≡ false →
     search_answer ((path, look) ∷ asked) ≡ search_answer asked
-answer_past path File asked h = cc
-answer_past path Other asked h = refl
-answer_past path (Fault fault) asked h = cond-true _ _ _ (not-false _ h)
+answer_past path look asked h = grind arith
 
 -- what is still to be asked, from a directory on or from none
 abbrev pub SearchesOn : Option (List ℕ) → List ℕ → List (List ℕ × Look) → SearchEnd → Type 0
@@ -165,9 +160,7 @@ size_of (Some directory) = suc (length (path_bytes directory))
 -- a directory above leaves less
 pub parent_is_less : (directory : Path) (above : Option Path) →
     option_map path_bytes above ≡ parent_of (path_bytes directory) → size_of above < size_of (Some directory)
-parent_is_less directory None h = omega arith
-parent_is_less directory (Some parent) h =
-    let less = parent_shorter (path_bytes directory) (path_bytes parent) (sym h) in omega (arith, less)
+parent_is_less directory above h = grind (arith, parent_shorter (path_bytes directory))
 
 -- what doesn't end a search lets it go on
 went_on : (ends : Bool) (Ended GoesOn : Type 0) →
@@ -178,21 +171,14 @@ went_on ends Ended GoesOn (inr x) h = x.1
 -- a path that a search finds is that of the name in one of the directories
 found_among : (name : List ℕ) (directories : List (List ℕ)) (asked : List (List ℕ × Look)) (path : List ℕ) →
     AreAsked (map (λ d. path_in d name) directories) asked → search_answer asked ≡ FoundAt path → IsPathOf name path
-found_among name [] asked path a h = let none : FoundNowhere ≡ FoundAt path = ap search_answer (sym a) ∙ h in cc
-found_among name (d ∷ directories) [] path a h = absurd a
-found_among name (d ∷ directories) ((first, File) ∷ asked) path a h =
-    let same : first ≡ path = cc in (d, sym same ∙ a.0)
-found_among name (d ∷ directories) ((first, Other) ∷ asked) path a h =
-    found_among name directories asked path (went_on false _ _ a.1 refl) h
-found_among name (d ∷ directories) ((first, Fault fault) ∷ asked) path a h =
-    grind (arith, found_among name directories asked path)
+found_among name [] asked path a h = grind arith
+found_among name (d ∷ directories) asked path a h = grind (arith, found_among name directories)
 
 -- where the answer is no error, no allocation failed
 not_cut : {A Later : Type 0} (path : PathBuf A) (answer : SearchEnd) →
     IsMemoryErr {T = PathBuf A} {A = A} (Ok path) ⊎ (Later × AnswersSearch {A = A} answer (Ok path)) →
     AnswersSearch {A = A} answer (Ok path)
-not_cut path answer (inl memory) = absurd memory
-not_cut path answer (inr x) = x.1
+not_cut path answer whole = grind arith
 
 -- what `find` returns is the path of the name in some directory
 pub finds_a_path : {F A : Type 0} (step : LookStep F) (before after : F) (directory name : List ℕ) (path : PathBuf A) →

@@ -1,30 +1,28 @@
 -- A map of strings, and the map of their bytes.
 use Rattle.std.proofs.Common.{◌≡◌, ℕ, Bool, true, false, cond, List, [], ◌∷◌, ◌++◌, filter, T, refl}
-use Rattle.std.proofs.Common.{sym, ◌∙◌, ap, subst, arith}
+use Rattle.std.proofs.Common.{sym, ◌∙◌, ap, arith}
 use Rattle.std.proofs.lemmas.List.{map-append, append-nil}
 use Rattle.std.proofs.lemmas.List.Elements.{filter-append}
 use Rattle.std.specs.Option.{option_or, unwrap_or}
-use Rattle.std.proofs.lemmas.Option.{none-some, same_Some}
-use Rattle.std.proofs.lemmas.Bool.{and_parts}
-use Rattle.std.specs.Prelude.{string_bytes, Option, Some, None, option_map, IsTrue}
+use Rattle.std.proofs.lemmas.Option.{none-some}
+use Rattle.std.specs.Prelude.{string_bytes, Some, option_map, IsTrue}
 use Rattle.std.specs.Prelude.{is_some, Result, Ok, Err, IfOk}
 use Rattle.std.specs.List.{AllByRecursion, AllZip}
 use Rattle.std.specs.List.Sorted.{IsStrictlySortedBy}
 use Rattle.std.specs.Map.{lookup, keys_of}
 use Rattle.std.specs.BTreeMap.{is_at, insert_entry}
 use Rattle.std.specs.String.{string_cmp}
-use Rattle.std.specs.Ordering.{is_eq, is_lt, nat_cmp, match_ordering}
+use Rattle.std.specs.Ordering.{nat_cmp}
 use Rattle.std.proofs.lemmas.Cmp.{nat_list_cmp_total}
 use Rattle.std.specs.Cmp.Lexicographic.{slice_cmp}
 use Rattle.std.specs.FinMap.{get-empty, get, insert, entries, from_entries, from_sorted, find, put}
 use Rattle.std.specs.FinMap.{is_sorted, get-from_entries, get-from_sorted, entries-from_sorted}
 use Rattle.std.specs.FinMap.{get-insert, same_map, from_entries_push, contains_key}
 use Rattle.std.specs.FinMap.{slice_cmp-IsAntisymmetric, nat_cmp-IsAntisymmetric}
-use Rattle.std.specs.FinMap.Entries.{by_order, below_all, find-put}
+use Rattle.std.specs.FinMap.Entries.{below_all, find-put}
 use Rattle.std.specs.declared.string.String.{String}
 use Rattle.std.specs.declared.cmp.Ordering.{Ordering}
-use Rattle.std.specs.declared.cmp.Ordering.TheVariants.{Less, Equal, Greater}
-use Rattle.dotenvy_base.proofs.Basics.{both_hold}
+use Rattle.std.specs.declared.cmp.Ordering.TheVariants.{Less, Equal}
 use Rattle.dotenvy_base.specs.Environment.{text_entries, Texts, Env, IsEnvironment, KeepsNames}
 use Rattle.dotenvy_base.specs.Environment.{name_ok, value_ok, pair_ok, env_of}
 
@@ -36,17 +34,13 @@ bytes_cmp = slice_cmp nat_cmp
 abbrev pub of_strings : {A : Type 0} → List (String A × String A) → Texts
 of_strings es = from_entries (text_entries es)
 
+-- names that tie in the byte order are the same
+pub tied_names : (q k : List ℕ) → bytes_cmp q k ≡ Equal → q ≡ k
+tied_names = slice_cmp-IsAntisymmetric nat_cmp-IsAntisymmetric
+
 -- maps that have the same for each name are the same
 same_texts : (m n : Texts) → ((q : List ℕ) → get m q ≡ get n q) → m ≡ n
-same_texts = same_map nat_list_cmp_total (slice_cmp-IsAntisymmetric nat_cmp-IsAntisymmetric)
-
--- what holds of the test of two names where they are the same, and where they are not, holds of it
-pub by_name : (P : Bool → Type 0) (q k : List ℕ) → (q ≡ k → P true) → P false → P (is_eq (bytes_cmp q k))
-by_name P q k same other = elim (bytes_cmp q k) as (λ r. bytes_cmp q k ≡ r → P (is_eq r)) [
-  | Less ↦ λ e. other
-  | Equal ↦ λ e. same (slice_cmp-IsAntisymmetric nat_cmp-IsAntisymmetric q k e)
-  | Greater ↦ λ e. other
-] refl
+same_texts = same_map nat_list_cmp_total tied_names
 
 -- finding a name among the bytes of pairs gives the bytes of the first value whose name has these bytes
 find-texts : {A : Type 0} (q : List ℕ) (es : List (String A × String A)) →
@@ -83,14 +77,14 @@ below-texts : {A : Type 0} (k : String A) (es : List (String A × String A)) →
     AllByRecursion (λ y. string_cmp k y ≡ Less) (keys_of es) →
     T (below_all bytes_cmp (string_bytes k) (text_entries es))
 below-texts k [] h = tt
-below-texts k (e ∷ es) h = both_hold _ _ (subst (λ r. T (is_lt r)) (sym h.0) tt) (below-texts k es h.1)
+below-texts k (e ∷ es) h = rw h.0 (below-texts k es h.1)
 
 -- pairs whose names strictly ascend are in the byte order of their names
 sorted-texts : {A : Type 0} (es : List (String A × String A)) → IsStrictlySortedBy string_cmp (keys_of es) →
     T (is_sorted bytes_cmp (text_entries es))
 unfolding IsStrictlySortedBy
 sorted-texts [] h = tt
-sorted-texts (e ∷ es) h = both_hold _ _ (below-texts e.0 es h.0) (sorted-texts es h.1)
+sorted-texts (e ∷ es) h = grind (arith, below-texts e.0 es, sorted-texts es)
 
 -- the entries in order are those of the map of bytes
 pub entries-strings : {A : Type 0} (es : List (String A × String A)) → IsStrictlySortedBy string_cmp (keys_of es) →
@@ -106,10 +100,8 @@ entries-strings es h =
 pub text_entries-clones : {A : Type 0} (es fs : List (String A × String A)) →
     AllZip (λ p q. (string_bytes q.0 ≡ string_bytes p.0) × (string_bytes q.1 ≡ string_bytes p.1)) es fs →
     text_entries fs ≡ text_entries es
-text_entries-clones [] [] h = refl
-text_entries-clones [] (f ∷ fs) h = absurd h
-text_entries-clones (e ∷ es) [] h = absurd h
-text_entries-clones (e ∷ es) (f ∷ fs) h = λ i. (h.0.0 i, h.0.1 i) ∷ text_entries-clones es fs h.1 i
+text_entries-clones [] fs h = grind arith
+text_entries-clones (e ∷ es) fs h = grind (arith, text_entries-clones es)
 
 -- no name at all is good
 pub good-empty : (loaded : Bool) → IsEnvironment (record { names = from_entries []; loaded = loaded })
@@ -120,9 +112,8 @@ pub good-insert : (m : Texts) (loaded : Bool) (k v : List ℕ) →
     IsEnvironment (record { names = m; loaded = loaded }) → IsTrue (name_ok k) → IsTrue (value_ok v) →
     IsEnvironment (record { names = insert m k v; loaded = loaded })
 good-insert m loaded k v good name value q w found =
-    by_name (λ b. cond b (Some v) (get m q) ≡ Some w → IsTrue (name_ok q) × IsTrue (value_ok w)) q k
-    (λ same e. (rw same name, rw (same_Some v w e) at value)) (good q w)
-    (rw (get-insert nat_list_cmp_total m k v q) at found)
+    let entry = rw (get-insert nat_list_cmp_total m k v q) at found in
+    grind (arith, good q w, tied_names q k)
 
 -- whether a name is among the strings
 pub contains-strings : {A : Type 0} (k : String A) (es : List (String A × String A)) →
@@ -134,17 +125,13 @@ pub insert-absent : {A : Type 0} (k v : String A) (es : List (String A × String
     of_strings (insert_entry string_cmp es k (unwrap_or (lookup (is_at (string_cmp k)) es) v))
     ≡ cond (contains_key (of_strings es) (string_bytes k)) (of_strings es)
     (insert (of_strings es) (string_bytes k) (string_bytes v))
-insert-absent {A} k v es = rw (insert-strings, get-strings) (of_found _ refl)
-  where
-    of_found : (o : Option (String A)) → lookup (is_at (string_cmp k)) es ≡ o →
-        insert (of_strings es) (string_bytes k) (string_bytes (unwrap_or o v))
-        ≡ cond (is_some (option_map string_bytes o)) (of_strings es)
-        (insert (of_strings es) (string_bytes k) (string_bytes v))
-    of_found None e = refl
-    of_found (Some w) e = same_texts _ _ (λ q.
-        rw (get-insert nat_list_cmp_total)
-        (by_name (λ b. cond b (Some (string_bytes w)) (get (of_strings es) q) ≡ get (of_strings es) q) q
-        (string_bytes k) (λ same. rw (same, get-strings, e) refl) refl))
+insert-absent k v es = rw (insert-strings, get-strings) (same_texts _ _ (λ q.
+    grind (
+      arith,
+      get-insert {X = List ℕ} nat_list_cmp_total,
+      get-strings,
+      tied_names q (string_bytes k),
+    )))
 
 -- the strings after such an insertion are an environment again
 pub good-entered : {A : Type 0} (k v : String A) (old : List (String A × String A)) (loaded : Bool)
@@ -181,8 +168,7 @@ absent-entered k v old entered is absent =
 pub keeps_insert : (m n : Texts) (k v : List ℕ) → KeepsNames m n → is_some (get n k) ≡ false →
     KeepsNames m (insert n k v)
 keeps_insert m n k v keeps absent q there =
-    rw (get-insert nat_list_cmp_total n k v q) (by_name (λ b. cond b (Some v) (get n q) ≡ get m q) q k
-    (λ same. let f : is_some (get m q) ≡ false = rw (← keeps q there, same) absent in cc) (keeps q there))
+    grind (arith, get-insert nat_list_cmp_total n k v q, keeps q there, tied_names q k)
 
 -- among pairs and more pairs a name has what it has among the first, else what it has among the second
 find-append_all : (q : List ℕ) (es fs : List (List ℕ × List ℕ)) →
@@ -193,9 +179,8 @@ find-append_all q (e ∷ es) fs = rw (find-append_all q es fs) (grind arith)
 -- a name that is there already adds nothing at the end
 find_again : (es : List (List ℕ × List ℕ)) (k v q : List ℕ) → is_some (find bytes_cmp k es) ≡ true →
     find bytes_cmp q (es ++ (k, v) ∷ []) ≡ find bytes_cmp q es
-find_again es k v q there = rw (find-append_all q es ((k, v) ∷ []))
-    (by_name (λ b. option_or (find bytes_cmp q es) (cond b (Some v) None) ≡ find bytes_cmp q es) q k
-    (λ same. rw same (grind arith)) (grind arith))
+find_again es k v q there =
+    grind (arith, find-append_all q es ((k, v) ∷ []), tied_names q k)
 
 -- the map of pairs keeps the first value of a name
 pub from_entries_again : (es : List (List ℕ × List ℕ)) (k v : List ℕ) →
@@ -209,7 +194,7 @@ pub from_entries_new : (es : List (List ℕ × List ℕ)) (k v : List ℕ) →
     is_some (get (from_entries {R = bytes_cmp} es) k) ≡ false →
     from_entries {R = bytes_cmp} (es ++ (k, v) ∷ []) ≡ insert (from_entries es) k v
 from_entries_new es k v absent =
-    from_entries_push nat_list_cmp_total (slice_cmp-IsAntisymmetric nat_cmp-IsAntisymmetric) es k v
+    from_entries_push nat_list_cmp_total tied_names es k v
     (let none = rw (get-from_entries nat_list_cmp_total) at absent in grind arith)
 
 -- the good pairs, by their bytes
@@ -246,7 +231,7 @@ good_found : (pairs : List (List ℕ × List ℕ)) (k v : List ℕ) → find byt
     IsTrue (name_ok k) × IsTrue (value_ok v)
 good_found [] k v h = absurd (none-some v h)
 good_found (p ∷ pairs) k v h =
-    grind (arith, good_found pairs k v, slice_cmp-IsAntisymmetric nat_cmp-IsAntisymmetric k p.0)
+    grind (arith, good_found pairs k v, tied_names k p.0)
 
 -- an environment of the good pairs is a good one
 pub good-pairs : {A E : Type 0} (pairs : List (String A × String A)) (made : Result Env E) →

@@ -1,6 +1,6 @@
 -- One write after another: what was appended, the calls that were made, and the last fault.
 use Rattle.std.proofs.Common.{◌≡◌, ◌≢◌, ℕ, ◌+◌, ◌-◌, ◌<◌, ◌≤◌, Bool, true, false}
-use Rattle.std.proofs.Common.{not, List, [], ◌∷◌, ◌++◌, length, take, drop, length-drop, ne_eqb}
+use Rattle.std.proofs.Common.{not, List, [], ◌∷◌, ◌++◌, length, take, drop, length-drop}
 use Rattle.std.proofs.Common.{length-append, append_assoc, append-nil, Option, Some, None, Result, Ok, Err}
 use Rattle.std.proofs.Common.{inl, inr, ◌⊎◌, refl, sym, ◌∙◌, ap, arith}
 use Rattle.std.specs.Prelude.{OnOk, OnErr, IfErr}

@@ -1,4 +1,4 @@
-use Rattle.std.proofs.Common.{rules, false}
+use Rattle.std.proofs.Common.{false}
 use Rattle.dotenvy_base.proofs.TextMaps.{good-empty}
 use Rattle.dotenvy_base.proofs.environment.Environment.new.Goals as goal
 
