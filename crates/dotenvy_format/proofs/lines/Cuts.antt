@@ -1,4 +1,6 @@
 -- Physical lines: of joined texts, and of a text's bytes.
+use Rattle.std.proofs.Common.{inl, inr}
+use Rattle.std.proofs.lemmas.Bool.{and_parts, cases_Bool}
 use Rattle.std.proofs.Common.{◌≡◌, ℕ, ◌<◌, Bool, true, false, ◌&&◌, not, cond, List, [], ◌∷◌}
 use Rattle.std.proofs.Common.{◌++◌, map, Some, refl, sym, ◌∙◌, ap, arith, length}
 use Rattle.std.specs.Prelude.{◌==◌, encode_utf8_all}
@@ -54,17 +56,10 @@ lines-append (c ∷ xs) ys =
     cut_step c (c == 10) (physical_lines (xs ++ 10 ∷ [])) (physical_lines ys) (physical_lines ((xs ++ 10 ∷ []) ++ ys))
     (lines_some_end xs) (lines-append xs ys)
 
--- where lines join to a text, they do with one more character before both, alone or on the first line
-concat_step : (c : ℕ) (cs : List ℕ) (b : Bool) (xss : List (List ℕ)) → concat xss ≡ cs →
-    concat (cond b ((c ∷ []) ∷ xss) (onto_first c xss)) ≡ c ∷ cs
-concat_step c cs true xss h = ap (◌∷◌ c) h
-concat_step c cs false [] h = ap (◌∷◌ c) h
-concat_step c cs false (xs ∷ xss) h = ap (◌∷◌ c) h
-
 -- the lines joined are the text
 pub concat-lines : (cs : List ℕ) → concat (physical_lines cs) ≡ cs
 concat-lines [] = refl
-concat-lines (c ∷ cs) = concat_step c cs (c == 10) (physical_lines cs) (concat-lines cs)
+concat-lines (c ∷ cs) = grind (arith, concat-lines cs)
 
 -- the joined text of lines, none of which is broken, is these lines one after another
 pub joined-texts : (xss : List (List ℕ)) → joined_text (map Some xss) ≡ Some (concat xss)
@@ -94,18 +89,10 @@ with_front bs (xs ∷ xss) = (bs ++ xs) ∷ xss
 lines-front : (bs rest : List ℕ) → 0 < length bs → no_line_feed bs ≡ true →
     physical_lines (bs ++ rest) ≡ with_front bs (physical_lines rest)
 lines-front [] rest some h = absurd (omega arith)
-lines-front (b ∷ []) rest some h = rw (after_first b true h).0 (at (physical_lines rest))
-  where
-    at : (xss : List (List ℕ)) → onto_first b xss ≡ with_front (b ∷ []) xss
-    at [] = refl
-    at (xs ∷ xss) = refl
+lines-front (b ∷ []) rest some h = rw (after_first b true h).0 (grind arith)
 lines-front (b ∷ c ∷ bs) rest some h =
     let e = after_first b (no_line_feed (c ∷ bs)) h in
-    rw (e.0, lines-front (c ∷ bs) rest (omega arith) e.1) (at (physical_lines rest))
-  where
-    at : (xss : List (List ℕ)) → onto_first b (with_front (c ∷ bs) xss) ≡ with_front (b ∷ c ∷ bs) xss
-    at [] = refl
-    at (xs ∷ xss) = refl
+    rw (e.0, lines-front (c ∷ bs) rest (omega arith) e.1) (grind arith)
 
 -- a character's bytes put onto the bytes of lines are the bytes of the lines with the character put on
 onto-encodes : (c : ℕ) (xss : List (List ℕ)) →
@@ -117,16 +104,12 @@ onto-encodes c (xs ∷ xss) = refl
 pub lines-encodes : (cs : List ℕ) → physical_lines (encode_utf8_all cs) ≡ map encode_utf8_all (physical_lines cs)
 lines-encodes [] = refl
 lines-encodes (c ∷ cs) =
-    (elim (c == 10) as (λ b.
-    (c == 10) ≡ b →
-    physical_lines (encode c ++ encode_utf8_all cs)
-    ≡ map encode_utf8_all (cond b ((c ∷ []) ∷ physical_lines cs) (onto_first c (physical_lines cs)))) [
-      | true ↦ λ h. rw (ten c (encode_utf8_all cs) h, ten c [] h, lines-encodes cs) refl
-      | false ↦
-          λ h.
-          lines-front (encode c) (encode_utf8_all cs) (encode_some c) (encode_none c h)
-          ∙ rw (lines-encodes cs) (onto-encodes c (physical_lines cs))
-    ]) refl
+    elim (cases_Bool (c == 10)) [
+      | inl h ↦ rw (h, ten c (encode_utf8_all cs) h, ten c [] h, lines-encodes cs) refl
+      | inr h ↦
+          rw (h, ← onto-encodes c (physical_lines cs), ← lines-encodes cs)
+          (lines-front (encode c) (encode_utf8_all cs) (encode_some c) (encode_none c h))
+    ]
 
 -- the bytes of Unicode scalar values are no broken line, and spell these values
 pub text-encodes : (cs : List ℕ) → scalars cs ≡ true → line_text (encode_utf8_all cs) ≡ Some cs
@@ -137,11 +120,8 @@ texts-encodes : (xss : List (List ℕ)) → scalars (concat xss) ≡ true →
     map line_text (map encode_utf8_all xss) ≡ map Some xss
 texts-encodes [] h = refl
 texts-encodes (xs ∷ xss) h =
-    let e : (scalars xs && scalars (concat xss)) ≡ true = sym (list_all-append scalar xs (concat xss)) ∙ h in
-    rw (
-      text-encodes xs (and_left (scalars xs) (scalars (concat xss)) e),
-      texts-encodes xss (and_right (scalars xs) (scalars (concat xss)) e),
-    ) refl
+    let e = and_parts (scalars xs) (scalars (concat xss)) (sym (list_all-append scalar xs (concat xss)) ∙ h) in
+    rw (text-encodes xs e.0, texts-encodes xss e.1) refl
 
 -- the physical lines of a text's bytes are not broken, and spell the text's physical lines
 pub line_texts-encodes : (cs : List ℕ) → scalars cs ≡ true →

@@ -94,10 +94,8 @@ IsFront xs ys = (later : List Logical) × (ys ≡ xs ++ later)
 -- before an open end there is nothing of the row that begins with it, and any other logical line is there
 open_or_not : (o : Logical) (os : List Logical) →
     (without_open_end (o ∷ os) ≡ []) ⊎ ((¬ (IsOpenEnd o)) × (without_open_end (o ∷ os) ≡ o ∷ without_open_end os))
-open_or_not Skip os = inr (λ h. h, refl)
-open_or_not (HasText t) os = inr (λ h. h, refl)
 open_or_not (StaysOpen t n) os = inl refl
-open_or_not Broken os = inr (λ h. h, refl)
+open_or_not o os = inr (λ h. h, refl)
 
 -- the logical lines before an open end are the front of those of the same lines with any after them
 lines_front : (lines more : Lines) (os ps : List Logical) → AreCut (lines ++ more) → AreCut lines →

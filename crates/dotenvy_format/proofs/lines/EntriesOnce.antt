@@ -95,10 +95,8 @@ logical_entries dialect Broken = Fails (Io InvalidData) ∷ []
 
 -- a logical line gives the entries that are computed of it
 logical_gives : (dialect : Dialect) (line : Logical) → Gives dialect line (logical_entries dialect line)
-logical_gives dialect Skip = refl
 logical_gives dialect (HasText text) = (outcome_of dialect text, outcome_of-is dialect text, refl)
-logical_gives dialect (StaysOpen text n) = refl
-logical_gives dialect Broken = refl
+logical_gives dialect line = refl
 
 -- logical lines give the entries that are computed of each, in order
 pub all_give : (dialect : Dialect) (lines : List Logical) →
@@ -115,11 +113,9 @@ all_give dialect (line ∷ lines) = (
 -- the entries that a logical line gives are those that are computed of it
 gives_once : (dialect : Dialect) (line : Logical) (es : List Entry) → Gives dialect line es →
     es ≡ logical_entries dialect line
-gives_once dialect Skip es a = a
 gives_once dialect (HasText text) es (x, says, a) =
     rw (a, one_outcome dialect text x (outcome_of dialect text) says (outcome_of-is dialect text)) refl
-gives_once dialect (StaysOpen text n) es a = a
-gives_once dialect Broken es a = a
+gives_once dialect line es a = a
 
 -- the entries that logical lines give are those that are computed of each, in order
 pub all_once : (dialect : Dialect) (lines : List Logical) (es : List Entry) → GiveAll dialect lines es →
@@ -131,13 +127,9 @@ all_once dialect (line ∷ lines) es (x, xs, a, as_given, e) =
 -- lines as bytes are cut into them are so with one character more before them, on the first line if it is no line feed
 cut_more : (c : ℕ) (xss : List (List ℕ)) (b : Bool) → (c == 10) ≡ b → AreCut (map Some xss) →
     AreCut (map Some (cond b ((c ∷ []) ∷ xss) (onto_first c xss)))
-cut_more c [] true h cut = refl
-cut_more c (xs ∷ xss) true h cut = (h, cut)
-cut_more c [] false h cut = refl
-cut_more c ([] ∷ []) false h cut = refl
-cut_more c ([] ∷ ys ∷ xss) false h cut = let e : false ≡ true = cut.0 in cc
-cut_more c ((x ∷ xs) ∷ []) false h cut = rw (h, cut) refl
-cut_more c ((x ∷ xs) ∷ ys ∷ xss) false h cut = (rw (h, cut.0) refl, cut.1)
+cut_more c [] b h cut = grind arith
+cut_more c ([] ∷ xss) b h cut = grind arith
+cut_more c ((x ∷ xs) ∷ xss) b h cut = grind arith
 
 -- of the lines that bytes, or characters, are cut into, each has its line feed, but the last may lack it
 cut_bytes : (cs : List ℕ) → AreCut (map Some (physical_lines cs))
@@ -199,17 +191,8 @@ whole_chars line u h =
 -- lines as bytes are cut into them are so with each as the text that it spells, or as a broken line
 cut_texts : (xss : List (List ℕ)) → AreCut (map Some xss) → AreCut (map line_text xss)
 cut_texts [] cut = tt
-cut_texts (xs ∷ []) cut =
-    (elim (is_utf8 xs) as (λ b. is_utf8 xs ≡ b → AreCut (cond b (Some (chars xs)) None ∷ [])) [
-      | true ↦ λ u. last_chars xs u cut
-      | false ↦ λ u. tt
-    ]) refl
-cut_texts (xs ∷ ys ∷ xss) cut =
-    (elim (is_utf8 xs) as (λ b.
-    is_utf8 xs ≡ b → AreCut (cond b (Some (chars xs)) None ∷ map line_text (ys ∷ xss))) [
-      | true ↦ λ u. (whole_chars xs u cut.0, cut_texts (ys ∷ xss) cut.1)
-      | false ↦ λ u. cut_texts (ys ∷ xss) cut.1
-    ]) refl
+cut_texts (xs ∷ []) cut = grind (arith, last_chars xs)
+cut_texts (xs ∷ ys ∷ xss) cut = grind (arith, whole_chars xs, cut_texts (ys ∷ xss))
 
 -- the physical lines of bytes, each a text or a broken line, are cut as lines are
 pub cut_line_texts : (bytes : List ℕ) → AreCut (line_texts bytes)

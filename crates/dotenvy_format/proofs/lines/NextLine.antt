@@ -1,4 +1,7 @@
 -- A loop over physical lines tells the next logical line, and there is at most one.
+use Rattle.std.proofs.lemmas.List.{nil_from_length}
+use Rattle.std.proofs.lemmas.Bool.{false_from_ne_true}
+use Rattle.std.proofs.lemmas.Bool.Decides.{nat_tests}
 use Rattle.std.proofs.Common.{◌≡◌, ℕ, zero, suc, ◌≤◌, ◌<◌, Bool, true, false, ◌||◌, not, cond, List}
 use Rattle.std.proofs.Common.{[], ◌∷◌, ◌++◌, map, Option, Some, None, refl, sym, ◌∙◌, ap, arith}
 use Rattle.std.proofs.Common.{append_assoc, length, take, inl, inr, ⊎_elim}
@@ -42,11 +45,7 @@ whole_line (c ∷ d ∷ t) cs h =
 -- a text that is one line, with its line feed or without, is one physical line
 pub last_line : (t : HasText') → is_last_line t ≡ true → physical_lines t ≡ t ∷ []
 last_line [] h = cc
-last_line (c ∷ []) h =
-    elim (c == line_feed) as (λ b. cond b ((c ∷ []) ∷ []) (onto_first c []) ≡ (c ∷ []) ∷ []) [
-      | true ↦ refl
-      | false ↦ refl
-    ]
+last_line (c ∷ []) h = grind arith
 last_line (c ∷ d ∷ t) h = let e = after_first c (is_last_line (d ∷ t)) h in rw (e.0, last_line (d ∷ t) e.1) refl
 
 -- a line with its line feed is one line
@@ -80,11 +79,7 @@ ends_join s (c ∷ t) h = ends_line-append s c t ∙ h
 
 -- a character is no line feed where it passes a test that this fails
 no_line_feed : (test : ℕ → Bool) (c : ℕ) → test c ≡ true → test line_feed ≡ false → (c == line_feed) ≡ false
-no_line_feed test c h k =
-    (elim (c == line_feed) as (λ b. (c == line_feed) ≡ b → b ≡ false) [
-      | true ↦ λ e. let f = eqb-true c line_feed e in cc
-      | false ↦ λ e. refl
-    ]) refl
+no_line_feed test c h k = false_from_ne_true _ (λ e. let f = eqb-true c line_feed e in cc)
 
 -- a token, where it may stand, does not end with a line feed
 token_ends : (t : Token) (after : HasText') → IsToken t after → ends_line (token_text t) ≡ false
@@ -192,10 +187,7 @@ pub mode_ends : (m : LineMode) (seen : HasText') →
     ((m ≡ Outside) × (at_input_end m seen ≡ HasText seen))
     ⊎ ((m ≢ Outside) × (at_input_end m seen ≡ StaysOpen seen (byte_len seen)))
 mode_ends Outside seen = inl (refl, refl)
-mode_ends Escaping seen = inr (λ e. cc, refl)
-mode_ends (Inside q) seen = inr (λ e. cc, refl)
-mode_ends (InsideEscaping q) seen = inr (λ e. cc, refl)
-mode_ends AfterBlank seen = inr (λ e. cc, refl)
+mode_ends m seen = inr (λ e. cc, refl)
 
 -- the loop passes by texts that go on
 pass_texts : (m : LineMode) (seen : HasText') (ts : List HasText') (lines : Lines) (n : LineMode) →
@@ -218,12 +210,9 @@ text_ends : (seen t : HasText') (ts : List HasText') (later : Lines) {kept k : H
 text_ends seen t [] later cut e w =
     (refl, ⊎_elim (λ f. cc) (λ r. let f = r.0 in cc) (whole_walks (rw append-nil at w)))
 text_ends seen t (u ∷ ts) later cut e w =
-    absurd (cut_some u (map Some ts ++ later) cut.1 (append-empty u (concat ts)
-    (no_more (seen ++ t) (concat (u ∷ ts)) w e (ends_join seen t (whole_ends t cut.0)))))
-  where
-    append-empty : (xs ys : HasText') → xs ++ ys ≡ [] → xs ≡ []
-    append-empty [] ys h = refl
-    append-empty (x ∷ xs) ys h = cc
+    let none = ap length (no_more (seen ++ t) (concat (u ∷ ts)) w e (ends_join seen t (whole_ends t cut.0))) in
+    absurd (cut_some u (map Some ts ++ later) cut.1
+    (nil_from_length u (omega (arith, none, length-append u (concat ts)))))
 
 -- the loop finds a whole logical line
 text_found : (m : LineMode) (seen : HasText') (ts : List HasText') (later : Lines) {kept : HasText'} {last : Type 0} →
@@ -300,14 +289,10 @@ text_next lines k kept cut is =
     ap (next_from Outside []) t.are
     ∙ text_found Outside [] t.taken t.later going_start (rw t.are at cut)
     (λ last.
-    none t.later
+    nil_from_length t.later
     (omega (arith, t.number, ap length t.are, length-append (map Some t.taken) t.later, length-map t.taken Some)))
     (rw t.joins at is.whole)
     ∙ number
-  where
-    none : (lines : Lines) → length lines ≡ 0 → lines ≡ []
-    none [] h = refl
-    none (l ∷ lines) h = absurd (omega arith)
 
 -- where a logical line that is a text begins with texts that go on, it is what the loop makes of the lines after them
 pub text_kind : (taken : List HasText') (lines : Lines) (m : LineMode) (j : ℕ) (kept : HasText') →
@@ -350,21 +335,16 @@ not_joined lines k t h e =
 -- where there are lines, they have one next logical line at most, and it takes one count of them
 pub one_next : (lines : Lines) (j k : ℕ) (a b : Logical) → lines ≢ [] → AreCut lines → IsNext lines j a →
     IsNext lines k b → (j ≡ k) × (a ≡ b)
-one_next lines j k Skip Skip some cut x y = (x.1 ∙ sym y.1, refl)
-one_next lines j k Skip (HasText t) some cut x y = absurd (y.0 x.0)
-one_next lines j k Skip (StaysOpen t n) some cut x y = absurd (y.0 x.0)
-one_next lines j k Skip Broken some cut x y = absurd (y.0 x.0)
-one_next lines j k (HasText s) Skip some cut x y = absurd (x.0 y.0)
+one_next lines j k Skip b some cut x y = grind arith
+one_next lines j k a Skip some cut x y = grind arith
 one_next lines j k (HasText s) (HasText t) some cut x y =
     same_parts (sym (text_next lines j s cut x.1) ∙ text_next lines k t cut y.1)
 one_next lines j k (HasText s) (StaysOpen t n) some cut x y = absurd (y.3 j s x.1)
 one_next lines j k (HasText s) Broken some cut x y = absurd (y.2 j s (before_broken lines j k s x.1 y.1) x.1)
-one_next lines j k (StaysOpen s m) Skip some cut x y = absurd (x.0 y.0)
 one_next lines j k (StaysOpen s m) (HasText t) some cut x y = absurd (x.3 k t y.1)
 one_next lines j k (StaysOpen s m) (StaysOpen t n) some cut x y =
     let e : Some s ≡ Some t = sym x.2 ∙ y.2 in let f : s ≡ t = cc in (x.1 ∙ sym y.1, rw (x.4, y.4, f) refl)
 one_next lines j k (StaysOpen s m) Broken some cut x y = absurd (not_joined lines k s y.1 x.2)
-one_next lines j k Broken Skip some cut x y = absurd (x.0 y.0)
 one_next lines j k Broken (HasText t) some cut x y = absurd (x.2 k t (before_broken lines k j t y.1 x.1) y.1)
 one_next lines j k Broken (StaysOpen t n) some cut x y = absurd (not_joined lines j t x.1 y.2)
 one_next lines j k Broken Broken some cut x y = (one_broken lines j k x.1 y.1, refl)

@@ -168,12 +168,7 @@ pub skipped_or_not : (lines : Lines) →
     (IsSkipped lines × (is_skipped lines ≡ true)) ⊎ ((¬ (IsSkipped lines)) × (is_skipped lines ≡ false))
 skipped_or_not [] = inr (λ h. h, refl)
 skipped_or_not (None ∷ lines) = inr (λ h. h, refl)
-skipped_or_not (Some t ∷ lines) =
-    elim (begins_with hash (skip_leading_whitespace t)) as (λ b.
-    ((b ≡ true) × (b ≡ true)) ⊎ ((¬ (b ≡ true)) × (b ≡ false))) [
-      | true ↦ inl (refl, refl)
-      | false ↦ inr (λ h. cc, refl)
-    ]
+skipped_or_not (Some t ∷ lines) = grind arith
 
 -- where the first line is a comment as a whole, it is skipped
 pub next_skipped : (lines : Lines) → is_skipped lines ≡ true → next_of lines ≡ (1, Skip)
@@ -183,17 +178,12 @@ next_skipped lines h = rw (h, next_of) refl
 pub next_shown : (lines : Lines) → is_skipped lines ≡ false → next_of lines ≡ next_from Outside [] lines
 next_shown lines h = rw (h, next_of) refl
 
--- of this pair the second is the next logical line, and the first how many lines it takes
-abbrev IsNextPair : Lines → ℕ × Logical → Type 0
-IsNextPair lines r = IsNext lines r.0 r.1
-
 -- what the function says is the next logical line
 pub next_of-is : (lines : Lines) → lines ≢ [] → AreCut lines → IsNext lines (next_of lines).0 (next_of lines).1
 next_of-is lines some cut =
-    ⊎_elim (λ h. subst (IsNextPair lines) (sym (next_skipped lines h.1)) (h.0, refl))
+    ⊎_elim (λ h. rw (next_skipped lines h.1) (h.0, refl))
     (λ h.
-    subst (IsNextPair lines) (sym (next_shown lines h.1))
-    (rw zero-add at (next_from-is Outside lines [] lines refl some cut h.0 going_start)))
+    rw (next_shown lines h.1) (rw zero-add at (next_from-is Outside lines [] lines refl some cut h.0 going_start)))
     (skipped_or_not lines)
 
 -- the next logical line is what the function says
@@ -202,14 +192,3 @@ pub next_once : (lines : Lines) (k : ℕ) (o : Logical) → lines ≢ [] → Are
 next_once lines k o some cut is =
     let e = one_next lines (next_of lines).0 k (next_of lines).1 o some cut (next_of-is lines some cut) is in
     rw (← e.0, ← e.1) refl
-
--- the lines that are left after the texts taken are those that are after them
-pub left_after : (taken : List (List ℕ)) (lines : Lines) → drop (length taken) (map Some taken ++ lines) ≡ lines
-left_after [] lines = refl
-left_after (t ∷ taken) lines = left_after taken lines
-
--- the lines left after the texts taken and a broken line are those that are after it
-pub left_after_broken : (taken : List (List ℕ)) (lines : Lines) →
-    drop (suc (length taken)) (map Some taken ++ None ∷ lines) ≡ lines
-left_after_broken [] lines = refl
-left_after_broken (t ∷ taken) lines = left_after_broken taken lines
