@@ -97,8 +97,7 @@ lines-front (b ∷ c ∷ bs) rest some h =
 -- a character's bytes put onto the bytes of lines are the bytes of the lines with the character put on
 onto-encodes : (c : ℕ) (xss : List (List ℕ)) →
     with_front (encode c) (map encode_utf8_all xss) ≡ map encode_utf8_all (onto_first c xss)
-onto-encodes c [] = rw append-nil refl
-onto-encodes c (xs ∷ xss) = refl
+onto-encodes c xss = grind (arith, append-nil (encode c))
 
 -- the physical lines of a text's bytes are the bytes of the text's physical lines
 pub lines-encodes : (cs : List ℕ) → physical_lines (encode_utf8_all cs) ≡ map encode_utf8_all (physical_lines cs)

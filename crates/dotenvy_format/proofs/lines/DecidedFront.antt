@@ -31,9 +31,7 @@ use Rattle.std.proofs.lemmas.Grind.{flat_map-append}
 
 -- a first line is skipped just where it is so before more lines
 skipped-append : (lines more : Lines) → lines ≢ [] → is_skipped (lines ++ more) ≡ is_skipped lines
-skipped-append [] more some = absurd (some refl)
-skipped-append (None ∷ lines) more some = refl
-skipped-append (Some t ∷ lines) more some = refl
+skipped-append lines more some = grind arith
 
 -- after texts that go on, the next logical line is the same before more lines, except an open end
 next_from-append : (m : LineMode) (seen : List ℕ) (lines : Lines) (l : Option (List ℕ)) (more : Lines) →
@@ -41,7 +39,7 @@ next_from-append : (m : LineMode) (seen : List ℕ) (lines : Lines) (l : Option 
     ¬ (IsOpenEnd (next_from m seen lines).1) → next_from m seen (lines ++ l ∷ more) ≡ next_from m seen lines
 next_from-append m seen [] l more (inl some) cut g closed = absurd (some refl)
 next_from-append m seen [] l more (inr ends) cut g closed =
-    ⊎_elim (λ h. absurd (line_goes_on seen m g ends h.0)) (λ h. absurd (closed (rw h.1 tt))) (mode_ends m seen)
+    let goes_on = line_goes_on seen m g ends in let at_end = mode_ends m seen in grind arith
 next_from-append m seen (None ∷ lines) l more some cut g closed = refl
 next_from-append m seen (Some t ∷ lines) l more some cut g closed =
     (elim (walk m seen t) as (λ w.
@@ -62,7 +60,7 @@ next_from-append m seen (Some t ∷ lines) l more some cut g closed =
 
 -- the next logical line is one of the first lines
 next_within : (lines : Lines) (k : ℕ) (o : Logical) → lines ≢ [] → IsNext lines k o → k ≤ length lines
-next_within lines k Skip some is = let h = some_length lines some in omega (arith, is.1, h)
+next_within lines k Skip some is = omega (arith, is.1, some_length lines some)
 next_within lines k (HasText t) some is = let h = is.1 in h.within
 next_within lines k (StaysOpen t n) some is = omega (arith, is.1)
 next_within lines k Broken some is = broken_within lines k is.1

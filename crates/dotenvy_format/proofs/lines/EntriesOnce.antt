@@ -1,4 +1,8 @@
 -- Bytes have entries, and have them once: those that are computed, one logical line after another.
+use Rattle.std.proofs.lemmas.List.{nil_from_length}
+use Rattle.std.proofs.Common.{inl, inr}
+use Rattle.std.proofs.lemmas.Bool.Decides.{nat_tests}
+use Rattle.std.proofs.lemmas.Bool.{cases_Bool}
 use Rattle.std.proofs.Common.{◌≡◌, ℕ, zero, suc, ◌≤◌, ◌<◌, Bool, true, false, List, []}
 use Rattle.std.proofs.Common.{◌∷◌, ◌++◌, map, Some, None, refl, sym, ◌∙◌, ap, arith}
 use Rattle.std.proofs.Common.{length, length-drop, drop, cond, Ok}
@@ -45,17 +49,14 @@ one_list lines (o ∷ os) (p ∷ ps) cut (some, j, x, xs) (other, k, y, ys) =
 
 -- where there are physical lines, their number is not 0
 pub some_length : (lines : Lines) → lines ≢ [] → 0 < length lines
-some_length [] some = absurd (some refl)
-some_length (l ∷ lines) some = omega arith
+some_length lines some = let h : ¬ (length lines ≡ 0) = λ e. some (nil_from_length lines e) in omega (arith, h)
 
 -- where there are physical lines, the next logical line takes at least one of them
 pub next_positive : (lines : Lines) (k : ℕ) (o : Logical) → lines ≢ [] → IsNext lines k o → 0 < k
 next_positive lines k Skip some is = omega (arith, is.1)
 next_positive lines k (HasText t) some is = some_lines lines k t some is.1
 next_positive lines k (StaysOpen t n) some is = let h = some_length lines some in omega (arith, is.1)
-next_positive [] k Broken some is = absurd (some refl)
-next_positive (None ∷ lines) k Broken some is = omega (arith, is.1)
-next_positive (Some t ∷ lines) k Broken some is = let e = is.1.1 in omega arith
+next_positive lines k Broken some is = grind arith
 
 -- the logical lines of physical lines, one after another, computed in at most so many steps
 abbrev pub lines_of : ℕ → Lines → List Logical
@@ -139,7 +140,7 @@ cut_bytes (c ∷ cs) = cut_more c (physical_lines cs) (c == 10) refl (cut_bytes 
 -- bytes without a line feed, if there are any, are one line
 pub one_last : (b : ℕ) (bs : List ℕ) → no_line_feed (b ∷ bs) ≡ true → is_last_line (b ∷ bs) ≡ true
 one_last b [] h = refl
-one_last b (c ∷ bs) h = let e = after_first b (no_line_feed (c ∷ bs)) h in rw (e.0, one_last c bs e.1) refl
+one_last b (c ∷ bs) h = grind (arith, nat_tests, one_last c bs)
 
 -- where bytes are a text and one line, which may lack its line feed, their characters are one line
 last_chars : (line : List ℕ) → is_utf8 line ≡ true → is_last_line line ≡ true → is_last_line (chars line) ≡ true
@@ -157,17 +158,16 @@ last_chars line u h =
 -- bytes without a line feed do not end with one
 no_end : (bs : List ℕ) → no_line_feed bs ≡ true → ends_line bs ≡ false
 no_end [] h = refl
-no_end (b ∷ []) h = (after_first b true h).0
-no_end (b ∷ c ∷ bs) h = no_end (c ∷ bs) (after_first b (no_line_feed (c ∷ bs)) h).1
+no_end (b ∷ bs) h = grind (arith, nat_tests, no_end bs)
 
 -- a text ends with a line feed just where its bytes do
 ends-encodes : (cs : List ℕ) → ends_line (encode_utf8_all cs) ≡ ends_line cs
 ends-encodes [] = refl
 ends-encodes (c ∷ []) =
-    (elim (c == 10) as (λ b. (c == 10) ≡ b → ends_line (encode c ++ []) ≡ b) [
-      | true ↦ λ h. rw (ten c [] h) refl
-      | false ↦ λ h. rw append-nil (no_end (encode c) (encode_none c h))
-    ]) refl
+    elim (cases_Bool (c == 10)) [
+      | inl h ↦ rw (h, ten c [] h) refl
+      | inr h ↦ rw (h, append-nil) (no_end (encode c) (encode_none c h))
+    ]
 ends-encodes (c ∷ d ∷ cs) = at (encode d) (encode_some d) ∙ ends-encodes (d ∷ cs)
   where
     at : (bs : List ℕ) → 0 < length bs →
@@ -178,9 +178,7 @@ ends-encodes (c ∷ d ∷ cs) = at (encode d) (encode_some d) ∙ ends-encodes (
 -- one line that ends with a line feed is a line with its line feed
 last_whole : (t : List ℕ) → is_last_line t ≡ true → ends_line t ≡ true → is_whole_line t ≡ true
 last_whole [] h ends = cc
-last_whole (c ∷ []) h ends = ends
-last_whole (c ∷ d ∷ t) h ends =
-    let e = after_first c (is_last_line (d ∷ t)) h in rw (e.0, last_whole (d ∷ t) e.1 ends) refl
+last_whole (c ∷ t) h ends = grind (arith, nat_tests, last_whole t)
 
 -- where bytes are a text and a line with its line feed, their characters are such a line
 pub whole_chars : (line : List ℕ) → is_utf8 line ≡ true → is_whole_line line ≡ true → is_whole_line (chars line) ≡ true

@@ -27,8 +27,7 @@ use Rattle.dotenvy_format.proofs.bytes.Slices.{first_alone, begins_shorter}
 -- a carriage return at the end goes
 return_goes : (xs : List ℕ) → without_carriage_return (xs ++ 13 ∷ []) ≡ xs
 return_goes [] = refl
-return_goes (x ∷ []) = refl
-return_goes (x ∷ y ∷ xs) = rw (return_goes (y ∷ xs))
+return_goes (x ∷ xs) = grind (arith, return_goes xs)
 
 -- a text that ends with no carriage return is the same without one at its end
 no_return : (cs : List ℕ) → ((front : List ℕ) → cs ≡ front ++ 13 ∷ [] → ⊥) → without_carriage_return cs ≡ cs

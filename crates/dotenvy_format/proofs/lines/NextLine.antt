@@ -38,21 +38,17 @@ Lines = List (Option HasText')
 -- a line with its line feed is the first physical line, and what follows it is cut by itself
 pub whole_line : (t cs : HasText') → is_whole_line t ≡ true → physical_lines (t ++ cs) ≡ t ∷ physical_lines cs
 whole_line [] cs h = cc
-whole_line (c ∷ []) cs h = rw h refl
-whole_line (c ∷ d ∷ t) cs h =
-    let e = after_first c (is_whole_line (d ∷ t)) h in rw (e.0, whole_line (d ∷ t) cs e.1) refl
+whole_line (c ∷ t) cs h = grind (arith, nat_tests, whole_line t cs)
 
 -- a text that is one line, with its line feed or without, is one physical line
 pub last_line : (t : HasText') → is_last_line t ≡ true → physical_lines t ≡ t ∷ []
 last_line [] h = cc
-last_line (c ∷ []) h = grind arith
-last_line (c ∷ d ∷ t) h = let e = after_first c (is_last_line (d ∷ t)) h in rw (e.0, last_line (d ∷ t) e.1) refl
+last_line (c ∷ t) h = grind (arith, nat_tests, last_line t)
 
 -- a line with its line feed is one line
 pub whole_last : (t : HasText') → is_whole_line t ≡ true → is_last_line t ≡ true
 whole_last [] h = cc
-whole_last (c ∷ []) h = refl
-whole_last (c ∷ d ∷ t) h = let e = after_first c (is_whole_line (d ∷ t)) h in rw (e.0, whole_last (d ∷ t) e.1) refl
+whole_last (c ∷ t) h = grind (arith, nat_tests, whole_last t)
 
 -- the text ends with a line feed
 abbrev pub ends_line : HasText' → Bool
@@ -69,8 +65,7 @@ ends_line-append (x ∷ y ∷ xs) c cs = ends_line-append (y ∷ xs) c cs
 -- a line with its line feed ends with a line feed
 pub whole_ends : (t : HasText') → is_whole_line t ≡ true → ends_line t ≡ true
 whole_ends [] h = cc
-whole_ends (c ∷ []) h = h
-whole_ends (c ∷ d ∷ t) h = let e = after_first c (is_whole_line (d ∷ t)) h in whole_ends (d ∷ t) e.1
+whole_ends (c ∷ t) h = grind (arith, nat_tests, whole_ends t)
 
 -- any text and then one that ends with a line feed end with it
 pub ends_join : (s t : HasText') → ends_line t ≡ true → ends_line (s ++ t) ≡ true
@@ -118,8 +113,7 @@ ending_is_one input_end last is = tt
 -- nothing follows the line feed of a line
 nothing_more : (xs ys : HasText') → IsOneLine (xs ++ ys) → ends_line xs ≡ true → ys ≡ []
 nothing_more [] ys is ends = cc
-nothing_more (x ∷ []) [] is ends = refl
-nothing_more (x ∷ []) (y ∷ ys) is ends = let e : false ≡ true = rw ends at is.0 in cc
+nothing_more (x ∷ []) ys is ends = grind arith
 nothing_more (x ∷ z ∷ xs) ys is ends = nothing_more (z ∷ xs) ys is.1 ends
 
 -- of two ways to cut a text in two, one front begins with the other
@@ -128,8 +122,7 @@ parts : (xs ys us vs : HasText') → xs ++ ys ≡ us ++ vs →
 parts xs ys [] vs e = inl (xs, refl)
 parts [] ys (u ∷ us) vs e = inr (u, us, refl, e)
 parts (x ∷ xs) ys (u ∷ us) vs e =
-    ⊎_elim (λ p. inl (p.0, let h = p.1 in cc)) (λ p. inr (p.0, p.1, let h = p.2 in cc, p.3))
-    (parts xs ys us vs (let k : xs ++ ys ≡ us ++ vs = cc in k))
+    let k : xs ++ ys ≡ us ++ vs = cc in let later = parts xs ys us vs k in grind arith
 
 -- where a walk ends in a front that ends with a line feed, the logical line ends with the front
 no_more : (front more : HasText') {kept k : HasText'} {last : Type 0} → IsWhole (front ++ more) kept last →
@@ -146,9 +139,7 @@ no_more front more {k = k} w e ends =
 
 -- physical lines as bytes are cut into them are so still without the first
 pub cut_rest : (l : Option HasText') (lines : Lines) → AreCut (l ∷ lines) → AreCut lines
-cut_rest None lines cut = cut
-cut_rest (Some t) [] cut = tt
-cut_rest (Some t) (l ∷ lines) cut = cut.1
+cut_rest l lines cut = grind arith
 
 -- physical lines as bytes are cut into them are so without those before them
 pub cut_after : (front lines : Lines) → AreCut (front ++ lines) → AreCut lines
@@ -157,9 +148,7 @@ cut_after (l ∷ front) lines cut = cut_after front lines (cut_rest l (front ++ 
 
 -- where bytes are cut into lines, a first line that is a text isn't empty
 cut_some : (t : HasText') (lines : Lines) → AreCut (Some t ∷ lines) → t ≢ []
-cut_some [] [] cut h = cc
-cut_some [] (l ∷ lines) cut h = let e : false ≡ true = cut.0 in cc
-cut_some (c ∷ t) lines cut h = cc
+cut_some t lines cut h = grind arith
 
 -- A loop over physical lines as one function: how many lines the next logical line takes, and what it is.
 -- what the end of input makes of a text: a whole logical line where the mode is outside, else an open end
@@ -274,7 +263,7 @@ some_lines [] zero kept some is = absurd (some refl)
 some_lines (l ∷ lines) zero kept some is =
     let e : Some [] ≡ Some is.text = is.joins in
     let f : is.text ≡ [] = cc in
-    ⊎_elim (λ e. cc) (λ r. let h = r.2 in absurd (omega arith)) (whole_walks (rw f at is.whole))
+    let walks = whole_walks (rw f at is.whole) in grind arith
 
 -- equal pairs have equal parts
 pub same_parts : {j k : ℕ} {o p : Logical} → ◌≡◌ {A = ℕ × Logical} (j, o) (k, p) → (j ≡ k) × (o ≡ p)
@@ -317,8 +306,7 @@ broken_after (t ∷ ts) lines k (i, e, h) = let w = broken_after ts lines i h in
 -- there is one first broken line at most
 one_broken : (lines : Lines) (j k : ℕ) → IsFirstBroken j lines → IsFirstBroken k lines → j ≡ k
 one_broken [] j k a b = absurd a
-one_broken (None ∷ lines) j k a b = a ∙ sym b
-one_broken (Some t ∷ lines) j k (i, a, h) (l, b, g) = let e = one_broken lines i l h g in omega (arith, a, b, e)
+one_broken (l ∷ lines) j k a b = grind (arith, one_broken lines)
 
 -- a logical line that is a text ends before the first broken line
 before_broken : (lines : Lines) (j k : ℕ) (kept : HasText') → IsText lines j kept → IsFirstBroken k lines → j < k
@@ -342,8 +330,7 @@ one_next lines j k (HasText s) (HasText t) some cut x y =
 one_next lines j k (HasText s) (StaysOpen t n) some cut x y = absurd (y.3 j s x.1)
 one_next lines j k (HasText s) Broken some cut x y = absurd (y.2 j s (before_broken lines j k s x.1 y.1) x.1)
 one_next lines j k (StaysOpen s m) (HasText t) some cut x y = absurd (x.3 k t y.1)
-one_next lines j k (StaysOpen s m) (StaysOpen t n) some cut x y =
-    let e : Some s ≡ Some t = sym x.2 ∙ y.2 in let f : s ≡ t = cc in (x.1 ∙ sym y.1, rw (x.4, y.4, f) refl)
+one_next lines j k (StaysOpen s m) (StaysOpen t n) some cut x y = grind arith
 one_next lines j k (StaysOpen s m) Broken some cut x y = absurd (not_joined lines k s y.1 x.2)
 one_next lines j k Broken (HasText t) some cut x y = absurd (x.2 k t (before_broken lines k j t y.1 x.1) y.1)
 one_next lines j k Broken (StaysOpen t n) some cut x y = absurd (not_joined lines j t x.1 y.2)

@@ -27,9 +27,7 @@ use Rattle.dotenvy_format.proofs.lines.NextLine.{after_walk, next_from, text_kin
 -- a line that may lack its line feed has no line feed but at its end
 one_of_last : (t : List ℕ) → is_last_line t ≡ true → IsOneLine t
 one_of_last [] h = tt
-one_of_last (c ∷ []) h = tt
-one_of_last (c ∷ d ∷ t) h =
-    let e = after_first c (is_last_line (d ∷ t)) h in (rw e.0 refl, one_of_last (d ∷ t) e.1)
+one_of_last (c ∷ t) h = grind (arith, one_of_last t)
 
 -- a physical line that is a text is one line
 pub line_is_one : (front : Lines) (t : List ℕ) (lines : Lines) → AreCut (front ++ Some t ∷ lines) → IsOneLine t
@@ -166,9 +164,7 @@ next_from-is m all taken (Some t ∷ lines) e some cut shown g =
 -- the first line is a comment as a whole, or it isn't
 pub skipped_or_not : (lines : Lines) →
     (IsSkipped lines × (is_skipped lines ≡ true)) ⊎ ((¬ (IsSkipped lines)) × (is_skipped lines ≡ false))
-skipped_or_not [] = inr (λ h. h, refl)
-skipped_or_not (None ∷ lines) = inr (λ h. h, refl)
-skipped_or_not (Some t ∷ lines) = grind arith
+skipped_or_not lines = grind arith
 
 -- where the first line is a comment as a whole, it is skipped
 pub next_skipped : (lines : Lines) → is_skipped lines ≡ true → next_of lines ≡ (1, Skip)
