@@ -31,7 +31,7 @@ passed_over : (byte : ℕ → Bool) (xs ys : List ℕ) → list_all byte xs ≡ 
     → prefix_len byte (xs ++ ys) ≡ length xs + prefix_len byte ys
 passed_over byte [] ys h = omega arith
 passed_over byte (x ∷ xs) ys h =
-    let p = and_parts (byte x) (list_all byte xs) h in rw (p.0, passed_over byte xs ys p.1) (omega arith)
+    grind (arith, passed_over byte xs ys)
 
 -- no character passes yet
 none_passed : {passes : ℕ → Bool} (text : List ℕ) → IsUtf8 text → PassesTo passes text 0

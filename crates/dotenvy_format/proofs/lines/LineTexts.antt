@@ -81,8 +81,7 @@ blank_is line trimmed e h = encodes_same (skip_leading_whitespace (chars line)) 
 
 -- a text that begins with `#` has no white space before it
 no_blank_before : (cs : List ℕ) → begins_with hash cs ≡ true → begins_with hash (skip_leading_whitespace cs) ≡ true
-no_blank_before [] h = cc
-no_blank_before (c ∷ cs) h = rw (eqb-true c hash h) refl
+no_blank_before cs h = grind (arith, nat_tests)
 
 -- a text whose first byte is `#` is a comment
 pub comment_at_once : (text : List ℕ) (b : Bool) → IsUtf8 text → b ≡ (get_or text 0 0 == hash) → b ≡ true →
@@ -117,8 +116,7 @@ stays_all : (m : LineMode) (passes : ℕ → Bool) → ((c : ℕ) → passes c �
     list_all passes cs ≡ true → walk m seen cs ≡ going m
 stays_all m passes stays seen [] h = refl
 stays_all m passes stays seen (c ∷ cs) h =
-    let p = and_parts (passes c) (list_all passes cs) h in
-    rw (stays c p.0) (stays_all m passes stays (seen ++ c ∷ []) cs p.1)
+    grind (arith, stays c, stays_all m passes stays (seen ++ c ∷ []) cs)
 
 -- outside quotes, a character of the class of tokens leaves the mode as it is
 pub token_stays : (c : ℕ) → has_character Token c ≡ true → leads Outside c ≡ Some Outside

@@ -1,5 +1,7 @@
 -- The splitter's machine reads the tokens of a logical line, and ends where the logical line does.
-use Rattle.std.proofs.Common.{◌≡◌, ℕ, true, false, ◌||◌, not, List, [], ◌∷◌, ◌++◌, Option}
+use Rattle.dotenvy_format.specs.Characters.{carriage_return}
+use Rattle.std.proofs.Common.{false}
+use Rattle.std.proofs.Common.{◌≡◌, ℕ, true, ◌||◌, not, List, [], ◌∷◌, ◌++◌, Option}
 use Rattle.std.proofs.Common.{Some, None, refl, sym, ◌∙◌, ap, arith, append_assoc, subst, inl, inr}
 use Rattle.std.specs.Prelude.{◌==◌, ◌⊎◌}
 use Rattle.std.specs.List.{flat_map, list_all}
@@ -147,11 +149,12 @@ blank_leads : (c : ℕ) →
     ⊎ ((not (c == hash || stands_for_itself c) ≡ true) × (leads AfterBlank c ≡ Some Outside)))
 blank_leads c = grind (arith, nat_tests)
 
--- a text that ends with a backslash has no carriage return at its end to be cut off
-not_returned : (xs : List ℕ) → without_carriage_return (xs ++ backslash ∷ []) ≡ xs ++ backslash ∷ []
-not_returned [] = refl
-not_returned (c ∷ []) = refl
-not_returned (c ∷ d ∷ xs) = ap (◌∷◌ c) (not_returned (d ∷ xs))
+-- a text that ends with a character other than a carriage return has none at its end to be cut off
+pub not_returned : (xs : List ℕ) (c : ℕ) → (c == carriage_return) ≡ false →
+    without_carriage_return (xs ++ c ∷ []) ≡ xs ++ c ∷ []
+not_returned [] c h = rw h refl
+not_returned (x ∷ []) c h = rw h refl
+not_returned (x ∷ y ∷ xs) c h = ap (◌∷◌ x) (not_returned (y ∷ xs) c h)
 
 -- nothing follows a line feed in a line
 nothing_after : (c : ℕ) (rest : List ℕ) → c ≡ line_feed → IsOneLine (c ∷ rest) → rest ≡ []
@@ -205,7 +208,7 @@ lead {seen = seen} {cs = cs} last Escaping c t = elim (escaping_leads c) [
       rw h.1 (λ line.
       let none = nothing_after c cs h.0 line in
       whole_from (c ∷ cs) (kept_before c seen) escaped_line_end last t (rw (t.is_part, h.0, none) refl) tt
-      (rw (h.0, t.spelled, t.is_part, not_returned) refl))
+      (rw (h.0, t.spelled, t.is_part, not_returned (tokens_text t.tokens) backslash refl) refl))
   | inr h ↦ rw h.1 (close (backslash_pair c) (grow t (rw t.is_part refl)) h.0)
 ]
 lead last (Inside q) c t = let o = t.is_part in elim (inside_leads q c) [
@@ -388,6 +391,6 @@ whole_walks {last = last} w =
         (walk Outside [] (ts ++ ending_text ending) ≡ ended (kept_text ts ending))
         ⊎ (IsGoing (ts ++ ending_text ending) Outside × (kept_text ts ending ≡ ts ++ ending_text ending) × last)
     at line_end ts is e = inl e
-    at escaped_line_end ts is e = inl (e ∙ ap ended (not_returned ts))
+    at escaped_line_end ts is e = inl (e ∙ ap ended (not_returned ts backslash refl))
     at (comment b words) ts is e = inl (e ∙ rw (blank_goes b is.0) refl)
     at input_end ts is e = inr (e, sym (append-nil ts), is)

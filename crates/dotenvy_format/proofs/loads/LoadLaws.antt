@@ -15,11 +15,6 @@ use Rattle.dotenvy_format.specs.Loads.{is_first_of_absent, load_result, override
 use Rattle.dotenvy_format.specs.Loads.{SameLoad}
 use Rattle.dotenvy_format.proofs.loads.LoadRuns.{meaning-text, run-same, run-forgets, same-then}
 
--- look-ups that agree on every name give pieces the same meaning
-pub meaning-same : (l k : LookUp) (pieces : List Piece) → ((n : List ℕ) → l n ≡ k n) →
-    meaning l pieces ≡ meaning k pieces
-meaning-same l k pieces same = meaning-text l k pieces (λ n. rw (same n))
-
 -- the first value of a name in two lists of pairs is that in the first, else that in the second
 first_value-append : (xs ys : List (List ℕ × List ℕ)) (n : List ℕ) →
     first_value (xs ++ ys) n ≡ option_or (first_value xs n) (first_value ys n)
@@ -41,21 +36,19 @@ record IsRule (mode : Mode) (m : LookUp) (env look : List (List ℕ × List ℕ)
   declares : (earlier : List (List ℕ × List ℕ)) (key value n : List ℕ) →
       after_declaration mode (env earlier) key value n ≡ env (earlier ++ (key, value) ∷ []) n
 
--- what a load leaves and returns, by a rule of the environment after declarations
-abbrev with_values : (List (List ℕ × List ℕ) → LookUp) → Declared → Loaded
-with_values env d = record { env = env d.pairs; answer = d.stop }
-
 -- after declarations, a run leaves and returns what its rule says
 run-rule : {mode : Mode} {m : LookUp} {env look : List (List ℕ × List ℕ) → LookUp}
     {matters : List (List ℕ × List ℕ) → List ℕ → Bool}
     (rule : IsRule mode m env look matters) (earlier : List (List ℕ × List ℕ)) (entries : List Entry) →
-    SameLoad (run mode (env earlier) m entries) (with_values env (declared_from look matters earlier entries))
+    (let d = declared_from look matters earlier entries in
+    SameLoad (run mode (env earlier) m entries) (record { env = env d.pairs; answer = d.stop }))
 run-rule rule earlier [] = record { env = λ n. refl; answer = refl }
 run-rule rule earlier (Fails failure ∷ entries) = record { env = λ n. refl; answer = refl }
 run-rule {mode} {m} {env} {look} {matters} rule earlier (Declares key pieces ∷ entries) =
     let v = meaning (look earlier) pieces in
     let more = earlier ++ (key, v) ∷ [] in
-    rw (meaning-same (or_else (env earlier) m) (look earlier) pieces (rule.looks earlier), ← rule.stops earlier key) (
+    let means = meaning-text (or_else (env earlier) m) (look earlier) pieces (λ n. rw (rule.looks earlier n)) in
+    rw (means, ← rule.stops earlier key) (
     elim (cases_Bool (sets mode (env earlier) key && has_nul v)) [
       | inl stops ↦ rw stops (record { env = λ n. refl; answer = refl })
       | inr goes ↦

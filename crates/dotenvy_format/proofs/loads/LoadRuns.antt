@@ -17,9 +17,7 @@ use Rattle.dotenvy_format.specs.Loads.{SameLoad}
 pub meaning-text : (l k : LookUp) (pieces : List Piece) → ((n : List ℕ) → text_of l n ≡ text_of k n) →
     meaning l pieces ≡ meaning k pieces
 meaning-text l k [] same = refl
-meaning-text l k (Text text ∷ pieces) same = rw (meaning-text l k pieces same)
-meaning-text l k (Name name after ∷ pieces) same = rw (same name, meaning-text l k pieces same)
-meaning-text l k (LastBackslash ∷ pieces) same = meaning-text l k pieces same
+meaning-text l k (piece ∷ pieces) same = grind (arith, meaning-text l k pieces same, same)
 
 -- the second of two look-ups counts where the first lacks a name, and there an absent name counts as the empty text
 pub or_else-text : (x y a b : Option (List ℕ)) → x ≡ y → (is_none x ≡ true → unwrap_or a [] ≡ unwrap_or b []) →
@@ -96,10 +94,7 @@ run-goes_on mode e f r Nothing more through values = run-same mode e f r r more 
 run-goes_on mode e f r (Fault text index) more through values = cc
 run-goes_on mode e f r (Pair key pieces) more through values =
     let v = meaning (or_else e r) pieces in
-    elim (cases_Bool (sets mode e key && has_nul v)) [
-      | inl stops ↦ let fault = rw stops at through in cc
-      | inr goes ↦ rw goes (run-forgets mode e f r key v more (λ n. sym (rw goes at (values n))))
-    ]
+    grind (arith, run-forgets mode e f r key v more, values)
 
 -- what follows the stop of a load does not count
 pub run-stops : (mode : Mode) (e r : LookUp) (front more : List Entry) (failure : Failure) →
@@ -108,9 +103,4 @@ run-stops mode e r [] more failure h = cc
 run-stops mode e r (Fails first ∷ front) more failure h = refl
 run-stops mode e r (Declares key pieces ∷ front) more failure h =
     let v = meaning (or_else e r) pieces in
-    elim (cases_Bool (sets mode e key && has_nul v)) [
-      | inl stops ↦ rw stops
-      | inr goes ↦
-          rw goes (run-stops mode (after_declaration mode e key v) (with_value r key v) front more failure
-          (rw goes at h))
-    ]
+    grind (arith, run-stops mode (after_declaration mode e key v) (with_value r key v) front more failure)

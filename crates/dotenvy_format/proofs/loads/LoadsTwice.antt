@@ -20,11 +20,7 @@ run_keeps e r [] n there = there
 run_keeps e r (Fails failure ∷ entries) n there = there
 run_keeps e r (Declares key pieces ∷ entries) n there =
     let v = meaning (or_else e r) pieces in
-    elim (cases_Bool (is_none (e key) && has_nul v)) [
-      | inl stops ↦ rw stops there
-      | inr goes ↦
-          rw goes (run_keeps (after_declaration Keep e key v) (with_value r key v) entries n (grind arith))
-    ]
+    grind (arith, run_keeps (after_declaration Keep e key v) (with_value r key v) entries n)
 
 -- a load of these entries that keeps values leaves the values of this environment, and has this answer
 abbrev Again : LookUp → LookUp → List Entry → LookUp → Result (Unit {0}) Failure → Type 0
@@ -125,9 +121,7 @@ overrides_declared env remembered entries name =
 meaning-agree : (a b earlier : LookUp) (pieces : List Piece) → AgreeOn a b pieces →
     meaning (or_else a earlier) pieces ≡ meaning (or_else b earlier) pieces
 meaning-agree a b earlier [] agree = refl
-meaning-agree a b earlier (Text text ∷ pieces) agree = rw (meaning-agree a b earlier pieces agree)
-meaning-agree a b earlier (Name name after ∷ pieces) agree = rw (agree.0, meaning-agree a b earlier pieces agree.1)
-meaning-agree a b earlier (LastBackslash ∷ pieces) agree = meaning-agree a b earlier pieces agree
+meaning-agree a b earlier (piece ∷ pieces) agree = grind (arith, meaning-agree a b earlier pieces)
 
 -- after the same earlier values, environments that agree on the names in entries give the same items
 items_from-agree : (a b earlier : LookUp) (entries : List Entry) → AgreeIn a b entries →

@@ -19,11 +19,8 @@ use Rattle.dotenvy_format.specs.inside.ParseStatement.{export, passing_front, af
 pub run_is : (passes : ℕ → Bool) (front rest : List ℕ) → list_all passes front ≡ true →
     not (begins_passing passes rest) ≡ true →
     (passing_front passes (front ++ rest) ≡ front) × (after_passing passes (front ++ rest) ≡ rest)
-run_is passes [] [] h longest = (refl, refl)
-run_is passes [] (c ∷ rest) h longest = (rw (not-true (passes c) longest) refl, rw (not-true (passes c) longest) refl)
-run_is passes (c ∷ front) rest h longest =
-    let here = and_parts (passes c) (list_all passes front) h in
-    let later = run_is passes front rest here.1 longest in (rw (here.0, later.0) refl, rw (here.0, later.1) refl)
+run_is passes [] rest h longest = grind arith
+run_is passes (c ∷ front) rest h longest = grind (arith, run_is passes front rest)
 
 -- a text that begins a key, cut where its characters of a key end, is split there
 pub span_splits : {text key left : List ℕ} → begins_passing begins_key text ≡ true →
@@ -35,8 +32,7 @@ span_splits {text} {key} {left} begins span =
 scalars-skip : (cs : List ℕ) → all_scalars cs ≡ true → all_scalars (skip_leading_whitespace cs) ≡ true
 scalars-skip [] h = refl
 scalars-skip (c ∷ cs) h =
-    cond_both (is_whitespace c) _ _ (λ t. all_scalars t ≡ true)
-    (λ white. scalars-skip cs (and_parts (scalar c) (all_scalars cs) h).1) (λ other. h)
+    grind (arith, scalars-skip cs)
 
 -- a text without its leading white space has its characters without theirs
 pub chars_trimmed : (text : List ℕ) → IsUtf8 text → chars (trim_start text) ≡ skip_leading_whitespace (chars text)
@@ -52,9 +48,7 @@ chars-trim_start text trimmed u h = rw h (chars_trimmed text u)
 scalars-drop : (cs : List ℕ) → all_scalars cs ≡ true → all_scalars (drop_trailing_whitespace cs) ≡ true
 scalars-drop [] h = refl
 scalars-drop (c ∷ cs) h =
-    let parts = and_parts (scalar c) (all_scalars cs) h in
-    cond_both (is_whitespace c && length (drop_trailing_whitespace cs) == 0) _ _ (λ t. all_scalars t ≡ true)
-    (λ white. refl) (λ other. and_from _ _ parts.0 (scalars-drop cs parts.1))
+    grind (arith, scalars-drop cs)
 
 -- a text without its trailing white space has its characters without theirs
 pub chars-trim_end : (text trimmed : List ℕ) → IsUtf8 text → trimmed ≡ trim_end text →

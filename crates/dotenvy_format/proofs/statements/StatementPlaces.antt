@@ -134,7 +134,7 @@ stop {text} {key} start cut fails = record {
 -- a text that begins with `=` is that and what follows
 equals_text : (text : List ℕ) → begins_with equals_sign text ≡ true → (cs : List ℕ) × (text ≡ equals_sign ∷ cs)
 equals_text [] h = cc
-equals_text (c ∷ cs) h = (cs, (let is = eqb-true c equals_sign h in cc))
+equals_text (c ∷ cs) h = (cs, rw (eqb-true c equals_sign h))
 
 -- what is parsed of a text that begins a key is right, if it is where no `=` comes behind the key
 word_right : (start : Start) (text : List ℕ) → begins_passing begins_key text ≡ true →
@@ -153,8 +153,7 @@ word_right start text begins others =
 
 -- after a key that is no prefix, what is no `=` is a fault
 no_equals_key : (key text : List ℕ) → begins_with equals_sign text ≡ false → after_key key text ≡ Err text
-no_equals_key key [] h = refl
-no_equals_key key (c ∷ cs) h = rw h
+no_equals_key key text h = grind arith
 
 -- what is parsed behind `export` and white space is right where a key follows
 second_right : (indent gap left : List ℕ) → is_white_space indent ≡ true → is_white_space gap ≡ true →

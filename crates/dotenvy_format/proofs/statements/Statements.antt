@@ -41,8 +41,7 @@ skip_white ws cs h visible = rw (skip_is (ws ++ cs)) (run_is is_whitespace ws cs
 
 -- a text that begins with a key begins one
 key_begins : (key more : List ℕ) → is_key key ≡ true → begins_passing begins_key (key ++ more) ≡ true
-key_begins [] more h = cc
-key_begins (c ∷ key) more h = (and_parts _ _ h).0
+key_begins key more h = grind arith
 
 -- a text that is cut behind a key begins one
 cut_begins : {text key left : List ℕ} → IsCut text key left → begins_passing begins_key text ≡ true
@@ -50,8 +49,7 @@ cut_begins {key = key} {left = left} cut = rw cut.spelled (key_begins key (cut.g
 
 -- a text that begins a key does not begin with white space
 key_visible : (text : List ℕ) → begins_passing begins_key text ≡ true → not (begins_with_white_space text) ≡ true
-key_visible [] h = refl
-key_visible (c ∷ cs) h = rw (begins_key_visible c h)
+key_visible text h = grind (arith, begins_key_visible)
 
 -- white space ends a key, or else what is left does
 white_ends : (gap left : List ℕ) → is_white_space gap ≡ true → not (begins_passing continues_key left) ≡ true →
@@ -81,13 +79,11 @@ equals_cut key before more is white = record {
 -- after a first word and what is no `=`, a key may come if the word is `export`
 pub no_equals_first : (key text : List ℕ) → begins_with equals_sign text ≡ false →
     after_first_key key text ≡ cond (bytes_eq key export) (after_prefix text) (Err text)
-no_equals_first key [] h = refl
-no_equals_first key (c ∷ cs) h = rw (h, after_first_key)
+no_equals_first key text h = grind arith
 
 -- what begins a key does not begin with `=`
 key_no_equals : (text : List ℕ) → begins_passing begins_key text ≡ true → begins_with equals_sign text ≡ false
-key_no_equals [] h = refl
-key_no_equals (c ∷ cs) h = grind (arith, nat_tests, h)
+key_no_equals text h = grind (arith, nat_tests, h)
 
 -- how parsing goes on behind a key: it may itself be a prefix where none was before it
 abbrev pub after_word : {prefix : List ℕ} → IsPrefix prefix → List ℕ → List ℕ → Parsed

@@ -1,4 +1,5 @@
 -- Backslashes in a row after a backslash: each two of them mean one.
+use Rattle.std.proofs.lemmas.Str.{encode_ascii}
 use Rattle.std.proofs.Common.{◌≡◌, ℕ, zero, suc, ◌+◌, ◌-◌, ◌<◌, ◌≤◌, Bool, true, List, []}
 use Rattle.std.proofs.Common.{◌∷◌, ◌++◌, refl, arith, take, drop}
 use Rattle.std.specs.Prelude.{◌==◌}
@@ -30,19 +31,14 @@ row n = replicate n backslash
 
 -- a row of backslashes is its own UTF-8
 row_bytes : (n : ℕ) → encode_utf8_all (row n) ≡ row n
-row_bytes n = own_bytes backslash (row n) (omega arith) (all n)
-  where
-    all : (n : ℕ) → list_all is_backslash (row n) ≡ true
-    all zero = refl
-    all (suc n) = all n
+row_bytes zero = refl
+row_bytes (suc n) = rw (row_bytes n, encode_ascii backslash (omega arith)) refl
 
 -- what is taken of backslashes at the front of a text is a row of them
 taken : (n : ℕ) (text : List ℕ) → n ≤ prefix_len is_backslash text → take n text ≡ row n
 taken zero text h = refl
 taken (suc n) [] h = absurd (omega (arith, h))
-taken (suc n) (c ∷ text) h =
-    let k : (c ≡ backslash) × (n ≤ prefix_len is_backslash text) = grind (arith, nat_tests) in
-    rw (k.0, taken n text k.1)
+taken (suc n) (c ∷ text) h = grind (arith, nat_tests, taken n text)
 
 -- a text may be cut anywhere in the row of backslashes at its front
 pub row_boundary : (text : List ℕ) (i : ℕ) → IsUtf8 text → 0 < i → i ≤ prefix_len is_backslash text

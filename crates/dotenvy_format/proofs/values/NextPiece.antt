@@ -124,9 +124,7 @@ gives_name after u are e read = record {
 -- a row of one ASCII character is its own UTF-8
 pub own_bytes : (c : ℕ) (row : List ℕ) → c < 128 → list_all (λ d. d == c) row ≡ true → encode_utf8_all row ≡ row
 own_bytes c [] small h = refl
-own_bytes c (d ∷ row) small h =
-    let k : (d ≡ c) × (list_all (λ d. d == c) row ≡ true) = grind (arith, nat_tests) in
-    rw (k.0, encode_ascii c small, own_bytes c row small k.1)
+own_bytes c (d ∷ row) small h = grind (arith, nat_tests, encode_ascii c small, own_bytes c row small)
 
 -- in a value's tail, a character that is no space, tab or `#` is a fault where it is
 pub tail_stops : (dialect : Dialect) (comment : List ℕ) → not (begins_passing is_space_or_tab comment) ≡ true →

@@ -1,4 +1,5 @@
 -- Reading a value from one mode to another, character by character.
+use Rattle.std.proofs.lemmas.Bool.{and_parts}
 use Rattle.std.proofs.Common.{◌≡◌, ℕ, Bool, true, not, List, [], ◌∷◌, ◌++◌, Some, None, refl}
 use Rattle.std.proofs.Common.{arith, length-append, append_assoc}
 use Rattle.std.specs.Prelude.{◌==◌}
@@ -22,13 +23,11 @@ use Rattle.dotenvy_format.proofs.bytes.NameCharacters.{dollar_no_name, brace_no_
 
 -- pieces given before others that are given are both given, in order
 pub given-given : (xs ys : List Piece) (r : ValueReading) → given xs (given ys r) ≡ given (xs ++ ys) r
-given-given xs ys None = refl
-given-given xs ys (Some zs) = rw append_assoc
+given-given xs ys r = grind (arith, append_assoc)
 
 -- no pieces before those that are read change nothing
 given-nil : (r : ValueReading) → given [] r ≡ r
-given-nil None = refl
-given-nil (Some ps) = refl
+given-nil r = grind arith
 
 -- a character that leads to a mode is read to there, and gives the pieces of its step
 pub one : {dialect : Dialect} {m n : ValueMode} {c : ℕ} {cs : List ℕ} {pieces : List Piece} →
@@ -85,7 +84,7 @@ collected_run : {dialect : Dialect} (mode : List ℕ → ValueMode) (passes : �
     IsReadTo dialect (mode held) (front ++ rest) [] (mode (held ++ front)) rest
 collected_run {dialect = dialect} mode passes step held [] rest h = rw append-nil (none_read dialect (mode held) rest)
 collected_run mode passes step held (c ∷ front) rest h =
-    let k : (passes c ≡ true) × (list_all passes front ≡ true) = grind arith in
+    let k = and_parts (passes c) (list_all passes front) h in
     rw append_assoc at
     (read_then (one {c = c} (step held c k.0)) (collected_run mode passes step (held ++ c ∷ []) front rest k.1))
 
@@ -157,8 +156,7 @@ name_ended {name = name} h = one (grind arith)
 with_before : (ps : List Piece) (g : ValueStep) (next : ValueMode → ValueReading) (reach : ValueMode → ℕ) →
     (read_after (with_pieces ps g) next ≡ given ps (read_after g next))
     × (value_reach_after (with_pieces ps g) reach ≡ value_reach_after g reach)
-with_before ps None next reach = (refl, refl)
-with_before ps (Some (m, qs)) next reach = (rw given-given, refl)
+with_before ps g next reach = grind (arith, given-given)
 
 -- a character that leads where it leads from another mode, with pieces before, is left to that mode
 left_to : {dialect : Dialect} {m n : ValueMode} {c : ℕ} {cs : List ℕ} {ps : List Piece} →

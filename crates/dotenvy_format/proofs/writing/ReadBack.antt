@@ -103,10 +103,7 @@ begins_key_no_hash c h = grind (arith, nat_tests, h)
 
 -- a line that begins with a key is neither empty nor a comment
 key_is_something : (key more : List ℕ) → IsTrue (is_key key) → IsTrue (not (is_nothing (key ++ more)))
-key_is_something [] more h = cc
-key_is_something (c ∷ key) more h =
-    let first = (and_parts (begins_key c) (list_all continues_key key) h).0 in
-    rw (begins_key_visible c first, begins_key_no_hash c first)
+key_is_something key more h = grind (arith, begins_key_visible, begins_key_no_hash)
 
 -- a key, `=` and a text written between double quotes say the pair of the key and the text's characters
 pub written_says : (dialect : Dialect) (key text : List ℕ) → IsTrue (is_key key) →

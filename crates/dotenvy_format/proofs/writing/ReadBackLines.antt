@@ -1,4 +1,5 @@
 -- Written pairs as logical lines and entries.
+use Rattle.dotenvy_format.proofs.lines.Splitting.{not_returned}
 use Rattle.std.proofs.Common.{◌≡◌, ℕ, true, false, List, [], ◌∷◌, ◌++◌, map}
 use Rattle.std.proofs.Common.{Option, Some, Ok, refl, sym, arith, append_assoc, length}
 use Rattle.std.proofs.Common.{length-append}
@@ -44,8 +45,7 @@ are_plain : (key : List ℕ) (ts : List Token) (after : List ℕ) → list_all c
     AreTokens ts after → AreTokens (map one_character key ++ ts) after
 are_plain [] ts after h are = are
 are_plain (c ∷ key) ts after h are =
-    let p = and_parts (continues_key c) (list_all continues_key key) h in
-    (grind (arith, nat_tests), are_plain key ts after p.1 are)
+    grind (arith, nat_tests, are_plain key ts after)
 
 -- the characters of a text, each as it is written, may be between double quotes
 are_quoted : (text : List ℕ) → list_all (is_quoted double_quote) (map quoted_of text) ≡ true
@@ -73,12 +73,6 @@ pair_text key text =
     let inner = texts_of_quoted text in
     cc (append-nil (flat_map quoted_text (map quoted_of text) ++ double_quote ∷ []))
 
--- a text that ends with a double quote has no carriage return at its end to be cut off
-uncut : (xs : List ℕ) → without_carriage_return (xs ++ double_quote ∷ []) ≡ xs ++ double_quote ∷ []
-uncut [] = refl
-uncut (c ∷ []) = refl
-uncut (c ∷ d ∷ xs) = rw (uncut (d ∷ xs))
-
 -- with a key's characters in its key, a written pair is a whole logical line that keeps all but the line feed
 pair_is_whole : (key text : List ℕ) (last : Type 0) → list_all continues_key key ≡ true →
     IsWhole (written_pair (key, text)) (pair_line key text) last
@@ -92,27 +86,20 @@ pair_is_whole key text last h = record {
   spelled = rw (pair_text key text) (simp append_assoc);
   cut =
       rw (pair_text key text) (sym (simp append_assoc at
-      (uncut (key ++ (equals_sign ∷ double_quote ∷ flat_map written_character text)))));
+      (not_returned (key ++ (equals_sign ∷ double_quote ∷ flat_map written_character text)) double_quote refl)));
 }
 
 -- the physical lines of a written pair
 abbrev pair_lines : List ℕ → List ℕ → List (Option (List ℕ))
 pair_lines key text = map Some (physical_lines (written_pair (key, text)))
 
--- lines whose first begins with a key's first character begin with no comment line
-onto_not_skipped : (c : ℕ) (xss : List (List ℕ)) (lines : List (Option (List ℕ))) → begins_key c ≡ true →
-    ¬ (IsSkipped (map Some (onto_first c xss) ++ lines))
-onto_not_skipped c xss lines h skipped =
-    let visible = begins_key_visible c h in let other = begins_key_no_hash c h in grind arith
-
 -- the lines of a written pair with a key begin with no comment line, whatever lines follow
 not_skipped : (key text : List ℕ) (lines : List (Option (List ℕ))) → IsTrue (is_key key) →
     ¬ (IsSkipped (pair_lines key text ++ lines))
 not_skipped [] text lines h skipped = cc
 not_skipped (c ∷ key) text lines h skipped =
-    let first = (and_parts (begins_key c) (list_all continues_key key) h).0 in
     let goes_on : (c == 10) ≡ false = grind (arith, nat_tests) in
-    onto_not_skipped c (physical_lines (written_pair (key, text))) lines first (rw goes_on at skipped)
+    let begins = rw goes_on at skipped in grind (arith, begins_key_visible c, begins_key_no_hash c)
 
 -- the lines of a written pair with a key are the next logical line, whatever lines follow
 pair_is_next : (key text : List ℕ) (lines : List (Option (List ℕ))) → IsTrue (is_key key) →

@@ -1,4 +1,5 @@
 -- The written form of keys and texts is a text.
+use Rattle.std.proofs.lemmas.List.Folds.{list_all-append}
 use Rattle.std.proofs.Common.{◌≡◌, ℕ, true, ◌&&◌, List, [], ◌∷◌, ◌++◌, refl, arith}
 use Rattle.std.specs.List.{flat_map, list_all}
 use Rattle.std.proofs.lemmas.Bool.{and_parts}
@@ -15,29 +16,21 @@ pub keys_of : (pairs : List (List ℕ × List ℕ)) → AreWritable pairs → Ar
 keys_of [] are = tt
 keys_of ((key, text) ∷ pairs) are = ((and_parts (is_key key) (scalars text) are.0).0, keys_of pairs are.1)
 
--- two texts joined have Unicode scalar values alone where each of them does
-scalars-append : (xs ys : List ℕ) → scalars (xs ++ ys) ≡ (scalars xs && scalars ys)
-scalars-append [] ys = refl
-scalars-append (x ∷ xs) ys = rw (scalars-append xs ys) (grind arith)
-
 -- later characters of a key are Unicode scalar values
 key_scalars : (cs : List ℕ) → list_all continues_key cs ≡ true → scalars cs ≡ true
 key_scalars [] h = refl
 key_scalars (c ∷ cs) h =
-    let p = and_parts (continues_key c) (list_all continues_key cs) h in
-    let one : scalar c ≡ true = grind (arith, nat_tests) in rw one (key_scalars cs p.1)
+    grind (arith, nat_tests, key_scalars cs)
 
 -- a text of Unicode scalar values is written as such a text
 text_scalars : (text : List ℕ) → scalars text ≡ true → scalars (flat_map written_character text) ≡ true
 text_scalars [] h = refl
 text_scalars (c ∷ text) h =
-    let p = and_parts (scalar c) (scalars text) h in
-    let later = text_scalars text p.1 in
-    grind (arith, nat_tests)
+    grind (arith, nat_tests, text_scalars text)
 
 -- pairs that can be written are written as a text of Unicode scalar values
 pub written_scalars : (pairs : List (List ℕ × List ℕ)) → AreWritable pairs → scalars (written_text pairs) ≡ true
 written_scalars [] are = refl
 written_scalars ((key, text) ∷ pairs) are =
     let p = and_parts (is_key key) (scalars text) are.0 in
-    simp (scalars-append, key_scalars key (key_continues key p.0), text_scalars text p.1, written_scalars pairs are.1)
+    simp (list_all-append scalar, key_scalars key (key_continues key p.0), text_scalars text p.1, written_scalars pairs are.1)
