@@ -1,6 +1,6 @@
 -- Worked files.
-use Rattle.std.proofs.Common.{◌≡◌, ℕ, List, refl, arith, length}
-use Rattle.std.specs.List.{flat_map}
+use Rattle.dotenvy_format.proofs.lines.DecidedFront.{decided_of, decided_of-are}
+use Rattle.std.proofs.Common.{◌≡◌, ℕ, List, refl}
 use Rattle.std.specs.Str.{is_utf8, chars}
 use Rattle.unicode.proofs.DerivedComputing.{ucd_derived}
 use Rattle.unicode.proofs.CategoryComputing.{ucd_category}
@@ -12,12 +12,10 @@ use Rattle.dotenvy_format.specs.Entries.{Entry, HasEntries}
 use Rattle.dotenvy_format.specs.WorkedFiles.{HaveLines, HaveStatements, HaveValues, HaveOpenQuotes}
 use Rattle.dotenvy_format.specs.WorkedFiles.{HaveDialects, HaveMarks, HaveWritten, HaveDecisions}
 use Rattle.dotenvy_format.specs.WorkedLoads.{HaveRepeats, HaveNuls}
-use Rattle.dotenvy_format.specs.Decided.{up_to_last_line_feed, without_open_end, HasDecided}
+use Rattle.dotenvy_format.specs.Decided.{HasDecided}
 use Rattle.dotenvy_format.proofs.statements.Outcomes.{outcome_of, outcome_of-is}
 use Rattle.dotenvy_format.specs.Outcome.{Outcome, Says}
-use Rattle.dotenvy_format.proofs.lines.EntriesOnce.{cut_line_texts}
-use Rattle.dotenvy_format.proofs.lines.EntriesOnce.{lines_of, logical_entries, all_give}
-use Rattle.dotenvy_format.proofs.lines.EntriesOnce.{are_lines_of, entries_of_lines, entries_of-are}
+use Rattle.dotenvy_format.proofs.lines.EntriesOnce.{entries_of_lines, entries_of-are}
 
 -- the bytes have the entries that are computed
 computed : (dialect : Dialect) (bytes : List ℕ) (entries : List Entry) →
@@ -26,17 +24,8 @@ computed dialect bytes entries e = rw e at (entries_of-are dialect bytes)
 
 -- the bytes decide the entries that are computed of their whole lines
 decided_computed : (dialect : Dialect) (bytes : List ℕ) (entries : List Entry) →
-    (let lines = line_texts (up_to_last_line_feed bytes) in
-    flat_map (logical_entries dialect) (without_open_end (lines_of (length lines) lines)) ≡ entries) →
-    HasDecided dialect bytes entries
-decided_computed dialect bytes entries e =
-    let lines = line_texts (up_to_last_line_feed bytes) in
-    let logical = lines_of (length lines) lines in
-    record {
-      lines = logical;
-      are_lines = are_lines_of (length lines) lines (omega arith) (cut_line_texts (up_to_last_line_feed bytes));
-      give = rw e at (all_give dialect (without_open_end logical));
-    }
+    decided_of dialect bytes ≡ entries → HasDecided dialect bytes entries
+decided_computed dialect bytes entries e = rw e at (decided_of-are dialect bytes)
 
 -- the line says what is computed
 says_computed : (dialect : Dialect) (line : List ℕ) (outcome : Outcome) → outcome_of dialect line ≡ outcome →

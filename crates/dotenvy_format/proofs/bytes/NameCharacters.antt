@@ -10,25 +10,12 @@ use Rattle.dotenvy_format.specs.inside.Slices.{is_name_byte}
 use Rattle.unicode.proofs.DerivedComputing.{ucd_derived}
 use Rattle.unicode.proofs.CategoryComputing.{ucd_category}
 
--- a dollar is no name character, in either dialect
-pub dollar_no_name : (dialect : Dialect) → is_name_character dialect dollar ≡ false
+-- a dollar, a left brace, a double quote and a space are no name characters, in either dialect
+pub no_names : (dialect : Dialect) →
+    (is_name_character dialect dollar ≡ false) × (is_name_character dialect left_brace ≡ false)
+    × (is_name_character dialect double_quote ≡ false) × (is_name_character dialect space ≡ false)
 unfolding is_name_character ucd_derived ucd_category
-dollar_no_name dialect = and_right (allows_underscore dialect) false refl
-
--- a left brace is no name character, in either dialect
-pub brace_no_name : (dialect : Dialect) → is_name_character dialect left_brace ≡ false
-unfolding is_name_character ucd_derived ucd_category
-brace_no_name dialect = and_right (allows_underscore dialect) false refl
-
--- a double quote is no name character, in either dialect
-pub quote_no_name : (dialect : Dialect) → is_name_character dialect double_quote ≡ false
-unfolding is_name_character ucd_derived ucd_category
-quote_no_name dialect = and_right (allows_underscore dialect) false refl
-
--- a space is no name character, in either dialect
-pub space_no_name : (dialect : Dialect) → is_name_character dialect space ≡ false
-unfolding is_name_character ucd_derived ucd_category
-space_no_name dialect = and_right (allows_underscore dialect) false refl
+no_names dialect = let none = and_right (allows_underscore dialect) false refl in (none, none, none, none)
 
 -- of all codes below 128, those that pass as ASCII characters of a bare name are name characters
 named_below : (dialect : Dialect)

@@ -1,4 +1,5 @@
 -- Physical lines: of joined texts, and of a text's bytes.
+use Rattle.std.specs.Prelude.{◌≢◌}
 use Rattle.std.proofs.Common.{inl, inr}
 use Rattle.std.proofs.lemmas.Bool.{and_parts, cases_Bool}
 use Rattle.std.proofs.Common.{◌≡◌, ℕ, ◌<◌, Bool, true, false, ◌&&◌, not, cond, List, [], ◌∷◌}
@@ -14,37 +15,22 @@ use Rattle.std.proofs.Math.Utf8.{encode, scalar, scalars}
 use Rattle.dotenvy_format.specs.PhysicalLines.{no_line_feed, physical_lines, onto_first, line_text, line_texts}
 use Rattle.dotenvy_format.specs.LogicalLine.{joined_text, with_text_before}
 use Rattle.std.proofs.lemmas.Bool.{eqb-true}
-use Rattle.dotenvy_format.proofs.Basics.{and_left, and_right}
 
 -- where a character is no line feed and a test holds, so do both
 pub after_first : (c : ℕ) (w : Bool) → (not (c == 10) && w) ≡ true → ((c == 10) ≡ false) × (w ≡ true)
 after_first c w h = grind (arith, nat_tests)
 
--- the list of lines is not empty: it has a first line, and others
-abbrev pub IsSome : List (List ℕ) → Type 0
-IsSome xss = (xs : List ℕ) × (yss : List (List ℕ)) × (xss ≡ xs ∷ yss)
-
--- lines with a character put at the front of the first are not none
-onto_some : (c : ℕ) (xss : List (List ℕ)) → IsSome (onto_first c xss)
-onto_some c [] = (c ∷ [], [], refl)
-onto_some c (xs ∷ xss) = (c ∷ xs, xss, refl)
-
 -- a text that has a character has a physical line
-pub lines_some : (c : ℕ) (cs : List ℕ) → IsSome (physical_lines (c ∷ cs))
-lines_some c cs =
-    elim (c == 10) as (λ b. IsSome (cond b ((c ∷ []) ∷ physical_lines cs) (onto_first c (physical_lines cs)))) [
-      | true ↦ (c ∷ [], physical_lines cs, refl)
-      | false ↦ onto_some c (physical_lines cs)
-    ]
+pub lines_some : (c : ℕ) (cs : List ℕ) → physical_lines (c ∷ cs) ≢ []
+lines_some c cs e = grind arith
 
 -- a character put before lines, as a separate one or onto the first, leaves the lines after them as they are
-pub cut_step : (c : ℕ) (b : Bool) (xss yss zss : List (List ℕ)) → IsSome xss → zss ≡ xss ++ yss →
+pub cut_step : (c : ℕ) (b : Bool) (xss yss zss : List (List ℕ)) → xss ≢ [] → zss ≡ xss ++ yss →
     cond b ((c ∷ []) ∷ zss) (onto_first c zss) ≡ cond b ((c ∷ []) ∷ xss) (onto_first c xss) ++ yss
-cut_step c true xss yss zss some h = rw h refl
-cut_step c false xss yss zss (xs, others, is) h = rw (h, is) refl
+cut_step c b xss yss zss some h = grind arith
 
 -- a text that ends with a line feed has a physical line
-lines_some_end : (xs : List ℕ) → IsSome (physical_lines (xs ++ 10 ∷ []))
+lines_some_end : (xs : List ℕ) → physical_lines (xs ++ 10 ∷ []) ≢ []
 lines_some_end [] = lines_some 10 []
 lines_some_end (c ∷ xs) = lines_some c (xs ++ 10 ∷ [])
 

@@ -142,18 +142,25 @@ pub front_is : (bytes : List ℕ) → IsCutFront bytes (up_to_last_line_feed byt
 front_is [] = record { after = []; joins = refl; ends = λ more. refl }
 front_is (c ∷ cs) = front_at c cs (up_to_last_line_feed cs) (c == line_feed) refl (front_is cs)
 
+-- the entries that bytes decide, computed
+abbrev pub decided_of : (dialect : Dialect) → List ℕ → List Entry
+decided_of dialect bytes =
+    let lines = line_texts (up_to_last_line_feed bytes) in
+    flat_map (logical_entries dialect) (without_open_end (lines_of (length lines) lines))
+
+-- bytes decide the entries that are computed
+pub decided_of-are : (dialect : Dialect) (bytes : List ℕ) → HasDecided dialect bytes (decided_of dialect bytes)
+decided_of-are dialect bytes =
+    let lines = line_texts (up_to_last_line_feed bytes) in
+    let os = lines_of (length lines) lines in record {
+      lines = os;
+      are_lines = are_lines_of (length lines) lines (omega arith) (cut_line_texts (up_to_last_line_feed bytes));
+      give = all_give dialect (without_open_end os);
+    }
+
 -- in each dialect bytes have a list of entries that they decide
 pub decided_exist : (dialect : Dialect) (bytes : List ℕ) → (es : List Entry) × HasDecided dialect bytes es
-decided_exist dialect bytes =
-    let lines = line_texts (up_to_last_line_feed bytes) in
-    let os = lines_of (length lines) lines in (
-      flat_map (logical_entries dialect) (without_open_end os),
-      record {
-        lines = os;
-        are_lines = are_lines_of (length lines) lines (omega arith) (cut_line_texts (up_to_last_line_feed bytes));
-        give = all_give dialect (without_open_end os);
-      },
-    )
+decided_exist dialect bytes = (decided_of dialect bytes, decided_of-are dialect bytes)
 
 -- two lists of entries that the same bytes decide are the same
 pub decided_once : (dialect : Dialect) (bytes : List ℕ) (es fs : List Entry) → HasDecided dialect bytes es →

@@ -4,7 +4,7 @@ use Rattle.std.proofs.Common.{inl, inr}
 use Rattle.std.proofs.lemmas.Bool.Decides.{nat_tests}
 use Rattle.std.proofs.lemmas.Bool.{cases_Bool}
 use Rattle.std.proofs.Common.{◌≡◌, ℕ, zero, suc, ◌≤◌, ◌<◌, Bool, true, false, List, []}
-use Rattle.std.proofs.Common.{◌∷◌, ◌++◌, map, Some, None, refl, sym, ◌∙◌, ap, arith}
+use Rattle.std.proofs.Common.{◌∷◌, ◌++◌, map, Some, refl, sym, ◌∙◌, ap, arith}
 use Rattle.std.proofs.Common.{length, length-drop, drop, cond, Ok}
 use Rattle.std.specs.Prelude.{◌≢◌, ◌==◌, encode_utf8_all}
 use Rattle.std.specs.List.{flat_map, concat}
@@ -21,7 +21,7 @@ use Rattle.dotenvy_format.specs.Entries.{Entry, Fails, LineParse, Io, AreLogical
 use Rattle.dotenvy_format.specs.Entries.{outcome_entries, Gives, GiveAll, HasEntries}
 use Rattle.dotenvy_format.specs.Items.{LookUp, items}
 use Rattle.dotenvy_format.specs.Written.{written_text, AreWritable}
-use Rattle.dotenvy_format.proofs.lines.Cuts.{after_first, encode_some, encode_none, lines-encodes, concat-lines}
+use Rattle.dotenvy_format.proofs.lines.Cuts.{encode_some, encode_none, lines-encodes, concat-lines}
 pub use Rattle.dotenvy_format.proofs.lines.Cuts.{ten}
 use Rattle.dotenvy_format.proofs.lines.NextLine.{one_next, some_lines, cut_rest, last_line, ends_line}
 use Rattle.dotenvy_format.proofs.lines.NextLine.{ends_line-append, whole_ends, Lines}

@@ -2,14 +2,14 @@
 use Rattle.std.proofs.lemmas.List.{nil_from_length}
 use Rattle.std.proofs.lemmas.Bool.{false_from_ne_true}
 use Rattle.std.proofs.lemmas.Bool.Decides.{nat_tests}
-use Rattle.std.proofs.Common.{◌≡◌, ℕ, zero, suc, ◌≤◌, ◌<◌, Bool, true, false, ◌||◌, not, cond, List}
+use Rattle.std.proofs.Common.{◌≡◌, ℕ, zero, suc, ◌≤◌, ◌<◌, Bool, true, false, ◌||◌, not, List}
 use Rattle.std.proofs.Common.{[], ◌∷◌, ◌++◌, map, Option, Some, None, refl, sym, ◌∙◌, ap, arith}
 use Rattle.std.proofs.Common.{append_assoc, length, take, inl, inr, ⊎_elim}
 use Rattle.std.specs.Prelude.{◌==◌, ◌⊎◌, ◌≢◌}
 use Rattle.std.specs.List.{flat_map, concat}
 use Rattle.std.proofs.lemmas.List.{append-nil, length-append, take_all}
 use Rattle.dotenvy_format.specs.Characters.{line_feed, hash, is_blank, is_quote, byte_len}
-use Rattle.dotenvy_format.specs.PhysicalLines.{physical_lines, onto_first, AreCut, is_whole_line, is_last_line}
+use Rattle.dotenvy_format.specs.PhysicalLines.{physical_lines, AreCut, is_whole_line, is_last_line}
 use Rattle.dotenvy_format.specs.Tokens.{Token, one_character, backslash_pair, quoted, blank_pair, blank}
 use Rattle.dotenvy_format.specs.Tokens.{quoted_text, token_text, tokens_text, stands_for_itself, IsToken, AreTokens}
 use Rattle.dotenvy_format.specs.LogicalLine.{Ending, line_end, escaped_line_end, comment, input_end}
@@ -20,10 +20,8 @@ use Rattle.dotenvy_format.specs.declared.walk.LineMode.{LineMode}
 use Rattle.dotenvy_format.specs.declared.walk.LineMode.TheVariants.{Outside}
 use Rattle.dotenvy_format.specs.inside.Walk.{going, ended, walk}
 use Rattle.std.proofs.lemmas.Bool.{eqb-true}
-use Rattle.dotenvy_format.proofs.lines.Cuts.{after_first}
 use Rattle.dotenvy_format.proofs.lines.Splitting.{IsGoing, onward, walk-append, tokens_going, whole_walks}
 use Rattle.dotenvy_format.proofs.lines.Splitting.{outside_tokens, going_start, going_more}
-use Rattle.dotenvy_format.specs.declared.walk.LineMode.TheVariants.{Escaping, Inside, InsideEscaping, AfterBlank}
 use Rattle.dotenvy_format.specs.inside.Walk.{Walk}
 use Rattle.std.proofs.lemmas.List.{length-map}
 

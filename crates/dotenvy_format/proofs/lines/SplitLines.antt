@@ -2,7 +2,7 @@
 -- Such a loop keeps: the lines are texts `taken` and those that are left, and `IsGoing` holds of the texts joined.
 use Rattle.std.proofs.Common.{◌≡◌, ℕ, suc, ◌+◌, Bool, true, false, List, [], ◌∷◌, ◌++◌}
 use Rattle.std.proofs.Common.{map, Some, None, refl, sym, ◌∙◌, ap, arith, add-one, zero-add}
-use Rattle.std.proofs.Common.{subst, length, length-append, drop, take, inl, inr, ⊎_elim}
+use Rattle.std.proofs.Common.{length, length-append, take, ⊎_elim}
 use Rattle.std.specs.Prelude.{◌≢◌, ◌⊎◌}
 use Rattle.std.specs.List.{concat}
 use Rattle.std.specs.Str.{skip_leading_whitespace}
@@ -18,7 +18,7 @@ use Rattle.dotenvy_format.specs.LogicalLine.{Broken, IsNext}
 use Rattle.dotenvy_format.specs.declared.walk.LineMode.{LineMode}
 use Rattle.dotenvy_format.specs.declared.walk.LineMode.TheVariants.{Outside}
 use Rattle.dotenvy_format.specs.inside.Walk.{going, ended, walk}
-use Rattle.dotenvy_format.proofs.lines.Cuts.{after_first, joined-texts}
+use Rattle.dotenvy_format.proofs.lines.Cuts.{joined-texts}
 use Rattle.dotenvy_format.proofs.lines.Splitting.{IsGoing, going_start, IsWalked, walk-is}
 use Rattle.dotenvy_format.proofs.lines.Splitting.{outside_tokens}
 use Rattle.dotenvy_format.proofs.lines.NextLine.{Lines, whole_last, cut_after, at_input_end, mode_ends, one_more}

@@ -6,11 +6,10 @@ use Rattle.std.specs.Option.{option_or}
 use Rattle.std.specs.Cmp.Lexicographic.{same_text}
 use Rattle.std.proofs.Common.{inl, inr}
 use Rattle.std.proofs.lemmas.Bool.{cases_Bool}
-use Rattle.dotenvy_format.specs.Value.{Piece}
 use Rattle.dotenvy_format.specs.Entries.{Entry, Declares, Fails}
 use Rattle.dotenvy_format.specs.Items.{LookUp, meaning, or_else, first_value, with_value}
-use Rattle.dotenvy_format.specs.Run.{Mode, Loaded, Keep, Replace, sets, after_declaration, run, has_nul}
-use Rattle.dotenvy_format.specs.Loads.{Declared, declared_from, load_look_up, override_look_up}
+use Rattle.dotenvy_format.specs.Run.{Mode, Keep, Replace, sets, after_declaration, run, has_nul}
+use Rattle.dotenvy_format.specs.Loads.{declared_from, load_look_up, override_look_up}
 use Rattle.dotenvy_format.specs.Loads.{is_first_of_absent, load_result, override_result, last_value}
 use Rattle.dotenvy_format.specs.Loads.{SameLoad}
 use Rattle.dotenvy_format.proofs.loads.LoadRuns.{meaning-text, run-same, run-forgets, same-then}

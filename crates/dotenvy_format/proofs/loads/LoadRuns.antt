@@ -6,7 +6,7 @@ use Rattle.std.specs.Option.{option_or}
 use Rattle.std.specs.Cmp.Lexicographic.{same_text}
 use Rattle.std.proofs.lemmas.Bool.{cases_Bool, false_from_ne_true}
 use Rattle.std.proofs.lemmas.Slice.Eq.{bytes_eq-Decides}
-use Rattle.dotenvy_format.specs.Value.{Piece, Text, Name, LastBackslash}
+use Rattle.dotenvy_format.specs.Value.{Piece}
 use Rattle.dotenvy_format.specs.Outcome.{Outcome, Nothing, Pair, Fault}
 use Rattle.dotenvy_format.specs.Entries.{Failure, Entry, Declares, Fails, Nul, outcome_entries}
 use Rattle.dotenvy_format.specs.Items.{LookUp, meaning, or_else, with_value, text_of}

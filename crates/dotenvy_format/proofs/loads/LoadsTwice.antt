@@ -4,7 +4,7 @@ use Rattle.std.proofs.Common.{Result, Ok, refl, sym, ◌∙◌, inl, inr, arith}
 use Rattle.std.specs.Prelude.{◌⊎◌, is_none, bytes_eq}
 use Rattle.std.specs.Cmp.Lexicographic.{same_text}
 use Rattle.std.proofs.lemmas.Bool.{cases_Bool, false_from_ne_true}
-use Rattle.dotenvy_format.specs.Value.{Piece, Text, Name, LastBackslash}
+use Rattle.dotenvy_format.specs.Value.{Piece}
 use Rattle.dotenvy_format.specs.Entries.{Failure, Entry, Declares, Fails}
 use Rattle.dotenvy_format.specs.Items.{LookUp, no_values, meaning, or_else, with_value, items_from, items}
 use Rattle.dotenvy_format.specs.Run.{Keep, Replace, after_declaration, run, has_nul}

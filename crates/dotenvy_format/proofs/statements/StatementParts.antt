@@ -1,16 +1,14 @@
 -- What the slices of a line are to the parser of statements over its characters.
-use Rattle.std.proofs.Common.{◌≡◌, ℕ, Bool, true, length, not, ◌&&◌, List, [], ◌∷◌, ◌++◌, refl, sym, ap, ◌∙◌, arith}
-use Rattle.std.specs.Char.{is_whitespace}
-use Rattle.std.specs.Prelude.{◌==◌, bytes_eq, Ok}
+use Rattle.std.proofs.Common.{◌≡◌, ℕ, Bool, true, not, List, [], ◌∷◌, ◌++◌, refl, sym, ap, ◌∙◌, arith}
+use Rattle.std.specs.Prelude.{bytes_eq, Ok}
 use Rattle.std.specs.List.{list_all}
 use Rattle.std.specs.Str.{chars, IsUtf8, trim_start, trim_end, skip_leading_whitespace}
 use Rattle.std.specs.Str.{drop_trailing_whitespace, encode_utf8_all, all_scalars}
 use Rattle.std.proofs.lemmas.Str.{chars-encodes, scalars-chars, encodes-chars}
-use Rattle.std.proofs.lemmas.Bool.{and_parts, and_from, cond_both, not-true}
 use Rattle.std.proofs.lemmas.Bool.Decides.{same_from_decides, Decides-like}
 use Rattle.std.proofs.lemmas.Slice.Eq.{bytes_eq-Decides}
 use Rattle.dotenvy_format.specs.Characters.{begins_key, continues_key, begins_passing}
-use lib.Utf8.{scalar, encode}
+use lib.Utf8.{encode}
 use Rattle.dotenvy_format.specs.inside.Slices.{IsSpan}
 use Rattle.dotenvy_format.proofs.bytes.Slices.{no_characters}
 use Rattle.dotenvy_format.specs.inside.ParseStatement.{export, passing_front, after_passing, split_key}

@@ -1,9 +1,9 @@
 -- Backslashes in a row after a backslash: each two of them mean one.
 use Rattle.std.proofs.lemmas.Str.{encode_ascii}
-use Rattle.std.proofs.Common.{◌≡◌, ℕ, zero, suc, ◌+◌, ◌-◌, ◌<◌, ◌≤◌, Bool, true, List, []}
+use Rattle.std.proofs.Common.{◌≡◌, ℕ, zero, suc, ◌+◌, ◌-◌, ◌<◌, ◌≤◌, Bool, List, []}
 use Rattle.std.proofs.Common.{◌∷◌, ◌++◌, refl, arith, take, drop}
 use Rattle.std.specs.Prelude.{◌==◌}
-use Rattle.std.specs.List.{list_all, prefix_len}
+use Rattle.std.specs.List.{prefix_len}
 use denote.Ref.{Bor}
 use Rattle.std.proofs.Math.ListN.{replicate}
 use Rattle.std.specs.Str.{chars, encode_utf8_all, IsUtf8, IsCharBoundary}
@@ -19,7 +19,7 @@ use Rattle.dotenvy_format.specs.Characters.{backslash}
 use Rattle.dotenvy_format.specs.inside.ReadValue.{base, escaping}
 use Rattle.dotenvy_format.specs.inside.NextPiece.{IsReadTo, GivesPiece}
 use Rattle.dotenvy_format.proofs.values.Readings.{read_then, escape_begun, escape_read, each_text}
-use Rattle.dotenvy_format.proofs.values.NextPiece.{own_bytes, gives_texts}
+use Rattle.dotenvy_format.proofs.values.NextPiece.{gives_texts}
 
 -- the character is a backslash
 abbrev is_backslash : ℕ → Bool

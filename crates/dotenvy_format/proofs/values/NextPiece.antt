@@ -22,7 +22,7 @@ use Rattle.dotenvy_format.specs.declared.value.NextPiece.TheVariants.{Piece as G
 use Rattle.dotenvy_format.specs.Characters.{double_quote, left_brace, is_space_or_tab, is_name_character}
 use Rattle.dotenvy_format.specs.Characters.{is_empty_or_comment, begins_with, begins_passing}
 use Rattle.dotenvy_format.specs.inside.Slices.{BeginsWith, IsSpan}
-use Rattle.dotenvy_format.specs.Value.{Piece, Text, Name}
+use Rattle.dotenvy_format.specs.Value.{Text, Name}
 use Rattle.dotenvy_format.specs.Value.{is_plain, is_left_by_name, ends_name}
 use Rattle.dotenvy_format.specs.Items.{LookUp, meaning}
 use Rattle.dotenvy_format.specs.inside.ReadValue.{ValueMode, base, escaping, in_single, naming, in_tail}
@@ -31,16 +31,6 @@ use Rattle.dotenvy_format.specs.inside.NextPiece.{other_quoting, is_empty, kind_
 use Rattle.dotenvy_format.specs.inside.NextPiece.{GivesPiece, StopsAt, NextPieceIs, IsShorter, without_texts}
 pub use Rattle.dotenvy_format.proofs.values.Readings.{none_read}
 use Rattle.dotenvy_format.proofs.values.Readings.{one, stop, read_then, stop_then, each_text}
-
--- what is read to one mode, and then on to another, is read to that one, and gives the pieces of both
-pub read_further : (dialect : Dialect) (m n k : ValueMode) (text left rest : List ℕ) (p q : List Piece) →
-    IsReadTo dialect m text p n left → IsReadTo dialect n left q k rest → IsReadTo dialect m text (p ++ q) k rest
-read_further dialect m n k text left rest p q a b = read_then a b
-
--- where reading stops after what was read, it stops there from the start
-pub stop_after : (dialect : Dialect) (m n : ValueMode) (text left rest : List ℕ) (p : List Piece) →
-    IsReadTo dialect m text p n left → StopsAt dialect n left rest → StopsAt dialect m text rest
-stop_after dialect m n text left rest p a b = stop_then a b
 
 -- after characters that complete no piece, what comes next is what comes next from before them
 pub next_after : {dialect : Dialect} {m n : ValueMode} {text left : List ℕ} (result : NextPiece) →

@@ -19,7 +19,7 @@ use Rattle.dotenvy_format.specs.inside.ReadValue.{value_goes, value_at_end, read
 use Rattle.dotenvy_format.specs.inside.ReadValue.{value_reach_after, value_reach}
 use Rattle.dotenvy_format.specs.inside.NextPiece.{IsReadTo, StopsAt}
 use Rattle.std.proofs.lemmas.Bool.{eqb-true}
-use Rattle.dotenvy_format.proofs.bytes.NameCharacters.{dollar_no_name, brace_no_name, quote_no_name}
+use Rattle.dotenvy_format.proofs.bytes.NameCharacters.{no_names}
 
 -- pieces given before others that are given are both given, in order
 pub given-given : (xs ys : List Piece) (r : ValueReading) → given xs (given ys r) ≡ given (xs ++ ys) r
@@ -106,7 +106,7 @@ name_begun {q = q} = one (grind arith)
 -- after a dollar, a left brace begins a braced name
 pub brace_begun : {dialect : Dialect} {q : Quoting} {cs : List ℕ} →
     IsReadTo dialect (naming q []) (left_brace ∷ cs) [] (bracing q []) cs
-brace_begun {dialect = dialect} {q = q} = one (grind (arith, brace_no_name dialect))
+brace_begun {dialect = dialect} {q = q} = one (grind (arith, no_names dialect))
 
 -- after a backslash, an escape gives what it means, and a part may begin after it
 pub escape_read : {dialect : Dialect} {q : Quoting} {c : ℕ} {cs : List ℕ} → is_escape c ≡ true →
@@ -173,7 +173,7 @@ name_left {dialect = dialect} {q = q} {name = name} (c ∷ cs) h = left_to (left
   where
     left_goes : is_left_by_name dialect q c ≡ true →
         value_goes dialect (naming q name) c ≡ with_pieces (Name name [] ∷ []) (value_goes dialect (base q) c)
-    left_goes k = grind (arith, nat_tests, dollar_no_name dialect, quote_no_name dialect)
+    left_goes k = grind (arith, nat_tests, no_names dialect)
 
 -- a comment is read to the end of the value and gives nothing
 in_comment_read : (dialect : Dialect) (cs : List ℕ) → read_value dialect cs in_comment ≡ Some []

@@ -9,7 +9,7 @@ use Rattle.dotenvy_format.specs.Characters.{single_quote, double_quote, right_br
 use Rattle.dotenvy_format.specs.declared.text.Quoting.TheVariants.{Unquoted, DoubleQuoted}
 use Rattle.dotenvy_format.specs.Value.{Piece, Text, Name, LastBackslash}
 use Rattle.dotenvy_format.specs.Value.{ends_name, IsValue}
-use Rattle.dotenvy_format.proofs.bytes.NameCharacters.{space_no_name}
+use Rattle.dotenvy_format.proofs.bytes.NameCharacters.{no_names}
 use Rattle.dotenvy_format.specs.Places.{BeginsValue, IsPlace}
 use Rattle.dotenvy_format.proofs.values.Readings.{name_ended}
 use Rattle.dotenvy_format.proofs.values.Values.{read-value, value-read}
@@ -31,7 +31,7 @@ CompletesByText dialect text m =
 
 -- a space ends each bare name, and means itself
 space_ends : (dialect : Dialect) (name : List ℕ) → ends_name dialect DoubleQuoted name 32 ≡ true
-space_ends dialect name = grind (arith, space_no_name dialect)
+space_ends dialect name = grind (arith, no_names dialect)
 
 -- from each mode the empty text can be completed
 completes_by_text : (dialect : Dialect) (m : ValueMode) → CompletesByText dialect [] m

@@ -2,16 +2,16 @@
 use Rattle.std.proofs.Common.{◌≡◌, ℕ, true, false, not, List, [], ◌∷◌, ◌++◌}
 use Rattle.std.proofs.Common.{map, refl, sym, arith, append_assoc, inl, inr}
 use Rattle.std.specs.Prelude.{IsTrue, if◌then◌else◌, ◌==◌}
-use Rattle.std.specs.List.{flat_map, list_all}
+use Rattle.std.specs.List.{flat_map}
 use Rattle.std.specs.Str.{drop_trailing_whitespace}
 use Rattle.std.proofs.lemmas.List.{append-nil}
 use Rattle.std.specs.Char.{is_whitespace}
-use Rattle.std.proofs.lemmas.Bool.{and_parts, cond_both}
+use Rattle.std.proofs.lemmas.Bool.{cond_both}
 use Rattle.std.proofs.lemmas.Bool.Decides.{nat_tests}
 use Rattle.std.proofs.Common.{length-append}
 use Rattle.dotenvy_format.specs.declared.text.Quoting.TheVariants.{DoubleQuoted}
 use Rattle.dotenvy_format.specs.declared.dialect.Dialect.{Dialect}
-use Rattle.dotenvy_format.specs.Characters.{double_quote, equals_sign, begins_key, continues_key}
+use Rattle.dotenvy_format.specs.Characters.{double_quote, equals_sign, begins_key}
 use Rattle.dotenvy_format.specs.Value.{Piece, Text, Part, plain, escape, double}
 use Rattle.dotenvy_format.specs.Value.{no_close, parts_text, part_pieces}
 use Rattle.dotenvy_format.specs.Value.{IsPart, AreParts, IsValue}

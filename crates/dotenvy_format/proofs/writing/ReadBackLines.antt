@@ -6,18 +6,17 @@ use Rattle.std.proofs.Common.{length-append}
 use Rattle.std.specs.Prelude.{IsTrue, if◌then◌else◌, ◌==◌, ◌≢◌, encode_utf8_all}
 use Rattle.std.specs.List.{flat_map, list_all}
 use Rattle.std.proofs.lemmas.List.{append-nil, map-append}
-use Rattle.std.proofs.lemmas.Bool.{and_parts}
 use Rattle.std.proofs.lemmas.Bool.Decides.{nat_tests}
 use Rattle.std.proofs.Math.Seq.{take-append_seam, drop-append_seam}
 use Rattle.std.proofs.Math.Utf8.{scalars}
 use Rattle.dotenvy_format.specs.declared.dialect.Dialect.{Dialect}
 use Rattle.dotenvy_format.specs.Characters.{double_quote, equals_sign, line_feed}
-use Rattle.dotenvy_format.specs.Characters.{begins_key, continues_key}
-use Rattle.dotenvy_format.specs.PhysicalLines.{physical_lines, onto_first}
+use Rattle.dotenvy_format.specs.Characters.{continues_key}
+use Rattle.dotenvy_format.specs.PhysicalLines.{physical_lines}
 use Rattle.dotenvy_format.specs.Tokens.{QuotedCharacter, one, pair, Token, one_character, quoted}
 use Rattle.dotenvy_format.specs.Tokens.{tokens_text, quoted_text, is_quoted}
 use Rattle.dotenvy_format.specs.Tokens.{AreTokens}
-use Rattle.dotenvy_format.specs.LogicalLine.{line_end, IsWhole, without_carriage_return}
+use Rattle.dotenvy_format.specs.LogicalLine.{line_end, IsWhole}
 use Rattle.dotenvy_format.specs.LogicalLine.{IsSkipped, IsNext, Logical, HasText}
 use Rattle.dotenvy_format.specs.Keys.{is_key}
 use Rattle.dotenvy_format.specs.Outcome.{Pair}
@@ -137,10 +136,7 @@ written_lines key text pairs =
 not_empty : (key text : List ℕ) (lines : List (Option (List ℕ))) → IsTrue (is_key key) →
     pair_lines key text ++ lines ≢ []
 not_empty [] text lines h e = cc
-not_empty (c ∷ key) text lines h e =
-    let is = (lines_some c (written_pair (key, text))).2 in
-    let none = rw is at e in
-    cc
+not_empty (c ∷ key) text lines h e = grind (arith, lines_some c (written_pair (key, text)))
 
 -- the physical lines of written pairs with keys make one logical line for each pair
 are_logical : (pairs : List (List ℕ × List ℕ)) → AreKeys pairs →

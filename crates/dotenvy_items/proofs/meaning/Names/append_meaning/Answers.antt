@@ -3,7 +3,7 @@ use Rattle.std.specs.Prelude.{string_len}
 use Rattle.std.specs.String.{string_capacity}
 use Rattle.std.proofs.lemmas.List.{append-nil}
 use Rattle.dotenvy_items.specs.Meaning.{look_up_of}
-use Rattle.dotenvy_format.proofs.values.NextPiece.{none_read, read_further}
+use Rattle.dotenvy_format.proofs.values.Readings.{none_read, read_then}
 use Rattle.dotenvy_items.proofs.Meanings.{room_for, one_more}
 use Rattle.dotenvy_items.proofs.meaning.Names.append_meaning.Goals as goal
 
@@ -40,7 +40,7 @@ loop-given-preserved g c =
       pushed.known,
       (
         i.0 ++ next.pieces,
-        read_further _ _ _ _ _ _ _ _ _ i.1 next.is_read,
+        read_then i.1 next.is_read,
         rw (pushed.bytes, i.2, next.means look_up, one_more look_up i.0 next.pieces, append_assoc),
         (let k = pushed.capacity in omega (arith, k, i.3)),
       ),

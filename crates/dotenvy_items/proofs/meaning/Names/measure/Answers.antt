@@ -1,7 +1,7 @@
 use Rattle.std.proofs.Common.{[], ◌++◌, refl}
 use Rattle.std.proofs.lemmas.Str.{chars-nil}
 use Rattle.dotenvy_items.specs.Meaning.{look_up_of}
-use Rattle.dotenvy_format.proofs.values.NextPiece.{none_read, read_further, stop_after}
+use Rattle.dotenvy_format.proofs.values.Readings.{none_read, read_then, stop_then}
 use Rattle.dotenvy_items.proofs.Meanings.{one_more, counted, whole_on, all_read}
 use Rattle.dotenvy_items.proofs.meaning.Names.measure.Goals as goal
 
@@ -19,12 +19,12 @@ step-step-requires g c = c.loop-given.invariant.1.4
 pub returns-in-Unfinished : goal.returns-in-Unfinished
 returns-in-Unfinished g c =
     let i = c.loop-given.invariant.1 in
-    rw chars-nil (stop_after _ _ _ _ _ _ _ i.1 c.in-Unfinished.ensures.next)
+    rw chars-nil (stop_then i.1 c.in-Unfinished.ensures.next)
 
 pub returns-in-Fault : goal.returns-in-Fault
 returns-in-Fault g c =
     let i = c.loop-given.invariant.1 in
-    stop_after _ _ _ _ _ _ _ i.1 c.in-Fault.ensures.next
+    stop_then i.1 c.in-Fault.ensures.next
 
 pub loop-given-preserved : goal.loop-given-preserved
 loop-given-preserved g c =
@@ -36,7 +36,7 @@ loop-given-preserved g c =
       next.follows,
       (
         i.0 ++ next.pieces,
-        read_further _ _ _ _ _ _ _ _ _ i.1 next.is_read,
+        read_then i.1 next.is_read,
         rw c.saturating_add-len.ensures more,
         rw (one_more look_up i.0 next.pieces, ← next.means look_up) whole,
         c.step-step.ensures.known,
