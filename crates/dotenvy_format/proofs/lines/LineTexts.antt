@@ -1,4 +1,5 @@
 -- Texts as bytes and as characters: a carriage return at the end, a hash at the front, and a walk over the characters.
+use Rattle.dotenvy_format.proofs.lines.Splitting.{walk-append}
 use Rattle.std.proofs.Common.{◌≡◌, ◌≢◌, ℕ, ◌-◌, ◌<◌, Bool, true, List, [], ◌∷◌, ◌++◌}
 use Rattle.std.proofs.Common.{length, take, get_or, refl, sym, ◌∙◌, ap, append_assoc, arith}
 use Rattle.std.proofs.Common.{length-append, Some, None}
@@ -107,9 +108,7 @@ kept_elsewhere c xs h = rw (ne_eqb c line_feed h)
 -- a walk goes on after what was walked
 pub walk-more : (m n : LineMode) (seen xs ys : List ℕ) → walk m seen xs ≡ going n →
     walk m seen (xs ++ ys) ≡ walk n (seen ++ xs) ys
-walk-more m n seen [] ys h = let same : m ≡ n = cc in rw (same, append-nil)
-walk-more m n seen (x ∷ xs) ys h =
-    let later = λ (k : LineMode). simp append_assoc at (walk-more k n (seen ++ x ∷ []) xs ys) in grind arith
+walk-more m n seen xs ys h = walk-append m seen xs ys ∙ rw h refl
 
 -- a walk over characters that leave the mode as it is goes on in that mode
 stays_all : (m : LineMode) (passes : ℕ → Bool) → ((c : ℕ) → passes c ≡ true → leads m c ≡ Some m) → (seen cs : List ℕ) →

@@ -182,13 +182,8 @@ pass_texts : (m : LineMode) (seen : HasText') (ts : List HasText') (lines : Line
     (next_from m seen (map Some ts ++ lines)).1 ≡ (next_from n (seen ++ concat ts) lines).1
 pass_texts m seen [] lines n e = let k : m ≡ n = cc in rw (k, append-nil) refl
 pass_texts m seen (t ∷ ts) lines n e =
-    (elim (walk m seen t) as (λ w.
-    onward w (λ p. walk p (seen ++ t) (concat ts)) ≡ going n →
-    (after_walk w (λ p. next_from p (seen ++ t) (map Some ts ++ lines))).1
-    ≡ (next_from n (seen ++ (t ++ concat ts)) lines).1) [
-      | going p ↦ λ h. rw append_assoc at (pass_texts p (seen ++ t) ts lines n h)
-      | ended k ↦ λ h. cc
-    ]) (sym (walk-append m seen t (concat ts)) ∙ e)
+    let walks = sym (walk-append m seen t (concat ts)) ∙ e in
+    let later = λ (p : LineMode). simp append_assoc at (pass_texts p (seen ++ t) ts lines n) in grind arith
 
 -- where the loop ends in a line of a whole logical line, that is its last line, and the same text is kept
 text_ends : (seen t : HasText') (ts : List HasText') (later : Lines) {kept k : HasText'} {last : Type 0} →

@@ -1,5 +1,6 @@
 -- The next logical line, from what a loop over physical lines has read: a theorem for each way out of the loop.
 -- Such a loop keeps: the lines are texts `taken` and those that are left, and `IsGoing` holds of the texts joined.
+use Rattle.std.proofs.lemmas.List.{take_at}
 use Rattle.std.proofs.Common.{◌≡◌, ℕ, suc, ◌+◌, Bool, true, false, List, [], ◌∷◌, ◌++◌}
 use Rattle.std.proofs.Common.{map, Some, None, refl, sym, ◌∙◌, ap, arith, add-one, zero-add}
 use Rattle.std.proofs.Common.{length, length-append, take, ⊎_elim}
@@ -35,12 +36,6 @@ line_is_one front t [] cut = one_of_last t (cut_after front (Some t ∷ []) cut)
 line_is_one front t (l ∷ lines) cut =
     let h = cut_after front (Some t ∷ l ∷ lines) cut in one_of_last t (whole_last t h.0)
 
--- the first physical lines, as many as texts were taken, are these texts joined
-taken_is_joined : (taken : List (List ℕ)) (lines : Lines) →
-    joined_text (take (length taken) (map Some taken ++ lines)) ≡ Some (concat taken)
-taken_is_joined [] lines = refl
-taken_is_joined (t ∷ taken) lines = ap (with_text_before t) (taken_is_joined taken lines)
-
 -- the broken line after the texts taken is the first broken one, and its number is one more than theirs
 broken_at : (taken : List (List ℕ)) (lines : Lines) →
     IsFirstBroken (suc (length taken)) (map Some taken ++ None ∷ lines)
@@ -61,7 +56,7 @@ next-text taken lines kept shown whole = (
   record {
     text = concat taken;
     within = omega (arith, length-append (map Some taken) lines, length-map taken Some);
-    joins = taken_is_joined taken lines;
+    joins = rw (take_at (map Some taken) lines (length taken) (length-map taken Some)) (joined-texts taken);
     whole = whole;
   },
 )

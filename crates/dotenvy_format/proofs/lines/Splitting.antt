@@ -1,4 +1,5 @@
 -- The splitter's machine reads the tokens of a logical line, and ends where the logical line does.
+use Rattle.std.proofs.lemmas.Bool.{and_parts}
 use Rattle.dotenvy_format.specs.Characters.{carriage_return}
 use Rattle.std.proofs.Common.{false}
 use Rattle.std.proofs.Common.{◌≡◌, ℕ, true, ◌||◌, not, List, [], ◌∷◌, ◌++◌, Option}
@@ -32,12 +33,7 @@ pub walk-append : (m : LineMode) (seen xs ys : List ℕ) →
     walk m seen (xs ++ ys) ≡ onward (walk m seen xs) (λ n. walk n (seen ++ xs) ys)
 walk-append m seen [] ys = rw append-nil refl
 walk-append m seen (x ∷ xs) ys =
-    elim (leads m x) as (λ o.
-    walked o x seen (λ n. walk n (seen ++ x ∷ []) (xs ++ ys))
-    ≡ onward (walked o x seen (λ n. walk n (seen ++ x ∷ []) xs)) (λ n. walk n (seen ++ x ∷ xs) ys)) [
-      | None ↦ refl
-      | Some n ↦ rw append_assoc at (walk-append n (seen ++ x ∷ []) xs ys)
-    ]
+    let later = λ (n : LineMode). simp append_assoc at (walk-append n (seen ++ x ∷ []) xs ys) in grind arith
 
 -- no logical line ends in the text, and reading it leads to the mode
 abbrev pub IsGoing : List ℕ → LineMode → Type 0
@@ -158,13 +154,11 @@ not_returned (x ∷ y ∷ xs) c h = ap (◌∷◌ x) (not_returned (y ∷ xs) c 
 
 -- nothing follows a line feed in a line
 nothing_after : (c : ℕ) (rest : List ℕ) → c ≡ line_feed → IsOneLine (c ∷ rest) → rest ≡ []
-nothing_after c [] h is_one = refl
-nothing_after c (d ∷ rest) h is_one = let e : false ≡ true = rw h at is_one.0 in cc
+nothing_after c rest h is_one = grind (arith, nat_tests)
 
 -- one line without its first character is one line
 one_line_after : (c : ℕ) (rest : List ℕ) → IsOneLine (c ∷ rest) → IsOneLine rest
-one_line_after c [] is_one = tt
-one_line_after c (d ∷ rest) is_one = is_one.1
+one_line_after c rest is_one = grind arith
 
 -- tokens and a part, with what follows, are a whole logical line where the part and that are an ending
 whole_from : {seen : List ℕ} {P : List ℕ → Type 0} (after kept : List ℕ) (ending : Ending) (last : Type 0)
@@ -286,64 +280,45 @@ walk-is last m seen line g is_one =
     at (ended kept) e h = (rw append-nil at h) is_one
 
 -- From the tokens to the walk.
--- a token that is a character stays outside
-plain_leads : (c : ℕ) → not (is_blank c || stands_for_itself c) ≡ true → leads_outside c ≡ Some Outside
-plain_leads c h = grind (arith, nat_tests)
-
--- after a whole token, a quote opens quotes
-quote_leads : (q : ℕ) → is_quote q ≡ true → leads_outside q ≡ Some (Inside q)
-quote_leads q h = grind (arith, nat_tests)
-
 -- after a whole token, a blank leads to what is after a blank
 blank_goes : (b : ℕ) → is_blank b ≡ true → leads_outside b ≡ Some AfterBlank
 blank_goes b h = grind (arith, nat_tests)
-
--- in quotes, the quote leads outside
-quote_closes : (q : ℕ) → leads (Inside q) q ≡ Some Outside
-quote_closes q = grind (arith, nat_tests)
-
--- in quotes, a backslash escapes
-quote_escapes : (q : ℕ) → is_quote q ≡ true → leads (Inside q) backslash ≡ Some (InsideEscaping q)
-quote_escapes q h = grind (arith, nat_tests)
-
--- in quotes, another character stays
-quote_stays : (q c : ℕ) → is_quoted q (one c) ≡ true → leads (Inside q) c ≡ Some (Inside q)
-quote_stays q c h = grind (arith, nat_tests)
 
 -- what may stand in quotes, and the quote, lead outside
 walk_inner : (q : ℕ) (inner : List QuotedCharacter) (seen after : List ℕ) → is_quote q ≡ true →
     list_all (is_quoted q) inner ≡ true →
     walk (Inside q) seen ((flat_map quoted_text inner ++ q ∷ []) ++ after)
     ≡ walk Outside (seen ++ (flat_map quoted_text inner ++ q ∷ [])) after
-walk_inner q [] seen after h k = rw (quote_closes q) refl
+walk_inner q [] seen after h k =
+    let closes : leads (Inside q) q ≡ Some Outside = grind (arith, nat_tests) in rw closes refl
 walk_inner q (one c ∷ inner) seen after h k =
-    rw (quote_stays q c (and_left (is_quoted q (one c)) (list_all (is_quoted q) inner) k))
-    (rw (append_assoc seen (c ∷ [])) at (walk_inner q inner (seen ++ c ∷ []) after h
-    (and_right (is_quoted q (one c)) (list_all (is_quoted q) inner) k)))
+    let p = and_parts (is_quoted q (one c)) (list_all (is_quoted q) inner) k in
+    let stays : leads (Inside q) c ≡ Some (Inside q) = grind (arith, nat_tests, p.0) in
+    rw stays (rw (append_assoc seen (c ∷ [])) at (walk_inner q inner (seen ++ c ∷ []) after h p.1))
 walk_inner q (pair c ∷ inner) seen after h k =
-    rw (quote_escapes q h) (rw append_assoc
+    let escapes : leads (Inside q) backslash ≡ Some (InsideEscaping q) = grind (arith, nat_tests) in
+    rw escapes (rw append_assoc
     (rw (append_assoc seen (backslash ∷ c ∷ [])) at (walk_inner q inner (seen ++ backslash ∷ c ∷ []) after h k)))
 
 -- before a character that a blank stands alone before, a walk is as after a whole token
 walk_alone : (seen after : List ℕ) → is_before_break after ≡ true → walk AfterBlank seen after ≡ walk Outside seen after
 walk_alone seen [] h = cc
-walk_alone seen (c ∷ after) h = rw (leads_alone c h) refl
-  where
-    leads_alone : (c : ℕ) → stands_for_itself c ≡ true → leads AfterBlank c ≡ leads_outside c
-    leads_alone c h = grind (arith, nat_tests)
+walk_alone seen (c ∷ after) h =
+    let alone : leads AfterBlank c ≡ leads_outside c = grind (arith, nat_tests) in rw alone refl
 
 -- a walk passes a token as a whole, before any text that a blank stands alone before where it did
 walk_token : (t : Token) (seen after other : List ℕ) → IsToken t after →
     (is_before_break after ≡ true → is_before_break other ≡ true) →
     walk Outside seen (token_text t ++ other) ≡ walk Outside (seen ++ token_text t) other
-walk_token (one_character c) seen after other is alone = rw (plain_leads c is) refl
+walk_token (one_character c) seen after other is alone =
+    let stays : leads_outside c ≡ Some Outside = grind (arith, nat_tests) in rw stays refl
 walk_token (backslash_pair c) seen after other is alone = elim (escaping_leads c) [
   | inl h ↦ let e : true ≡ false = rw h.0 at (sym is) in cc
   | inr h ↦ rw h.1 (rw append_assoc refl)
 ]
 walk_token (quoted q inner) seen after other is alone =
-    rw (quote_leads q is.0) (rw (append_assoc seen (q ∷ [])) at
-    (walk_inner q inner (seen ++ q ∷ []) other is.0 is.1))
+    let opens : leads_outside q ≡ Some (Inside q) = grind (arith, nat_tests) in
+    rw opens (rw (append_assoc seen (q ∷ [])) at (walk_inner q inner (seen ++ q ∷ []) other is.0 is.1))
 walk_token (blank_pair b c) seen after other is alone = elim (blank_leads c) [
   | inl h ↦ let e : true ≡ false = rw h.0 at (sym is.1) in cc
   | inr (inl h) ↦ let k = is.1 in let l = h.0 in absurd (grind (arith, nat_tests))

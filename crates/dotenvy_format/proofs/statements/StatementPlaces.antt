@@ -159,9 +159,7 @@ no_equals_key key text h = grind arith
 second_right : (indent gap left : List ℕ) → is_white_space indent ≡ true → is_white_space gap ≡ true →
     not (begins_passing continues_key (gap ++ left)) ≡ true → begins_passing begins_key left ≡ true →
     Right (indent ++ (export ++ (gap ++ left))) (after_prefix left)
-second_right indent [] [] white gap_white ends begins = cc
-second_right indent [] (c ∷ cs) white gap_white ends begins =
-    absurd (let f = rw (key_begins_continues c begins) at ends in cc)
+second_right indent [] left white gap_white ends begins = absurd (grind (arith, key_begins_continues))
 second_right indent (first ∷ gap) left white gap_white ends begins =
     let prefix = export ++ first ∷ gap in
     let is_prefix : IsPrefix prefix = inr (first, gap, refl, gap_white) in
