@@ -18,13 +18,12 @@ more_some (x ∷ xs) ys h = λ e. cc
 -- a list whose length was tested to be zero is empty
 pub tested_empty : (xs : List ℕ) (n : ℕ) (b : Bool) → b ≡ (n == 0) → n ≡ length xs → b ≡ true → xs ≡ []
 tested_empty xs n b test len is =
-    let zero' : n ≡ 0 = (let t : (n == 0) ≡ true = sym test ∙ is in grind (arith, nat_tests, t)) in
-    nil_of xs (sym len ∙ zero')
+    nil_of xs (grind (arith, nat_tests))
 
 -- a list whose length was tested not to be zero has something, and its length is above zero
 pub tested_some : (xs : List ℕ) (n : ℕ) (b : Bool) → b ≡ (n == 0) → n ≡ length xs → b ≡ false → (0 < n) × (xs ≢ [])
 tested_some xs n b test len is =
-    let some : 0 < n = (let t : (n == 0) ≡ false = sym test ∙ is in grind (arith, nat_tests, t)) in
+    let some : 0 < n = grind (arith, nat_tests) in
     (some, λ h. let l = ap length h in omega (arith, some, len, l))
 
 -- where a fact of each value makes another, it does so of the value that is there, if there is one

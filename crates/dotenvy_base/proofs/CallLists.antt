@@ -1,4 +1,5 @@
 -- Lists of calls, joined.
+use Rattle.std.proofs.Common.{arith}
 use Rattle.std.proofs.Common.{List, [], ◌∷◌, ◌++◌}
 use Rattle.std.specs.List.{AllByRecursion}
 use Rattle.dotenvy_base.specs.Calls.{Call, AllMayGoOn, OnlyLastEnds, LastMovesNone}
@@ -12,13 +13,9 @@ all_of_both P (x ∷ xs) ys (first, all) later = (first, all_of_both P xs ys all
 -- where another call may follow each of the first, the last of both alone may end
 pub ends_behind : (first later : List Call) → AllMayGoOn first → OnlyLastEnds later → OnlyLastEnds (first ++ later)
 ends_behind [] later all ends = ends
-ends_behind (call ∷ []) [] all ends = tt
-ends_behind (call ∷ []) (next ∷ later) (goes, all) ends = (goes, ends)
-ends_behind (call ∷ next ∷ first) later (goes, all) ends = (goes, ends_behind (next ∷ first) later all ends)
+ends_behind (call ∷ first) later all ends = grind (arith, ends_behind first later)
 
 -- where the last of the later calls moved no byte, so did the last of both
 pub last_behind : (first later : List Call) → LastMovesNone later → LastMovesNone (first ++ later)
 last_behind [] later last = last
-last_behind (call ∷ []) [] last = absurd last
-last_behind (call ∷ []) (next ∷ later) last = last
-last_behind (call ∷ next ∷ first) later last = last_behind (next ∷ first) later last
+last_behind (call ∷ first) later last = grind (arith, last_behind first later)

@@ -40,8 +40,7 @@ ascent_exists directory = ascent_within (suc (length directory)) directory (omeg
 pub one_ascent : (directory : List ℕ) (a b : List (List ℕ)) → Ascends directory a → Ascends directory b → a ≡ b
 one_ascent directory [] b x y = absurd x
 one_ascent directory (f ∷ a) [] x y = absurd y
-one_ascent directory (f ∷ []) (g ∷ []) x y = rw (x.0, y.0) refl
-one_ascent directory (f ∷ []) (g ∷ h ∷ b) x y = grind arith
+one_ascent directory (f ∷ []) (g ∷ b) x y = grind arith
 one_ascent directory (f ∷ h ∷ a) (g ∷ []) x y = grind arith
 one_ascent directory (f ∷ h ∷ a) (g ∷ i ∷ b) x y = grind (arith, one_ascent h (h ∷ a) (i ∷ b))
 
@@ -66,19 +65,7 @@ asked_once [] looks a b x y s t = x ∙ sym y
 asked_once (path ∷ paths) looks [] b x y s t = absurd x
 asked_once (path ∷ paths) looks (c ∷ a) [] x y s t = absurd y
 asked_once (path ∷ paths) looks ((p, l) ∷ a) ((q, m) ∷ b) x y s t =
-    rw (
-      x.0,
-      y.0,
-      s.0,
-      t.0,
-      others (ends_search (looks 0)) (rw s.0 at x.1) (rw t.0 at y.1)
-          (λ f g. asked_once paths (λ n. looks (1 + n)) a b f g s.1 t.1),
-    ) refl
-  where
-    others : (ends : Bool) → (IsTrue ends × (a ≡ [])) ⊎ (IsTrue (not ends) × AreAsked paths a) →
-        (IsTrue ends × (b ≡ [])) ⊎ (IsTrue (not ends) × AreAsked paths b) →
-        (AreAsked paths a → AreAsked paths b → a ≡ b) → a ≡ b
-    others ends x y later = grind arith
+    grind (arith, asked_once paths (λ n. looks (1 + n)) a b)
 
 -- whatever is at the candidates, the search has one answer
 pub search_exists : (directory name : List ℕ) (looks : ℕ → Look) →

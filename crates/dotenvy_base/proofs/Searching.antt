@@ -165,8 +165,7 @@ parent_is_less directory above h = grind (arith, parent_shorter (path_bytes dire
 -- what doesn't end a search lets it go on
 went_on : (ends : Bool) (Ended GoesOn : Type 0) →
     (IsTrue ends × Ended) ⊎ (IsTrue (not ends) × GoesOn) → ends ≡ false → GoesOn
-went_on ends Ended GoesOn (inl x) h = let both : false ≡ true = sym h ∙ x.0 in cc
-went_on ends Ended GoesOn (inr x) h = x.1
+went_on ends Ended GoesOn x h = grind arith
 
 -- a path that a search finds is that of the name in one of the directories
 found_among : (name : List ℕ) (directories : List (List ℕ)) (asked : List (List ℕ × Look)) (path : List ℕ) →

@@ -41,20 +41,17 @@ fault_kept last xs some = grind (arith, nat_tests)
 
 -- nothing was appended yet
 pub appended_none : (held : Option (List ℕ)) → Appended held held []
-appended_none None = tt
-appended_none (Some xs) = ap Some (sym (append-nil xs))
+appended_none held = grind (arith, append-nil {A = ℕ})
 
 -- a write that took some bytes appends them after what was appended
 appended_more : (held mid after : Option (List ℕ)) (front rest : List ℕ) (n : ℕ) →
     Appended held mid front → WriteAppends mid after (Ok n) rest → Appended held after (front ++ take n rest)
-appended_more None mid after front rest n before write = tt
-appended_more (Some xs) mid after front rest n before write = (rw before at write).0 ∙ ap Some (simp append_assoc)
+appended_more held mid after front rest n before write = grind (arith, append_assoc {A = ℕ})
 
 -- a write that failed leaves what was appended as it was
 appended_same : (held mid after : Option (List ℕ)) (front rest : List ℕ) (e : Error) →
     Appended held mid front → WriteAppends mid after (Err e) rest → Appended held after front
-appended_same None mid after front rest e before write = tt
-appended_same (Some xs) mid after front rest e before write = (rw before at write).1
+appended_same held mid after front rest e before write = grind arith
 
 -- so many writes were made, and another may follow each of them
 abbrev pub AllMade : Option (List Call) → Option (List Call) → ℕ → Type 0
@@ -136,8 +133,7 @@ sending_again {before} {mid} {after} {rest = rest} {e = e} s w some interrupted 
 -- where another call may follow each of these, another may follow each but the last
 all_in_turn : (calls : List Call) → AllMayGoOn calls → OnlyLastEnds calls
 all_in_turn [] all = tt
-all_in_turn (call ∷ []) all = tt
-all_in_turn (call ∷ next ∷ calls) (goes, all) = (goes, all_in_turn (next ∷ calls) all)
+all_in_turn (call ∷ calls) all = grind (arith, all_in_turn calls)
 
 -- The ways out: what was sent so far is what the call sends, with this answer.
 module _ {A W : Type 0} (sink : W → SinkTold) {most : ℕ} {old : W} {bytes rest : List ℕ} {count : ℕ} where

@@ -1,4 +1,5 @@
 -- What bytes decide stays, whatever follows them.
+use Rattle.std.proofs.lemmas.Bool.{cases_Bool}
 use Rattle.std.proofs.Common.{◌≡◌, ℕ, ◌≤◌, Bool, true, false, cond, List}
 use Rattle.std.proofs.Common.{[], ◌∷◌, ◌++◌, map, Option, Some, None, refl, sym, ◌∙◌, ap, arith}
 use Rattle.std.proofs.Common.{append_assoc, length, drop}
@@ -77,13 +78,13 @@ next_later lines [] k o cut own some closed is = rw append-nil (next_once lines 
 next_later lines (l ∷ more) k o cut own some closed is =
     let e = next_once lines k o some own is in
     let s = skipped-append lines (l ∷ more) some in
-    ⊎_elim (λ h. next_skipped (lines ++ l ∷ more) (s ∙ h.1) ∙ sym (next_skipped lines h.1) ∙ e)
-    (λ h.
-    let f : next_from Outside [] lines ≡ (k, o) = sym (next_shown lines h.1) ∙ e in
-    next_shown (lines ++ l ∷ more) (s ∙ h.1)
-    ∙ next_from-append Outside [] lines l more (inl some) cut going_start (rw f closed)
-    ∙ f)
-    (skipped_or_not lines)
+    elim (cases_Bool (is_skipped lines)) [
+      | inl h ↦ next_skipped (lines ++ l ∷ more) (s ∙ h) ∙ sym (next_skipped lines h) ∙ e
+      | inr h ↦
+          let f : next_from Outside [] lines ≡ (k, o) = sym (next_shown lines h) ∙ e in
+          next_shown (lines ++ l ∷ more) (s ∙ h)
+          ∙ next_from-append Outside [] lines l more (inl some) cut going_start (rw f closed) ∙ f
+    ]
 
 -- the first logical lines are the front of the others
 abbrev IsFront : List Logical → List Logical → Type 0

@@ -189,8 +189,7 @@ pass_texts m seen (t ∷ ts) lines n e =
 text_ends : (seen t : HasText') (ts : List HasText') (later : Lines) {kept k : HasText'} {last : Type 0} →
     AreCut (Some t ∷ (map Some ts ++ later)) → walk Outside [] (seen ++ t) ≡ ended k →
     IsWhole ((seen ++ t) ++ concat ts) kept last → (ts ≡ []) × (k ≡ kept)
-text_ends seen t [] later cut e w =
-    (refl, ⊎_elim (λ f. cc) (λ r. let f = r.0 in cc) (whole_walks (rw append-nil at w)))
+text_ends seen t [] later cut e w = let walks = whole_walks (rw append-nil at w) in grind arith
 text_ends seen t (u ∷ ts) later cut e w =
     let none = ap length (no_more (seen ++ t) (concat (u ∷ ts)) w e (ends_join seen t (whole_ends t cut.0))) in
     absurd (cut_some u (map Some ts ++ later) cut.1
@@ -201,8 +200,7 @@ text_found : (m : LineMode) (seen : HasText') (ts : List HasText') (later : Line
     IsGoing seen m → AreCut (map Some ts ++ later) → (last → later ≡ []) → IsWhole (seen ++ concat ts) kept last →
     next_from m seen (map Some ts ++ later) ≡ (length ts, HasText kept)
 text_found m seen [] later g cut end w =
-    ⊎_elim (λ e. cc) (λ r. let f = r.0 in let k : m ≡ Outside = cc in rw (end r.2, k, r.1) refl)
-    (whole_walks (rw append-nil at w))
+    let walks = whole_walks (rw append-nil at w) in grind (arith, end)
 text_found m seen (t ∷ ts) later {kept = kept} g cut end w =
     let w' : IsWhole ((seen ++ t) ++ concat ts) kept _ = rw append_assoc w in
     (elim (walk m seen t) as (λ r.
@@ -267,14 +265,13 @@ text_next : (lines : Lines) (k : ℕ) (kept : HasText') → AreCut lines → IsT
     next_from Outside [] lines ≡ (k, HasText kept)
 text_next lines k kept cut is =
     let t = text_of is in
-    let number : (length t.taken, HasText kept) ≡ (k, HasText kept) = rw t.number refl in
     ap (next_from Outside []) t.are
     ∙ text_found Outside [] t.taken t.later going_start (rw t.are at cut)
     (λ last.
     nil_from_length t.later
     (omega (arith, t.number, ap length t.are, length-append (map Some t.taken) t.later, length-map t.taken Some)))
     (rw t.joins at is.whole)
-    ∙ number
+    ∙ rw t.number refl
 
 -- where a logical line that is a text begins with texts that go on, it is what the loop makes of the lines after them
 pub text_kind : (taken : List HasText') (lines : Lines) (m : LineMode) (j : ℕ) (kept : HasText') →
@@ -304,7 +301,7 @@ one_broken (l ∷ lines) j k a b = grind (arith, one_broken lines)
 -- a logical line that is a text ends before the first broken line
 before_broken : (lines : Lines) (j k : ℕ) (kept : HasText') → IsText lines j kept → IsFirstBroken k lines → j < k
 before_broken lines j k kept is h =
-    let t = text_of is in let w = broken_after t.taken t.later k (rw t.are at h) in omega (arith, t.number, w)
+    let t = text_of is in omega (arith, t.number, broken_after t.taken t.later k (rw t.are at h))
 
 -- lines of which one is broken join to no text
 not_joined : (lines : Lines) (k : ℕ) (t : HasText') → IsFirstBroken k lines → joined_text lines ≢ Some t

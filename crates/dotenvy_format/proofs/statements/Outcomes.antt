@@ -75,29 +75,18 @@ says_only dialect line (Fault text index) (some, inl fault) = at (parse (trimmed
     at (Ok (key, rest)) e = absurd (fault.none key rest (parse-statement (trimmed line) key rest e))
     at (Err left) e =
         let other = parse-fault (trimmed line) left e in
-        rw (
-          not-true _ some,
-          e,
-          front_length (trimmed line) other.1 left other.2,
-          fault.line_is,
-          fault.index_is,
-          one_place BeginsStatement statement_fronts (trimmed line) fault.place (length other.1) fault.is_place other.3,
-        )
+        let length_is = front_length (trimmed line) other.1 left other.2 in
+        let place = one_place BeginsStatement statement_fronts (trimmed line) fault.place _ fault.is_place other.3 in
+        rw (not-true _ some, e, length_is, fault.line_is, fault.index_is, place)
 says_only dialect line (Fault text index) (some, inr (key, is, fault)) =
     at (read_value dialect text (base Unquoted)) refl
   where
     at : (r : ValueReading) → read_value dialect text (base Unquoted) ≡ r → Fault text index ≡ outcome_of dialect line
     at (Some pieces) e = absurd (fault.none pieces (value-read dialect text pieces e))
     at None e =
-        rw (
-          not-true _ some,
-          statement-parses is,
-          not-true _ fault.assigned,
-          e,
-          fault.index_is,
-          one_place (BeginsValue dialect) (value_fronts dialect) text fault.place _ fault.is_place
-              (value_place dialect text),
-        )
+        let other = value_place dialect text in
+        let place = one_place (BeginsValue dialect) (value_fronts dialect) text fault.place _ fault.is_place other in
+        rw (not-true _ some, statement-parses is, not-true _ fault.assigned, e, fault.index_is, place)
 
 -- a line says at most one thing
 pub one_outcome : (dialect : Dialect) (line : List ℕ) (a b : Outcome) → Says dialect line a → Says dialect line b →

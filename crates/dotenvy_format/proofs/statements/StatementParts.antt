@@ -54,22 +54,15 @@ pub chars-trim_end : (text trimmed : List ℕ) → IsUtf8 text → trimmed ≡ t
 unfolding trim_end
 chars-trim_end text trimmed u h = rw h (chars-encodes _ (scalars-drop (chars text) (scalars-chars text u)))
 
--- the codes of `export`, taken as bytes, are its characters
-export_characters : chars export ≡ export
-unfolding chars
-export_characters = refl
-
--- the codes of `export`, taken as characters, are its bytes
-export_bytes : encode_utf8_all export ≡ export
-unfolding encode
-export_bytes = refl
-
 -- the key is `export` by its bytes where it is by its characters
 pub eq_export : (key : List ℕ) → IsUtf8 key → bytes_eq key export ≡ bytes_eq (chars key) export
+unfolding chars encode
 eq_export key u =
+    let characters : chars export ≡ export = refl in
+    let bytes : encode_utf8_all export ≡ export = refl in
     same_from_decides _ _ (bytes_eq-Decides key export) (Decides-like _
-    (λ is. sym (encodes-chars key u) ∙ ap encode_utf8_all is ∙ export_bytes)
-    (λ is. ap chars is ∙ export_characters) (bytes_eq-Decides (chars key) export))
+    (λ is. sym (encodes-chars key u) ∙ ap encode_utf8_all is ∙ bytes) (λ is. ap chars is ∙ characters)
+    (bytes_eq-Decides (chars key) export))
 
 -- what the code's proofs use: the first character of a slice, its white space, and where a key is cut
 pub ruleset slice_laws = (no_characters, chars_trimmed, span_splits, eq_export)
