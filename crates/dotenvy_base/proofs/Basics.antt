@@ -1,13 +1,9 @@
 -- Facts on tests, options and lists that many proofs use.
+pub use Rattle.std.proofs.lemmas.List.{nil_from_length as nil_of}
 use Rattle.std.proofs.Common.{◌≡◌, ◌≢◌, ℕ, ◌<◌, List, [], ◌∷◌, ◌++◌, length, ap, sym, ◌∙◌, Bool}
 use Rattle.std.proofs.Common.{true, false, refl, arith}
 use Rattle.std.specs.Prelude.{◌==◌, IfOk, Result, Ok, Err}
 use Rattle.std.proofs.lemmas.Bool.Decides.{nat_tests}
-
--- a list without length has nothing
-pub nil_of : (xs : List ℕ) → length xs ≡ 0 → xs ≡ []
-nil_of [] h = refl
-nil_of (x ∷ xs) h = absurd (omega (arith, h))
 
 -- a list that has something has it still with more after it
 pub more_some : (xs ys : List ℕ) → xs ≢ [] → xs ++ ys ≢ []

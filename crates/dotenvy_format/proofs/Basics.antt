@@ -1,6 +1,7 @@
 -- Facts on tests that many proofs use.
 use Rattle.std.proofs.Common.{◌≡◌, Bool, true, false, ◌&&◌, not}
-use Rattle.std.proofs.lemmas.Bool.{and_parts, not-true}
+use Rattle.std.proofs.lemmas.Bool.{and_parts}
+pub use Rattle.std.proofs.lemmas.Bool.{not-true as not_is}
 
 -- where two tests both hold, the first holds
 pub and_left : (a b : Bool) → (a && b) ≡ true → a ≡ true
@@ -10,6 +11,3 @@ and_left a b h = (and_parts a b h).0
 pub and_right : (a b : Bool) → (a && b) ≡ true → b ≡ true
 and_right a b h = (and_parts a b h).1
 
--- a test whose negation holds is false
-pub not_is : (a : Bool) → not a ≡ true → a ≡ false
-not_is a h = not-true a h

@@ -127,10 +127,8 @@ meaning-agree a b earlier (piece ∷ pieces) agree = grind (arith, meaning-agree
 items_from-agree : (a b earlier : LookUp) (entries : List Entry) → AgreeIn a b entries →
     items_from a earlier entries ≡ items_from b earlier entries
 items_from-agree a b earlier [] agree = refl
-items_from-agree a b earlier (Fails failure ∷ entries) agree = rw (items_from-agree a b earlier entries agree)
-items_from-agree a b earlier (Declares key pieces ∷ entries) agree =
-    let v = meaning (or_else b earlier) pieces in
-    rw (meaning-agree a b earlier pieces agree.0, items_from-agree a b (with_value earlier key v) entries agree.1)
+items_from-agree a b earlier (entry ∷ entries) agree =
+    grind (arith, meaning-agree a b earlier, λ (e : LookUp). items_from-agree a b e entries)
 
 -- environments that agree on the names in the entries give the same items
 pub items-agree : (a b : LookUp) (entries : List Entry) → AgreeIn a b entries → items a entries ≡ items b entries
