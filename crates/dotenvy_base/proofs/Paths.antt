@@ -1,6 +1,6 @@
 -- Paths as texts: the path of a name in a directory, and the directory above.
 use Rattle.std.proofs.Common.{◌≡◌, ◌≢◌, ℕ, suc, ◌+◌, ◌-◌, ◌<◌, arith, false, not, cond}
-use Rattle.std.proofs.Common.{List, [], ◌∷◌, Some, refl, ◌∙◌, ap, length}
+use Rattle.std.proofs.Common.{List, [], ◌∷◌, Some, refl, ap, length}
 use Rattle.std.proofs.Common.{get_or, take, append_assoc, ne_eqb, length-take-le}
 use Rattle.std.specs.Prelude.{◌==◌}
 use Rattle.std.specs.List.{list_any, before_last, suffix_len}
@@ -52,15 +52,13 @@ parent_is_part text some other = grind (arith, nat_tests)
 pub parent_of_name : (text : List ℕ) → text ≢ [] → ((i : ℕ) → i < length text → get_or text i 0 ≢ slash) →
     parent_of text ≡ Some []
 parent_of_name text some none =
-    let other : text ≢ slash ∷ [] = λ e. none 0 (let l = ap length e in omega (arith, l)) (rw e refl) in
-    parent_is_part text some other ∙ rw (none_at text none) refl
+    grind (arith, parent_is_part text some, none_at text none, none 0)
 
 -- the directory above, by the place of the last slash
 pub parent_at_slash : (text : List ℕ) (k : ℕ) → text ≢ slash ∷ [] → k < length text → get_or text k 0 ≡ slash →
     ((i : ℕ) → k < i → i < length text → get_or text i 0 ≢ slash) →
     parent_of text ≡ Some (cond (k == 0) (slash ∷ []) (take k text))
 parent_at_slash text k other h e later =
-    let some : text ≢ [] = λ n. (let l = ap length n in absurd (omega (arith, l, h))) in
-    let len : length (take k text) ≡ k = length-take-le k text (omega (arith, h)) in
-    parent_is_part text some other
-    ∙ rw (list_any_at is_slash text k 0 h (ap is_slash e), before_by_place text k h e later, len) refl
+    let any = list_any_at is_slash text k 0 h (ap is_slash e) in
+    let before = before_by_place text k h e later in
+    grind (arith, nat_tests, parent_is_part text, length-take-le k text)

@@ -1,8 +1,8 @@
 -- A search asks one list of candidates, and has one answer.
-use Rattle.std.proofs.Common.{◌≡◌, ℕ, zero, suc, ◌+◌, ◌<◌, Bool, not, List, []}
+use Rattle.std.proofs.Common.{◌≡◌, ℕ, zero, suc, ◌+◌, ◌<◌, not, List, []}
 use Rattle.std.proofs.Common.{◌∷◌, map, Some, None, refl, sym, ◌∙◌, ap, arith}
 use Rattle.std.proofs.Common.{length, inl, inr}
-use Rattle.std.specs.Prelude.{◌-◌, ◌⊎◌, IsTrue}
+use Rattle.std.specs.Prelude.{◌-◌}
 use Rattle.std.specs.List.{suffix_len}
 use Rattle.dotenvy_base.specs.declared.search.Look.{Look}
 use Rattle.std.proofs.lemmas.List.{length-take}

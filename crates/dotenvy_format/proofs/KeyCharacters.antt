@@ -1,8 +1,7 @@
 -- The characters of a key.
-use Rattle.std.proofs.Common.{◌≡◌, ℕ, true, List, [], ◌∷◌, refl}
+use Rattle.std.proofs.Common.{◌≡◌, ℕ, arith, true, List, [], ◌∷◌, refl}
 use Rattle.std.specs.Prelude.{IsTrue}
 use Rattle.std.specs.List.{list_all}
-use Rattle.std.proofs.lemmas.Bool.{and_parts}
 use Rattle.dotenvy_format.specs.Characters.{begins_key, continues_key}
 use Rattle.dotenvy_format.specs.Keys.{is_key}
 
@@ -13,5 +12,4 @@ key_begins_continues c h = rw h
 -- each character of a key, the first one too, may stand later in a key
 pub key_continues : (key : List ℕ) → IsTrue (is_key key) → list_all continues_key key ≡ true
 key_continues [] h = refl
-key_continues (c ∷ key) h =
-    let p = and_parts (begins_key c) (list_all continues_key key) h in rw (p.0, p.1)
+key_continues (c ∷ key) h = grind (arith, key_begins_continues c)

@@ -22,7 +22,7 @@ use Rattle.dotenvy_format.proofs.lines.NextLine.{Lines, ends_line, ends_join, wh
 use Rattle.dotenvy_format.proofs.lines.NextLine.{broken_within, mode_ends, after_walk, one_more}
 use Rattle.dotenvy_format.proofs.lines.NextLine.{next_from, same_parts}
 use Rattle.dotenvy_format.proofs.lines.SplitLines.{next_of, is_skipped}
-use Rattle.dotenvy_format.proofs.lines.SplitLines.{skipped_or_not, next_skipped, next_shown, next_once}
+use Rattle.dotenvy_format.proofs.lines.SplitLines.{next_skipped, next_shown, next_once}
 use Rattle.dotenvy_format.proofs.lines.EntriesOnce.{lines_of, are_lines_of, logical_entries, all_give}
 use Rattle.dotenvy_format.proofs.lines.EntriesOnce.{all_once, one_list, cut_drop, cut_line_texts, some_length}
 use Rattle.std.proofs.Common.{inl, inr, ⊎_elim}
@@ -38,9 +38,7 @@ skipped-append lines more some = grind arith
 next_from-append : (m : LineMode) (seen : List ℕ) (lines : Lines) (l : Option (List ℕ)) (more : Lines) →
     (lines ≢ []) ⊎ (ends_line seen ≡ true) → AreCut (lines ++ l ∷ more) → IsGoing seen m →
     ¬ (IsOpenEnd (next_from m seen lines).1) → next_from m seen (lines ++ l ∷ more) ≡ next_from m seen lines
-next_from-append m seen [] l more (inl some) cut g closed = absurd (some refl)
-next_from-append m seen [] l more (inr ends) cut g closed =
-    let goes_on = line_goes_on seen m g ends in let at_end = mode_ends m seen in grind arith
+next_from-append m seen [] l more some cut g closed = grind (arith, line_goes_on seen m g, mode_ends m seen)
 next_from-append m seen (None ∷ lines) l more some cut g closed = refl
 next_from-append m seen (Some t ∷ lines) l more some cut g closed =
     (elim (walk m seen t) as (λ w.

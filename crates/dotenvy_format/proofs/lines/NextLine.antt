@@ -20,7 +20,7 @@ use Rattle.dotenvy_format.specs.declared.walk.LineMode.{LineMode}
 use Rattle.dotenvy_format.specs.declared.walk.LineMode.TheVariants.{Outside}
 use Rattle.dotenvy_format.specs.inside.Walk.{going, ended, walk}
 use Rattle.std.proofs.lemmas.Bool.{eqb-true}
-use Rattle.dotenvy_format.proofs.lines.Splitting.{IsGoing, onward, walk-append, tokens_going, whole_walks}
+use Rattle.dotenvy_format.proofs.lines.Splitting.{IsGoing, walk-append, tokens_going, whole_walks}
 use Rattle.dotenvy_format.proofs.lines.Splitting.{outside_tokens, going_start, going_more}
 use Rattle.dotenvy_format.specs.inside.Walk.{Walk}
 use Rattle.std.proofs.lemmas.List.{length-map}

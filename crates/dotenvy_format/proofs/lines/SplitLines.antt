@@ -2,8 +2,8 @@
 -- Such a loop keeps: the lines are texts `taken` and those that are left, and `IsGoing` holds of the texts joined.
 use Rattle.std.proofs.lemmas.List.{take_at}
 use Rattle.std.proofs.Common.{◌≡◌, ℕ, suc, ◌+◌, Bool, true, false, List, [], ◌∷◌, ◌++◌}
-use Rattle.std.proofs.Common.{map, Some, None, refl, sym, ◌∙◌, ap, arith, add-one, zero-add}
-use Rattle.std.proofs.Common.{length, length-append, take, ⊎_elim}
+use Rattle.std.proofs.Common.{map, Some, None, refl, sym, ◌∙◌, arith, add-one, zero-add}
+use Rattle.std.proofs.Common.{length, length-append, ⊎_elim}
 use Rattle.std.specs.Prelude.{◌≢◌, ◌⊎◌}
 use Rattle.std.specs.List.{concat}
 use Rattle.std.specs.Str.{skip_leading_whitespace}
@@ -13,7 +13,7 @@ use Rattle.std.proofs.lemmas.List.Folds.{concat-append}
 use Rattle.std.proofs.Math.Nat.{add-zero}
 use Rattle.dotenvy_format.specs.Characters.{hash, byte_len, begins_with}
 use Rattle.dotenvy_format.specs.PhysicalLines.{AreCut, is_last_line}
-use Rattle.dotenvy_format.specs.LogicalLine.{input_end, IsOneLine, IsWhole, with_text_before, joined_text}
+use Rattle.dotenvy_format.specs.LogicalLine.{input_end, IsOneLine, IsWhole}
 use Rattle.dotenvy_format.specs.LogicalLine.{IsSkipped, IsFirstBroken, Logical, Skip, HasText, StaysOpen}
 use Rattle.dotenvy_format.specs.LogicalLine.{Broken, IsNext}
 use Rattle.dotenvy_format.specs.declared.walk.LineMode.{LineMode}
@@ -32,9 +32,8 @@ one_of_last (c ∷ t) h = grind (arith, one_of_last t)
 
 -- a physical line that is a text is one line
 pub line_is_one : (front : Lines) (t : List ℕ) (lines : Lines) → AreCut (front ++ Some t ∷ lines) → IsOneLine t
-line_is_one front t [] cut = one_of_last t (cut_after front (Some t ∷ []) cut)
-line_is_one front t (l ∷ lines) cut =
-    let h = cut_after front (Some t ∷ l ∷ lines) cut in one_of_last t (whole_last t h.0)
+line_is_one front t lines cut =
+    let own = cut_after front (Some t ∷ lines) cut in one_of_last t (grind (arith, whole_last t))
 
 -- the broken line after the texts taken is the first broken one, and its number is one more than theirs
 broken_at : (taken : List (List ℕ)) (lines : Lines) →

@@ -21,7 +21,6 @@ use Rattle.dotenvy_format.specs.declared.walk.LineMode.{LineMode}
 use Rattle.dotenvy_format.specs.declared.walk.LineMode.TheVariants.{Outside, Escaping, Inside}
 use Rattle.dotenvy_format.specs.declared.walk.LineMode.TheVariants.{InsideEscaping, AfterBlank}
 use Rattle.dotenvy_format.specs.inside.Walk.{leads_outside, leads, kept_before, Walk, going, ended, walked, walk}
-use Rattle.dotenvy_format.proofs.Basics.{and_left, and_right}
 
 -- what a walk gives where it goes on after this one
 abbrev pub onward : Walk → (LineMode → Walk) → Walk

@@ -1,7 +1,7 @@
 -- Backslashes in a row after a backslash: each two of them mean one.
 use Rattle.std.proofs.lemmas.Str.{encode_ascii}
-use Rattle.std.proofs.Common.{◌≡◌, ℕ, zero, suc, ◌+◌, ◌-◌, ◌<◌, ◌≤◌, Bool, List, []}
-use Rattle.std.proofs.Common.{◌∷◌, ◌++◌, refl, arith, take, drop}
+use Rattle.std.proofs.Common.{◌≡◌, ℕ, zero, suc, ◌+◌, ◌-◌, ◌<◌, ◌≤◌, Bool, List}
+use Rattle.std.proofs.Common.{◌++◌, refl, arith, take, drop}
 use Rattle.std.specs.Prelude.{◌==◌}
 use Rattle.std.specs.List.{prefix_len}
 use denote.Ref.{Bor}
@@ -37,8 +37,7 @@ row_bytes (suc n) = rw (row_bytes n, encode_ascii backslash (omega arith)) refl
 -- what is taken of backslashes at the front of a text is a row of them
 taken : (n : ℕ) (text : List ℕ) → n ≤ prefix_len is_backslash text → take n text ≡ row n
 taken zero text h = refl
-taken (suc n) [] h = absurd (omega (arith, h))
-taken (suc n) (c ∷ text) h = grind (arith, nat_tests, taken n text)
+taken (suc n) text h = grind (arith, nat_tests, taken n)
 
 -- a text may be cut anywhere in the row of backslashes at its front
 pub row_boundary : (text : List ℕ) (i : ℕ) → IsUtf8 text → 0 < i → i ≤ prefix_len is_backslash text

@@ -1,4 +1,5 @@
 -- How the pieces that the code reads follow from the reader of values.
+use Rattle.std.proofs.lemmas.Bool.{and_parts}
 use Rattle.std.proofs.Common.{◌≡◌, ◌≢◌, ℕ, suc, ◌%◌, ◌<◌, true, false, not, ◌&&◌, List, [], ◌∷◌, ◌++◌}
 use Rattle.std.proofs.Common.{Some, refl, arith, length}
 use Rattle.std.specs.Prelude.{◌==◌, if◌then◌else◌}
@@ -154,7 +155,7 @@ pub quotes_run : (dialect : Dialect) (q : Quoting) (quotes rest : List ℕ)
     → IsReadTo dialect (base q) (quotes ++ rest) [] (base (after_quotes (length quotes) q)) rest
 quotes_run dialect q [] rest h = none_read dialect (base q) rest
 quotes_run dialect q (c ∷ cs) rest h =
-    let k : ((c == double_quote) ≡ true) × (list_all (λ d. d == double_quote) cs ≡ true) = grind arith in
+    let k = and_parts (c == double_quote) (list_all (λ d. d == double_quote) cs) h in
     let goes : value_goes dialect (base q) c ≡ Some (base (other_quoting q), []) = grind (arith, nat_tests, k.0) in
     let later : after_quotes (length cs) (other_quoting q) ≡ after_quotes (suc (length cs)) q =
     grind (arith, nat_tests) in

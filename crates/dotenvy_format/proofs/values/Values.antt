@@ -1,5 +1,4 @@
 -- A value read from left to right, character by character.
-use Rattle.std.proofs.lemmas.Bool.{and_parts}
 use Rattle.std.proofs.Common.{◌≡◌, ℕ, Bool, true, false, not, List, [], ◌∷◌, ◌++◌}
 use Rattle.std.proofs.Common.{Some, None, refl, arith, append_assoc}
 use Rattle.std.specs.Prelude.{◌==◌, MatchOption}

@@ -14,7 +14,7 @@ use Rattle.dotenvy_format.proofs.writing.ReadBackLines.{AreKeys}
 -- of pairs that can be written each first part is a key
 pub keys_of : (pairs : List (List ℕ × List ℕ)) → AreWritable pairs → AreKeys pairs
 keys_of [] are = tt
-keys_of ((key, text) ∷ pairs) are = ((and_parts (is_key key) (scalars text) are.0).0, keys_of pairs are.1)
+keys_of ((key, text) ∷ pairs) are = grind (arith, keys_of pairs)
 
 -- later characters of a key are Unicode scalar values
 key_scalars : (cs : List ℕ) → list_all continues_key cs ≡ true → scalars cs ≡ true
