@@ -30,7 +30,8 @@ all_good : (pairs : List (List ℕ × List ℕ)) → T (is_sorted (slice_cmp nat
     AreGood pairs
 all_good [] sorted good = refl
 all_good (pair ∷ pairs) sorted good =
-    let parts : T (below_all (slice_cmp nat_cmp) pair.0 pairs) × T (is_sorted (slice_cmp nat_cmp) pairs) = grind arith in
+    let parts : T (below_all (slice_cmp nat_cmp) pair.0 pairs) × T (is_sorted (slice_cmp nat_cmp) pairs) =
+    grind arith in
     let own = good pair.0 pair.1 (rw (tied_itself nat_list_cmp_total pair.0) refl) in
     let later = all_good pairs parts.1
     (λ name value is. good name value (found_later pair pairs name value parts.0 is)) in

@@ -33,4 +33,5 @@ pub written_scalars : (pairs : List (List ℕ × List ℕ)) → AreWritable pair
 written_scalars [] are = refl
 written_scalars ((key, text) ∷ pairs) are =
     let p = and_parts (is_key key) (scalars text) are.0 in
-    simp (list_all-append scalar, key_scalars key (key_continues key p.0), text_scalars text p.1, written_scalars pairs are.1)
+    let own = key_scalars key (key_continues key p.0) in
+    simp (list_all-append scalar, own, text_scalars text p.1, written_scalars pairs are.1)
