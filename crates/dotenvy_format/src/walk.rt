@@ -42,8 +42,8 @@ fn mode_after_token(c: char) -> Option<LineMode>
     }
 }
 
-// The mode that a character leads to, or `None` if it ends the logical line.
-fn next_mode(mode: LineMode, c: char) -> Option<LineMode>
+/// The mode that a character leads to, or `None` if it ends the logical line.
+pub fn next_mode(mode: LineMode, c: char) -> Option<LineMode>
     ensures { result ≡ leads mode c }
 {
     match mode {

@@ -1,8 +1,8 @@
 -- How far a load came, and what each line adds.
-use Rattle.std.proofs.Common.{◌≡◌, ◌≢◌, ◌∙◌, ℕ, ◌+◌, List, [], ◌++◌, append_assoc, Option, Some, None}
+use Rattle.std.proofs.Common.{◌≡◌, ◌≢◌, ◌∙◌, ℕ, ◌+◌, List, [], ◌++◌, append_assoc, Option, Some, None, ◌∷◌}
 use Rattle.std.proofs.Common.{Result, Ok, Err, refl, inl, inr}
 use Rattle.std.specs.Str.{chars}
-use Rattle.std.proofs.lemmas.List.{map-append}
+use Rattle.std.proofs.lemmas.Grind.{flat_map-append}
 use Rattle.dotenvy_format.specs.Outcome.{Outcome, Says}
 use Rattle.dotenvy_format.specs.Entries.{Failure, Entry, outcome_entries}
 use Rattle.dotenvy_format.specs.Marks.{without_mark}
@@ -14,7 +14,7 @@ use Rattle.dotenvy_base.specs.Source.{Ahead}
 use Rattle.dotenvy_lines.specs.declared.lines.Stage.TheVariants.{Open}
 use Rattle.dotenvy_lines.specs.Input.{InputState, IsTold, DropsMark, AsksReads}
 use Rattle.dotenvy_lines.specs.Lines.{LinesState, WhereOpen}
-use Rattle.dotenvy_lines.specs.Numbered.{at_line, without_numbers}
+use Rattle.dotenvy_lines.specs.Numbered.{FileLine, entries_of}
 use Rattle.dotenvy_lines.specs.Reading.{HasEntriesLeft}
 use Rattle.dotenvy_lines.specs.inside.Splitter.{SplitterState}
 use Rattle.dotenvy_items.specs.Meaning.{values_of, recalled_of}
@@ -25,7 +25,7 @@ use Rattle.dotenvy_items.specs.inside.LoadStep.{LoadsLine}
 use Rattle.dotenvy_format.proofs.loads.LoadRuns.{run-goes_on}
 use Rattle.dotenvy_lines.proofs.Inputs.{ahead_of}
 use Rattle.dotenvy_lines.proofs.DroppedMarks.{Unmarks, unmarks}
-use Rattle.dotenvy_lines.proofs.LinesRead.{Read, TakesLine, Answers, line_taken, unnumbered-at_line, read_none}
+use Rattle.dotenvy_lines.proofs.LinesRead.{Read, TakesLine, Answers, file_line, line_taken, read_none}
 use Rattle.dotenvy_lines.proofs.LinesRead.{read_more, next_outcome}
 use Rattle.dotenvy_lines.proofs.AskedReads.{asks_line}
 
@@ -57,9 +57,9 @@ pub record Came {mode : Mode} {s : IterState} {old : Texts} (l : Load mode s old
     : Type 0 where
   pub start : LinesState
   pub unmarks : Unmarks l.ahead s.lines start
-  pub numbered : List (ℕ × Entry)
-  pub read : Read s.dialect (unmarked l.ahead) start numbered t
-  pub same : (more : List Entry) → runs mode s old (without_numbers numbered ++ more) ≡ runs mode s names more
+  pub lines : List FileLine
+  pub read : Read s.dialect (unmarked l.ahead) start lines t
+  pub same : (more : List Entry) → runs mode s old (entries_of lines ++ more) ≡ runs mode s names more
 
 -- what is left where a load came
 abbrev pub left_of : {mode : Mode} {s : IterState} {old names : Texts} {l : Load mode s old} {t : LinesState} →
@@ -82,7 +82,7 @@ came_start A {t = t} stage taken drops l =
     let dropped = unmarks A (stage ∙ l.opened) taken (drops l.ahead l.opened l.is_told) in record {
       start = t;
       unmarks = dropped;
-      numbered = [];
+      lines = [];
       read = read_none dropped.moves.is_left dropped.is_open;
       same = λ more. refl;
     }
@@ -120,9 +120,9 @@ came_line {A = A} {mode} {s} {names = names} {new} so_far answers is same loads 
       let front = outcome_entries outcome in record {
         start = k.start;
         unmarks = k.unmarks;
-        numbered = k.numbered ++ at_line (k.start.lines_taken + 1 + k.read.count) front;
+        lines = k.lines ++ file_line (k.start.lines_taken + 1 + k.read.count) line ∷ [];
         read = read_more k.read line;
-        same = λ more. simp (map-append, unnumbered-at_line, append_assoc) (k.same (front ++ more)
+        same = λ more. simp (flat_map-append, append_assoc) (k.same (front ++ more)
             ∙ same_load (run-goes_on mode (values_of names) (values_of new) (recalled_of s.remembered) outcome more
             (went_well A _ leaves.is_answer) leaves.values));
       }

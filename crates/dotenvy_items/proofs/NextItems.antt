@@ -1,24 +1,27 @@
 -- The next item: the lines that add nothing are passed, and the first that adds one gives it.
 use Rattle.std.proofs.Common.{ℕ, ◌≡◌, true, false, List, [], ◌∷◌, Option, Some, None, Result, Ok, Err}
-use Rattle.std.proofs.Common.{inl, inr, refl, string_bytes}
+use Rattle.std.proofs.Common.{inl, inr, refl, string_bytes, ◌+◌, ◌++◌}
+use Rattle.std.proofs.lemmas.Grind.{flat_map-append}
+use Rattle.std.proofs.lemmas.List.{map-append}
 use Rattle.std.specs.Prelude.{is_some}
 use Rattle.std.specs.Str.{chars}
 use Rattle.std.specs.declared.io.ErrorKind.TheVariants.{InvalidData}
 use Rattle.dotenvy_format.specs.declared.dialect.Dialect.{Dialect}
 use Rattle.dotenvy_base.specs.declared.errors.Error.{Error}
 use Rattle.dotenvy_base.specs.declared.errors.Error.TheVariants.{LineParse, Io, EnvVar, Nul, Memory}
-use Rattle.dotenvy_lines.specs.declared.lines.Stage.TheVariants.{Failed}
+use Rattle.dotenvy_lines.specs.declared.lines.Stage.TheVariants.{Failed, Open}
 use Rattle.dotenvy_format.specs.Entries.{Entry, Fails, LineParse as FailsLine, Io as FailsIo, outcome_entries}
 use Rattle.dotenvy_base.specs.Environment.{Texts}
 use Rattle.dotenvy_base.specs.Source.{Ahead}
 use Rattle.dotenvy_lines.specs.Input.{IsTold, IsFinal}
 use Rattle.dotenvy_lines.specs.Lines.{LinesState, GoesOn, no_line}
+use Rattle.dotenvy_lines.specs.Numbered.{FileLine, entries_of, logicals_of}
 use Rattle.dotenvy_lines.specs.Reading.{HasEntriesLeft}
 use Rattle.dotenvy_lines.specs.inside.NextLine.{IsUndecided, AdvanceIs}
 use Rattle.dotenvy_lines.specs.inside.Splitter.{SplitterState, last_lines}
 use Rattle.dotenvy_lines.proofs.Inputs.{ahead_of}
-use Rattle.dotenvy_lines.proofs.LinesRead.{Read, TakesLine, Answers, line_taken, lines_read, read_more}
-use Rattle.dotenvy_lines.proofs.LinesRead.{entries_left, read_decided, next_outcome}
+use Rattle.dotenvy_lines.proofs.LinesRead.{Read, TakesLine, Answers, file_line, line_taken, lines_read, read_more}
+use Rattle.dotenvy_lines.proofs.LinesRead.{entries_left, read_decided, read_none, next_outcome}
 use Rattle.dotenvy_lines.proofs.NumberedLines.{counts_more}
 use Rattle.dotenvy_items.specs.Iter.{IterState, state_of}
 use Rattle.dotenvy_items.specs.NextItem.{Item, ItemIs, NextItem, TakesEntry}
@@ -26,9 +29,16 @@ use Rattle.dotenvy_items.specs.Remembered.{Remembered}
 use Rattle.dotenvy_items.specs.inside.Reading.{ReadingState, reads_on}
 use Rattle.dotenvy_items.specs.inside.ItemStep.{lines_after, AddsEntries, IsRefused, AddsLine, GivesNext, item_lines_then}
 
--- from s on, lines that add nothing were passed
-abbrev pub Passed : Ahead → Dialect → LinesState → LinesState → Type 0
-Passed a dialect s t = Read dialect a s [] t
+-- from s on, lines that have no entry were passed
+pub record Passed (a : Ahead) (dialect : Dialect) (s t : LinesState) : Type 0 where
+  pub lines : List FileLine
+  pub read : Read dialect a s lines t
+  pub nothing : entries_of lines ≡ []
+
+-- no line was passed yet
+pub passed_none : {dialect : Dialect} {a : Ahead} {s : LinesState} → s.input.left ≡ Some a → s.stage ≡ Open →
+    Passed a dialect s s
+passed_none is_left is_open = record { lines = []; read = read_none is_left is_open; nothing = refl }
 
 -- what s is while it goes on, where the logical lines are these
 abbrev pub read_to : IterState → SplitterState → ReadingState
@@ -75,32 +85,41 @@ module _ {A : Type 0} {names : Texts} {a : Ahead} {s : IterState} {entries : Lis
     (has : HasEntriesLeft s.dialect a.fault a.bytes entries) (k : Passed a s.dialect s.lines t) where
   -- where a line was taken and its own entries added, an item came or the line was passed
   added : {v : LinesState} {remembered : Remembered} (front : List Entry) (item : Option (Item A)) →
-      TakesLine s.dialect (ahead_of k.left a.fault) t front v →
+      TakesLine s.dialect (ahead_of k.read.left a.fault) t front v →
       AddsEntries names s.remembered front item remembered → LeadsTo names a s entries item v remembered
-  added [] None line adds = record { gives = λ h. cc; passes = λ _. (read_more k line, adds) }
+  added [] None line adds =
+      let passed : Passed a s.dialect s.lines _ = record {
+        lines = k.lines ++ file_line (s.lines.lines_taken + 1 + k.read.count) line ∷ [];
+        read = read_more k.read line;
+        nothing = simp (flat_map-append, k.nothing);
+      } in
+      record { gives = λ h. cc; passes = λ _. (passed, adds) }
   added [] (Some item) line adds = absurd adds
   added (entry ∷ later) None line adds = absurd adds
   added (entry ∷ other ∷ later) (Some item) line (one, is, remembers) = cc
   added {v = v} (entry ∷ []) (Some item) line (one, is, remembers) =
-      let r = read_more k line in
-      let begins = counts_more s.lines.lines_taken k.count t.lines_taken 1 v.first_line k.counts line.counts.0 in
+      let r = read_more k.read line in
+      let only : entries_of (k.lines ++ file_line (s.lines.lines_taken + 1 + k.read.count) line ∷ []) ≡ entry ∷ [] =
+      simp (flat_map-append, k.nothing) in
+      let begins =
+      counts_more s.lines.lines_taken k.read.count t.lines_taken 1 v.first_line k.read.counts line.counts.0 in
       let after = entries_left r entries has in
       let taken : TakesEntry names a s entries entry (state_of v _ s.dialect (last_lines v)) = record {
         used = r.used;
         left = r.left;
         moves = r.moves;
         uses = record {
-          lines = k.lines;
-          before = k.count;
-          are_before = (lines_read k).0;
-          give = (lines_read k).1;
+          lines = logicals_of k.lines;
+          before = k.read.count;
+          are_before = (lines_read k.read).0;
+          give = rw k.nothing at (lines_read k.read).1;
           last = line.next;
           gives = line.gives;
-          uses = record { count = r.count; are_first = (lines_read r).0; rest = r.rest };
+          uses = record { count = r.count; are_first = rw map-append at (lines_read r).0; rest = r.rest };
         };
-        stays = elim r.stays [ inl ended ↦ inl ended | inr decide ↦ inr (λ more. (decide more).decide) ];
+        stays = elim r.stays [ inl ended ↦ inl ended | inr decide ↦ inr (λ more. rw only at (decide more).decide) ];
         later = after.0;
-        first = after.2;
+        first = rw only at after.2;
         has_left = after.1;
         stands = rw (goes_on_lines v line.goes_on) (begins, r.counts, r.counts);
         goes_on = line.goes_on;
@@ -111,12 +130,12 @@ module _ {A : Type 0} {names : Texts} {a : Ahead} {s : IterState} {entries : Lis
 
   -- a final fault is the next item, and the bytes before it decide no entry
   final_leads : {remembered : Remembered} (e : Error A) (m : LinesState) → m.stage ≡ Failed →
-      IsFinal (ahead_of k.left a.fault) t.input IsUndecided e m.input →
+      IsFinal (ahead_of k.read.left a.fault) t.input IsUndecided e m.input →
       LeadsTo names a s entries (Some (Err e)) (lines_after e m) remembered
   final_leads e m failed final =
       let stage = after_failed e m failed in record {
         gives = λ _. inr (
-          (stage, rw (after_input e m) (read_decided k e m.input final)),
+          (stage, rw (after_input e m) (rw k.nothing at (read_decided k.read e m.input final))),
           failed_lines (lines_after e m) stage,
         );
         passes = λ h. cc;
@@ -129,10 +148,10 @@ pub next_leads : {A : Type 0} {names : Texts} {a : Ahead} {s : IterState} {entri
     Answers p (Some line) m → AddsLine names (read_to s m) line item v →
     LeadsTo names a s entries item v.lines v.remembered
 next_leads {A} {names} {a} {s} {entries} {p} {item} told has k line m v answers adds =
-    at line adds (next_outcome told k answers)
+    at line adds (next_outcome told k.read answers)
   where
     at : (r : Result (Unit {0}) (Error A)) → AddsLine names (read_to s m) r item v →
-        AdvanceIs (ahead_of k.left a.fault) p.lines (Some r) m.line m.lines →
+        AdvanceIs (ahead_of k.read.left a.fault) p.lines (Some r) m.line m.lines →
         LeadsTo names a s entries item v.lines v.remembered
     at (Ok u) (inl refused) is = refused_leads item refused
     at (Ok u) (inr (outcome, says, adds, lines)) (inl taken) =

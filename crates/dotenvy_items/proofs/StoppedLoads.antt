@@ -37,7 +37,8 @@ use Rattle.dotenvy_items.specs.inside.ItemStep.{lines_after}
 use Rattle.dotenvy_items.specs.inside.LoadStep.{LoadIs, LoadsLine, stopped, stopped_if}
 use Rattle.dotenvy_lines.proofs.LinesRead.{TakesLine, Answers, line_taken, read_more, lines_read, entries_left}
 use Rattle.dotenvy_lines.proofs.LinesRead.{read_decided, next_outcome, read_end}
-use Rattle.dotenvy_lines.specs.Numbered.{without_numbers}
+use Rattle.dotenvy_lines.specs.Numbered.{entries_of, logicals_of}
+use Rattle.std.proofs.lemmas.Grind.{flat_map-append}
 use Rattle.std.proofs.lemmas.List.{map-append}
 use Rattle.dotenvy_items.proofs.LoadSteps.{Load, runs, same_load, Done, Came, CameTo, left_of, none_done}
 use Rattle.dotenvy_items.proofs.LoadSteps.{told_unmarked, takes_line}
@@ -71,7 +72,7 @@ abbrev loaded : {mode : Mode} {s : IterState} {old names : Texts} {l : Load mode
     Came l names t → Done l names
 loaded {l = l} k =
     let after = entries_left k.read l.entries l.has in
-    record { done = without_numbers k.numbered; later = after.0; split = after.2; same = k.same }
+    record { done = entries_of k.lines; later = after.0; split = after.2; same = k.same }
 
 module _ {mode : Mode} {s : IterState} {old names : Texts} {l : Load mode s old} where
   -- a load meets no error in the entries that are done
@@ -153,7 +154,7 @@ module _ {A : Type 0} {mode : Mode} {s : IterState} {old names : Texts} {l : Loa
       let fault = told_fault l.ahead.fault in
       let failed = is_failure e _ leaves.is_answer in
       let all : runs mode s old (l.entries ++ fault) ≡ runs mode s names (entry ∷ []) =
-      simp (after.2, map-append, append_assoc) (k.same (entry ∷ (after.0 ++ fault)) ∙ run-stops mode (values_of names)
+      simp (after.2, flat_map-append, append_assoc) (k.same (entry ∷ (after.0 ++ fault)) ∙ run-stops mode (values_of names)
       (recalled_of s.remembered) (entry ∷ []) (after.0 ++ fault) failed.0 failed.1) in
       record {
         read = l.entries ++ fault;
@@ -172,18 +173,18 @@ module _ {A : Type 0} {mode : Mode} {s : IterState} {old names : Texts} {l : Loa
           let first =
           counts_more k.start.lines_taken k.read.count t.lines_taken 1 m.first_line k.read.counts line.counts.0 in
           rw (same, goes_on_lines m line.goes_on) (record {
-            done = without_numbers k.numbered;
+            done = entries_of k.lines;
             entry = entry;
             stops = (loads_done (loaded k), rw (k.same (entry ∷ [])) leaves.is_answer);
             left = own.left;
             uses = record {
-              lines = k.read.lines;
+              lines = logicals_of k.lines;
               before = k.read.count;
               are_before = (lines_read k.read).0;
               give = (lines_read k.read).1;
               last = line.next;
               gives = line.gives;
-              uses = record { count = own.count; are_first = (lines_read own).0; rest = own.rest };
+              uses = record { count = own.count; are_first = rw map-append at (lines_read own).0; rest = own.rest };
             };
             is_left = own.moves.is_left;
             stands = (rw k.unmarks.taken at first, rw k.unmarks.taken at own.counts, rw k.unmarks.taken at own.counts);
@@ -209,7 +210,7 @@ module _ {A : Type 0} {mode : Mode} {s : IterState} {old names : Texts} {l : Loa
   ends_fault m e k (inr (failed, final)) =
       let decided = read_decided k.read e m.lines.input final in
       ends_final m.lines e (loaded k) failed
-      (final_marked (λ bytes. HasDecided s.dialect bytes (without_numbers k.numbered)) e m.lines.input
+      (final_marked (λ bytes. HasDecided s.dialect bytes (entries_of k.lines)) e m.lines.input
       k.unmarks decided)
   ends_fault m (error.LineParse text index) k (inl taken) =
       ends_line {entry = Fails (LineParse (chars (string_bytes text)) index)} k

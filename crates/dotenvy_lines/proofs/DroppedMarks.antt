@@ -12,6 +12,7 @@ use Rattle.dotenvy_base.specs.Source.{Ahead}
 use Rattle.dotenvy_lines.specs.declared.lines.Stage.TheVariants.{Open}
 use Rattle.dotenvy_lines.specs.Input.{InputState, Moves, IsFinal, DropsMark, begins_mark}
 use Rattle.dotenvy_lines.specs.Lines.{LinesState}
+use Rattle.dotenvy_lines.specs.inside.NextLine.{IsUndecided}
 use Rattle.dotenvy_lines.proofs.Inputs.{ahead_of, final_behind}
 use Rattle.dotenvy_format.specs.PhysicalLines.{line_texts}
 use Rattle.dotenvy_lines.proofs.LineEntries.{decided-none}
@@ -23,12 +24,14 @@ mark_undecided (b ∷ []) h = grind (arith, nat_tests)
 mark_undecided (b ∷ c ∷ []) h = grind (arith, nat_tests)
 mark_undecided (b ∷ c ∷ d ∷ bytes) h = absurd (grind (arith, nat_tests))
 
+-- the front of a mark has no complete line
+pub mark_incomplete : (bytes : List ℕ) → begins_mark bytes ≡ true → IsUndecided (without_mark bytes)
+mark_incomplete bytes begins count next some is = absurd (some (ap line_texts (mark_undecided bytes begins)))
+
 -- the front of a mark decides no entry
 pub mark_decides : (dialect : Dialect) (bytes : List ℕ) → begins_mark bytes ≡ true →
     HasDecided dialect (without_mark bytes) []
-mark_decides dialect bytes begins =
-    decided-none dialect (without_mark bytes)
-    (λ count next some none. absurd (some (ap line_texts (mark_undecided bytes begins))))
+mark_decides dialect bytes begins = decided-none dialect (without_mark bytes) (mark_incomplete bytes begins)
 
 -- what is used of bytes that may begin with a mark
 pub record Marked (bytes : List ℕ) : Type 0 where

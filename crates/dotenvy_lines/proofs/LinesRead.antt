@@ -4,7 +4,8 @@ use Rattle.std.proofs.Common.{append-nil, length-append, Option, Some, None, Res
 use Rattle.std.proofs.Common.{◌⊎◌, string_bytes}
 use Rattle.std.specs.Str.{chars}
 use Rattle.std.specs.declared.io.ErrorKind.TheVariants.{InvalidData}
-use Rattle.std.proofs.lemmas.List.{drop-drop, map-append}
+use Rattle.std.proofs.lemmas.Grind.{flat_map-append}
+use Rattle.std.proofs.lemmas.List.{drop-drop}
 use Rattle.std.proofs.lemmas.Option.{none-some}
 use Rattle.std.proofs.lemmas.Str.{chars-nil}
 use Rattle.dotenvy_base.specs.declared.errors.Error.{Error}
@@ -20,7 +21,7 @@ use Rattle.dotenvy_format.proofs.statements.Outcomes.{one_outcome}
 use Rattle.dotenvy_lines.specs.declared.lines.Stage.TheVariants.{Open, Ended}
 use Rattle.dotenvy_lines.specs.Input.{InputState, IsTold, IsFinal, Moves, end_reads}
 use Rattle.dotenvy_lines.specs.Lines.{LinesState, WhereOpen, whole_lines, IsAtEnd, Counts, GoesOn}
-use Rattle.dotenvy_lines.specs.Numbered.{at_line, without_numbers, AreNumbered, DecidesNumbered}
+use Rattle.dotenvy_lines.specs.Numbered.{FileLine, entries_of, logicals_of, AreNumbered, DecidesNumbered}
 use Rattle.dotenvy_lines.specs.Reading.{HasEntriesLeft}
 use Rattle.dotenvy_lines.specs.inside.NextLine.{lines_so_far, TakesNext, TakesOutcome, CountsLine, IsUndecided}
 use Rattle.dotenvy_lines.specs.inside.NextLine.{AdvanceIs}
@@ -72,81 +73,63 @@ line_taken A text (Err (error.Io e)) (count, takes, counts, goes_on) gives =
     takes_line Broken takes.1 counts goes_on gives
 line_taken A text (Err e) (count, takes, counts, goes_on) gives = absurd takes
 
--- entries on one line without their numbers
-pub unnumbered-at_line : {T : Type 0} (number : ℕ) (xs : List T) → without_numbers (at_line number xs) ≡ xs
-unnumbered-at_line number [] = refl
-unnumbered-at_line number (x ∷ xs) = rw (unnumbered-at_line number xs)
+-- a logical line that was taken, as a line of the file with this number
+abbrev pub file_line : {dialect : Dialect} {a : Ahead} {t m : LinesState} {front : List Entry} → ℕ →
+    TakesLine dialect a t front m → FileLine
+file_line {front = front} number line =
+    record { number = number; count = line.count; logical = line.next; entries = front }
 
--- with one more logical line, its entries follow, with the number of its first physical line
-numbered_more : (dialect : Dialect) (these : ℕ) (next : Logical) (front : List Entry) (number : ℕ)
-    (all : List (Option (List ℕ))) (count : ℕ) (lines : List Logical) (numbered : List (ℕ × Entry)) →
-    IsNext (drop count all) these next → Gives dialect next front →
-    AreNumbered dialect number all count lines numbered →
-    AreNumbered dialect number all (count + these) (lines ++ next ∷ []) (numbered ++ at_line (number + count) front)
-numbered_more dialect these next front number all count [] numbered is_next gives (none, empty) =
-    let same : number + count ≡ number = omega (arith, none) in (
-      these,
-      0,
-      front,
-      [],
-      rw none at is_next,
-      gives,
-      (refl, refl),
-      omega (arith, none),
-      rw (empty, same) (sym (append-nil _)),
-    )
-numbered_more dialect these next front number all count (first ∷ others) numbered is_next gives
-    (own, later, entries, after, is, gives_own, are, sum, joined) =
+-- with one more logical line, it follows the others, with the number of its first physical line
+numbered_more : (dialect : Dialect) (next : FileLine) (number : ℕ) (all : List (Option (List ℕ))) (count : ℕ)
+    (lines : List FileLine) → drop count all ≢ [] → IsNext (drop count all) next.count next.logical →
+    Gives dialect next.logical next.entries → next.number ≡ number + count →
+    AreNumbered dialect number all count lines →
+    AreNumbered dialect number all (count + next.count) (lines ++ next ∷ [])
+numbered_more dialect next number all count [] left is_next gives is none =
+    let same : number + count ≡ number = omega (arith, none) in
+    (rw none at left, 0, is ∙ same, rw none at is_next, gives, refl, omega (arith, none))
+numbered_more dialect next number all count (first ∷ others) left is_next gives is
+    (some, later, own, is_first, gives_first, are, sum) =
     let more =
-    numbered_more dialect these next front (number + own) (drop own all) later others after
-    (rw (sum, ← drop-drop later own all) at is_next) gives are in
-    let same : number + own + later ≡ number + count = omega (arith, sum) in (
-      own,
-      later + these,
-      entries,
-      after ++ at_line (number + count) front,
-      is,
-      gives_own,
-      rw same at more,
-      omega (arith, sum),
-      rw (joined, append_assoc),
-    )
+    numbered_more dialect next (number + first.count) (drop first.count all) later others
+    (rw (sum, ← drop-drop later first.count all) at left) (rw (sum, ← drop-drop later first.count all) at is_next) gives
+    (omega (arith, is, sum)) are in
+    (some, later + next.count, own, is_first, gives_first, more, omega (arith, sum))
 
 -- numbered lines are the first logical lines, and give their entries
-first_numbered : (dialect : Dialect) (number count : ℕ) (physical : List (Option (List ℕ))) (lines : List Logical)
-    (numbered : List (ℕ × Entry)) → AreNumbered dialect number physical count lines numbered →
-    AreFirstLines physical count lines × GiveAll dialect lines (without_numbers numbered)
-first_numbered dialect number count physical [] numbered are = (are.0, ap without_numbers are.1)
-first_numbered dialect number count physical (first ∷ others) numbered
-    (these, later, front, after, is, gives, are, sum, all) =
-    let rest = first_numbered dialect (number + these) later (drop these physical) others after are in (
-      (these, later, is, rest.0, sum),
-      (front, without_numbers after, gives, rest.1, simp (all, map-append, unnumbered-at_line)),
+first_numbered : (dialect : Dialect) (number count : ℕ) (physical : List (Option (List ℕ))) (lines : List FileLine) →
+    AreNumbered dialect number physical count lines →
+    AreFirstLines physical count (logicals_of lines) × GiveAll dialect (logicals_of lines) (entries_of lines)
+first_numbered dialect number count physical [] none = (none, refl)
+first_numbered dialect number count physical (first ∷ others) (some, later, own, is, gives, are, sum) =
+    let rest = first_numbered dialect (number + first.count) later (drop first.count physical) others are in (
+      (first.count, later, is, rest.0, sum),
+      (first.entries, entries_of others, gives, rest.1, refl),
     )
 
--- so many physical lines are these logical lines, with these numbered entries, and the rest follow
-pub record Begins (dialect : Dialect) (number : ℕ) (lines : List Logical) (count : ℕ) (numbered : List (ℕ × Entry))
+-- so many physical lines are these lines of a file, and the rest follow
+pub record Begins (dialect : Dialect) (number : ℕ) (count : ℕ) (lines : List FileLine)
     (all rest : List (Option (List ℕ))) : Type 0 where
-  pub are : AreNumbered dialect number all count lines numbered
+  pub are : AreNumbered dialect number all count lines
   pub rest_is : rest ≡ drop count all
 
 -- with one more logical line, the rest are those after it
-pub begins_more : {dialect : Dialect} {number count : ℕ} {lines : List Logical} {numbered : List (ℕ × Entry)}
-    {all left rest : List (Option (List ℕ))} (these : ℕ) (next : Logical) (front : List Entry) →
-    Begins dialect number lines count numbered all left → IsNext left these next → Gives dialect next front →
-    rest ≡ drop these left →
-    Begins dialect number (lines ++ next ∷ []) (count + these) (numbered ++ at_line (number + count) front) all rest
-begins_more {dialect} {number} {count} {lines} {numbered} {all} these next front b is_next gives rest_is = record {
-  are = numbered_more dialect these next front number all count lines numbered (rw b.rest_is at is_next) gives b.are;
-  rest_is = rest_is ∙ rw b.rest_is (drop-drop these count all);
+pub begins_more : {dialect : Dialect} {number count : ℕ} {lines : List FileLine}
+    {all left rest : List (Option (List ℕ))} (next : FileLine) → Begins dialect number count lines all left → left ≢ [] →
+    IsNext left next.count next.logical → Gives dialect next.logical next.entries → next.number ≡ number + count →
+    rest ≡ drop next.count left → Begins dialect number (count + next.count) (lines ++ next ∷ []) all rest
+begins_more {dialect} {number} {count} {lines} {all} next b some is_next gives is rest_is = record {
+  are =
+      numbered_more dialect next number all count lines (rw b.rest_is at some) (rw b.rest_is at is_next) gives is b.are;
+  rest_is = rest_is ∙ rw b.rest_is (drop-drop next.count count all);
 }
 
--- the complete lines of the bytes begin so, and decide these entries, then what the bytes after them decide
-pub record Decides (dialect : Dialect) (number : ℕ) (lines : List Logical) (count : ℕ) (numbered : List (ℕ × Entry))
-    (bytes more : List ℕ) : Type 0 where
-  pub begins : Begins dialect number lines count numbered (lines_so_far bytes) (lines_so_far more)
+-- the complete lines of the bytes begin so, and decide their entries, then what the bytes after them decide
+pub record Decides (dialect : Dialect) (number : ℕ) (count : ℕ) (lines : List FileLine) (bytes more : List ℕ)
+    : Type 0 where
+  pub begins : Begins dialect number count lines (lines_so_far bytes) (lines_so_far more)
   pub decide : (decided : List Entry) → HasDecided dialect more decided →
-      HasDecided dialect bytes (without_numbers numbered ++ decided)
+      HasDecided dialect bytes (entries_of lines ++ decided)
 
 -- a splitter at p answers so, and comes to m
 pub record Answers {A : Type 0} (p : SplitterState) (answer : Option (Result (Unit {0}) (Error A))) (m : SplitterState)
@@ -160,22 +143,20 @@ pub answers : {A : Type 0} {p m : SplitterState} {answer : Option (Result (Unit 
     WhereOpen p.lines (λ a. AdvanceIs a p.lines answer m.line m.lines) → Answers p answer m
 answers shut told = record { shut = shut; told = told }
 
--- from s on, where a is told, logical lines were taken, which have these entries, numbered as their physical lines are
--- counted from s, and t has what follows; unless the end was read, the bytes used are these lines whatever follows
-pub record Read (dialect : Dialect) (a : Ahead) (s : LinesState) (numbered : List (ℕ × Entry)) (t : LinesState)
+-- from s on, where a is told, these logical lines were taken, numbered as their physical lines are counted from s, and
+-- t has what follows; unless the end was read, the bytes used are these lines whatever follows
+pub record Read (dialect : Dialect) (a : Ahead) (s : LinesState) (lines : List FileLine) (t : LinesState)
     : Type 0 where
   pub used : List ℕ
   pub left : List ℕ
   pub moves : Moves a s.input used left t.input
-  pub lines : List Logical
   pub count : ℕ
-  pub begins : Begins dialect (s.lines_taken + 1) lines count numbered (whole_lines a)
-      (whole_lines (ahead_of left a.fault))
+  pub begins : Begins dialect (s.lines_taken + 1) count lines (whole_lines a) (whole_lines (ahead_of left a.fault))
   pub rest : physical_lines left ≡ drop count (physical_lines a.bytes)
   pub stays : IsAtEnd a.fault left t.input
-      ⊎ ((more : List ℕ) → Decides dialect (s.lines_taken + 1) lines count numbered (used ++ more) more)
+      ⊎ ((more : List ℕ) → Decides dialect (s.lines_taken + 1) count lines (used ++ more) more)
   pub entries : (after : List Entry) → HasEntriesLeft dialect a.fault left after →
-      HasEntriesLeft dialect a.fault a.bytes (without_numbers numbered ++ after)
+      HasEntriesLeft dialect a.fault a.bytes (entries_of lines ++ after)
   pub goes_on : GoesOn t
   pub counts : Counts s.lines_taken count t.lines_taken
 
@@ -186,31 +167,29 @@ read_none {a = a} {s = s} is_left is_open = record {
   used = [];
   left = a.bytes;
   moves = moves_none a s.input is_left;
-  lines = [];
   count = 0;
-  begins = record { are = (refl, refl); rest_is = refl };
+  begins = record { are = refl; rest_is = refl };
   rest = refl;
-  stays = inr (λ more.
-      record { begins = record { are = (refl, refl); rest_is = refl }; decide = λ decided has. has });
+  stays = inr (λ more. record { begins = record { are = refl; rest_is = refl }; decide = λ decided has. has });
   entries = λ after has. has;
   goes_on = inl is_open;
   counts = counts_none s.lines_taken;
 }
 
-module _ {dialect : Dialect} {a : Ahead} {s t : LinesState} {numbered : List (ℕ × Entry)}
-    (k : Read dialect a s numbered t) where
+module _ {dialect : Dialect} {a : Ahead} {s t : LinesState} {lines : List FileLine}
+    (k : Read dialect a s lines t) where
   -- one more logical line is taken, and its entries follow
   abbrev pub read_more : {front : List Entry} {m : LinesState} →
-      TakesLine dialect (ahead_of k.left a.fault) t front m →
-      Read dialect a s (numbered ++ at_line (s.lines_taken + 1 + k.count) front) m
+      (line : TakesLine dialect (ahead_of k.left a.fault) t front m) →
+      Read dialect a s (lines ++ file_line (s.lines_taken + 1 + k.count) line ∷ []) m
   read_more {front} {m} line =
-      let takes = line.takes in record {
+      let takes = line.takes in
+      let next = file_line (s.lines_taken + 1 + k.count) line in record {
         used = k.used ++ takes.used;
         left = takes.left;
         moves = moves_both k.moves takes.moves;
-        lines = k.lines ++ line.next ∷ [];
         count = k.count + line.count;
-        begins = begins_more line.count line.next front k.begins takes.is_next line.gives takes.later;
+        begins = begins_more next k.begins takes.some takes.is_next line.gives refl takes.later;
         rest = takes.rest ∙ rw k.rest (drop-drop line.count k.count (physical_lines a.bytes));
         stays = elim takes.stays [
           | inl ended ↦ inl ended
@@ -219,27 +198,28 @@ module _ {dialect : Dialect} {a : Ahead} {s t : LinesState} {numbered : List (�
             | inr decide ↦ inr (λ more.
                 let d = decide (takes.used ++ more) in
                 let n = always.1 more in rw append_assoc (record {
-                  begins = begins_more line.count line.next front d.begins n.1 line.gives (sym n.2);
-                  decide = λ decided has. simp (map-append, unnumbered-at_line, append_assoc)
+                  begins = begins_more next d.begins n.0 n.1 line.gives refl (sym n.2);
+                  decide = λ decided has. simp (flat_map-append, append_assoc)
                       (d.decide (front ++ decided)
                       (decided-next dialect takes.used more line.count line.next front decided always.0 always.1
                       line.gives has));
                 }))
           ]
         ];
-        entries = λ after has. simp (map-append, unnumbered-at_line, append_assoc)
+        entries = λ after has. simp (flat_map-append, append_assoc)
             (k.entries (front ++ after) (left_next dialect a.fault front after takes line.gives has));
         goes_on = line.goes_on;
         counts = counts_more s.lines_taken k.count t.lines_taken line.count m.lines_taken k.counts line.counts.1;
       }
 
   -- the logical lines that were read are the first ones, and give the entries that were read
-  pub lines_read : AreFirstLines (whole_lines a) k.count k.lines × GiveAll dialect k.lines (without_numbers numbered)
-  lines_read = first_numbered dialect (s.lines_taken + 1) k.count (whole_lines a) k.lines numbered k.begins.are
+  pub lines_read : AreFirstLines (whole_lines a) k.count (logicals_of lines)
+      × GiveAll dialect (logicals_of lines) (entries_of lines)
+  lines_read = first_numbered dialect (s.lines_taken + 1) k.count (whole_lines a) lines k.begins.are
 
   -- the entries that are left are those that were read, and then others, which t has left
   pub entries_left : (entries : List Entry) → HasEntriesLeft dialect a.fault a.bytes entries →
-      (after : List Entry) × HasEntriesLeft dialect a.fault k.left after × (entries ≡ without_numbers numbered ++ after)
+      (after : List Entry) × HasEntriesLeft dialect a.fault k.left after × (entries ≡ entries_of lines ++ after)
   entries_left entries has =
       let after = left_exists dialect a.fault k.left in
       (after.0, after.1, left_once dialect a.fault a.bytes entries _ has (k.entries after.0 after.1))
@@ -247,16 +227,16 @@ module _ {dialect : Dialect} {a : Ahead} {s t : LinesState} {numbered : List (�
   -- a final fault comes after bytes that decide the entries that were read, and no other
   pub read_final : {A : Type 0} (e : Error A) (m : InputState) →
       IsFinal (ahead_of k.left a.fault) t.input IsUndecided e m →
-      IsFinal a s.input (λ bytes. DecidesNumbered dialect (s.lines_taken + 1) bytes numbered) e m
+      IsFinal a s.input (λ bytes. DecidesNumbered dialect (s.lines_taken + 1) bytes lines) e m
   read_final e m =
-      final_before a s.input t.input m IsUndecided (λ bytes. DecidesNumbered dialect (s.lines_taken + 1) bytes numbered)
+      final_before a s.input t.input m IsUndecided (λ bytes. DecidesNumbered dialect (s.lines_taken + 1) bytes lines)
       k.used k.left e k.moves.joins k.moves.reads
       (λ kind front later cut why undecided. elim k.stays [
         | inr decide ↦
             let d = decide front in record {
-              lines = k.lines;
               count = k.count;
               are = d.begins.are;
+              rest = rw d.begins.rest_is at undecided;
               decided = rw append-nil at (d.decide [] (decided-none dialect front undecided));
             }
         | inl (no_fault, no_byte, at_end) ↦ elim why [
@@ -271,13 +251,13 @@ module _ {dialect : Dialect} {a : Ahead} {s t : LinesState} {numbered : List (�
   -- and these decide the entries that were read
   pub read_decided : {A : Type 0} (e : Error A) (m : InputState) →
       IsFinal (ahead_of k.left a.fault) t.input IsUndecided e m →
-      IsFinal a s.input (λ bytes. HasDecided dialect bytes (without_numbers numbered)) e m
+      IsFinal a s.input (λ bytes. HasDecided dialect bytes (entries_of lines)) e m
   read_decided e m final =
-      final_weaker a s.input m (λ bytes. DecidesNumbered dialect (s.lines_taken + 1) bytes numbered) _ e
+      final_weaker a s.input m (λ bytes. DecidesNumbered dialect (s.lines_taken + 1) bytes lines) _ e
       (λ bytes decides. decides.decided) (read_final e m final)
 
-module _ {A : Type 0} {dialect : Dialect} {a : Ahead} {s : LinesState} {numbered : List (ℕ × Entry)}
-    {p m : SplitterState} (told : IsTold s.input.left a) (k : Read dialect a s numbered p.lines) where
+module _ {A : Type 0} {dialect : Dialect} {a : Ahead} {s : LinesState} {lines : List FileLine}
+    {p m : SplitterState} (told : IsTold s.input.left a) (k : Read dialect a s lines p.lines) where
   -- an outcome that the splitter gives is that of the next line of what is left
   pub next_outcome : {outcome : Result (Unit {0}) (Error A)} → Answers p (Some outcome) m →
       AdvanceIs (ahead_of k.left a.fault) p.lines (Some outcome) m.line m.lines

@@ -8,9 +8,9 @@ use Rattle.dotenvy_lines.specs.Reading.{HasEntriesLeft}
 use Rattle.dotenvy_items.specs.inside.Reading.{reads_on}
 use Rattle.dotenvy_lines.proofs.AskedReads.{asks_none, asks_weaker}
 use Rattle.dotenvy_items.proofs.LoadSteps.{asks_next}
-use Rattle.dotenvy_lines.proofs.LinesRead.{answers, read_none, entries_left, read_end}
+use Rattle.dotenvy_lines.proofs.LinesRead.{answers, entries_left, read_end}
 use Rattle.dotenvy_lines.proofs.LineEntries.{left_exists, left_once, left-none}
-use Rattle.dotenvy_items.proofs.NextItems.{LeadsTo, next_leads}
+use Rattle.dotenvy_items.proofs.NextItems.{LeadsTo, next_leads, passed_none}
 use Rattle.dotenvy_items.proofs.iter.Reading.next.Given as given
 use Rattle.dotenvy_items.proofs.iter.Reading.next.Goals as goal
 use Rattle.dotenvy_items.proofs.iter.Reading.next.Goals.{After-is_some}
@@ -47,7 +47,7 @@ pub lines-init : goal.lines-init
 lines-init g c = record {
   falls = search rules;
   shut = λ shut. refl;
-  passed = λ is_open a told. (read_none told.0 is_open, refl);
+  passed = λ is_open a told. (passed_none told.0 is_open, refl);
   dialect = refl;
   asks = asks_none _ c.args.self.now.lines.input c.args.self.now.lines.input refl refl refl refl;
 }
@@ -80,10 +80,10 @@ returns-clause-next g c = λ before.
     let invariant = rw (← c.self.view_is) at c.lines.invariant in (
       λ is_open a told entries has.
           let (passed, same) = invariant.passed is_open a told in
-          let after = entries_left passed entries has in
-          let e = read_end told passed (answers c.in_default.ensures.shut c.in_default.ensures.told) in
-          let none = left_once _ a.fault passed.left after.0 [] after.1 (left-none _ a.fault passed.left e.0 e.1) in
-          (after.2 ∙ none, e.1, e.2, refl),
+          let after = entries_left passed.read entries has in
+          let e = read_end told passed.read (answers c.in_default.ensures.shut c.in_default.ensures.told) in
+          let none = left_once _ a.fault passed.read.left after.0 [] after.1 (left-none _ a.fault passed.read.left e.0 e.1) in
+          ((rw passed.nothing at after.2) ∙ none, e.1, e.2, refl),
       λ shut.
           let same = invariant.shut shut in
           let end = c.in_default.ensures.shut (λ opened. shut cc) in (refl, rw (end.1, ← same)),
