@@ -1,0 +1,7 @@
+mod CharacterBytes
+mod CleanWatches
+pub mod FaultKinds
+pub mod MarkKinds
+mod PlacedWatches
+mod TextWatches
+mod Watches

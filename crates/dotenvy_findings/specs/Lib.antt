@@ -1,0 +1,15 @@
+pub mod Bytes
+pub mod Causes
+pub mod Characters
+pub mod Cursors
+pub mod Kinds
+pub mod Laws
+pub mod LineTexts
+pub mod Marks
+pub mod Named
+pub mod Names
+pub mod Opens
+pub mod Places
+pub mod Readings
+pub mod States
+pub mod Worked
