@@ -1,0 +1,12 @@
+pub mod Formats
+pub mod Github
+pub mod JsonLines
+pub mod Laws
+pub mod OneLine
+pub mod Reports
+pub mod Sarif
+pub mod Severities
+pub mod Texts
+pub mod Told
+pub mod Uris
+pub mod inside
