@@ -8,8 +8,9 @@ use std::io;
 use std::process::ExitCode;
 
 fn main(rt: HostRuntime) -> ExitCode {
-    run_program(
-        &rt,
-        |words| run(&rt, words, &mut Plain::new(io::writer(&rt))),
-    )
+    run_program(&rt, "dotenvy_check: ", 2, |words| {
+        let mut reader = Plain::new(rt.reader());
+        let mut writer = Plain::new(io::writer(&rt));
+        run(&rt, rt.alloc(), words, &mut reader, &mut writer)
+    })
 }

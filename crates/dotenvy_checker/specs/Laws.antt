@@ -1,5 +1,5 @@
--- The laws of checks: numbers change no entry, and no fault is found exactly where a load meets
--- none.
+-- The laws of checks: the lines of a file are there once, no error is found exactly where a load
+-- meets no fault, and what is found is decided by the bytes.
 use Rattle.std.specs.Prelude.{ℕ, ◌≡◌, false, List, Result, Ok, Err}
 use Rattle.std.specs.List.{list_any}
 use Rattle.dotenvy_base.specs.Environment.{Texts}
@@ -7,34 +7,34 @@ use Rattle.dotenvy_base.specs.Errors.{IsMemoryErr}
 use Rattle.dotenvy_base.specs.Source.{Ahead, SinkTold}
 use Rattle.dotenvy_base.specs.declared.errors.Error.{Error}
 use Rattle.dotenvy_format.specs.declared.dialect.Dialect.{Dialect}
-use Rattle.dotenvy_format.specs.Entries.{Failure, Entry, HasEntries, LineParse, Io, Nul, Memory}
+use Rattle.dotenvy_format.specs.Entries.{Failure, HasEntries, LineParse, Io, Nul, Memory}
 use Rattle.dotenvy_format.specs.Items.{LookUp}
 use Rattle.dotenvy_format.specs.Loads.{load_result, override_result}
+use Rattle.dotenvy_findings.specs.declared.finding.Finding.{Finding}
+use Rattle.dotenvy_findings.specs.Readings.{Known}
 use Rattle.dotenvy_items.specs.Iter.{IterState}
 use Rattle.dotenvy_items.specs.Iteration.{CanRead}
 use Rattle.dotenvy_items.specs.LoadsRest.{IsAnswer, LoadsRest, Rule}
+use Rattle.dotenvy_lines.specs.Numbered.{FileLine, entries_of, HasNumbered, DecidesNumbered}
 use Rattle.dotenvy_checker.specs.declared.report.Found.{Found}
-use Rattle.dotenvy_lines.specs.Numbered.{without_numbers, HasNumbered, DecidesNumbered}
-use Rattle.dotenvy_checker.specs.Findings.{Names, is_fault, findings}
 use Rattle.dotenvy_checker.specs.Checks.{Reports}
+use Rattle.dotenvy_checker.specs.Findings.{AreRows, Row, Setting, findings, is_error, lines_of}
 
--- bytes whose first physical line has this number have one list of numbered entries, and only one;
--- without their numbers these are the entries of the bytes
+-- bytes whose first physical line has this number have one list of lines, and only one, and the
+-- entries of these lines are the entries of the bytes
 abbrev pub HasOneNumbering : Type 0
 HasOneNumbering =
     (dialect : Dialect) (number : ℕ) (bytes : List ℕ) →
-    (numbered : List (ℕ × Entry)) × HasNumbered dialect number bytes numbered
-    × HasEntries dialect bytes (without_numbers numbered)
-    × ((others : List (ℕ × Entry)) → HasNumbered dialect number bytes others → others ≡ numbered)
+    (lines : List FileLine) × HasNumbered dialect number bytes lines
+    × HasEntries dialect bytes (entries_of lines)
+    × ((others : List FileLine) → HasNumbered dialect number bytes others → others ≡ lines)
 
--- such bytes decide one list of numbered entries, and only one; without their numbers these are the
--- entries that the bytes decide, as `DecidesNumbered` says
+-- such bytes decide one list of lines, and only one
 abbrev pub HasOneNumberedDecision : Type 0
 HasOneNumberedDecision =
     (dialect : Dialect) (number : ℕ) (bytes : List ℕ) →
-    (numbered : List (ℕ × Entry)) × DecidesNumbered dialect number bytes numbered
-    × ((others : List (ℕ × Entry)) → DecidesNumbered dialect number bytes others →
-    others ≡ numbered)
+    (lines : List FileLine) × DecidesNumbered dialect number bytes lines
+    × ((others : List FileLine) → DecidesNumbered dialect number bytes others → others ≡ lines)
 
 -- a load returned Ok, or stopped at a value with a NUL
 abbrev pub IsOkOrNul : Result (Unit {0}) Failure → Type 0
@@ -44,24 +44,26 @@ IsOkOrNul (Err (Io kind)) = ⊥
 IsOkOrNul (Err (Nul key)) = Unit {0}
 IsOkOrNul (Err Memory) = ⊥
 
--- no fault is among the findings of these entries
-abbrev pub HasNoFault : Names → List (ℕ × Entry) → Type 0
-HasNoFault names numbered = list_any is_fault (without_numbers (findings names numbered)) ≡ false
+-- no error is among the findings of these lines and of the guesses behind them
+abbrev pub HasNoError : Setting → List Row → Type 0
+HasNoError setting rows = list_any is_error (findings setting rows) ≡ false
 
--- into every environment, and whatever is remembered, a load of these entries by this rule returns
--- Ok only if no fault is found; and if none is found, it returns Ok, or stops at a NUL
-abbrev pub LoadsIfNoFault : Rule → Names → List (ℕ × Entry) → Type 0
-LoadsIfNoFault rule names numbered =
+-- into every environment, and whatever is remembered, a load of the entries of these lines by this
+-- rule returns Ok only if no error is found; and if none is found, it returns Ok, or stops at a NUL
+abbrev pub LoadsIfNoError : Rule → Setting → List Row → Type 0
+LoadsIfNoError rule setting rows =
     (env remembered : LookUp) →
-    ((rule env remembered (without_numbers numbered)).answer ≡ Ok tt → HasNoFault names numbered)
-    × (HasNoFault names numbered → IsOkOrNul (rule env remembered (without_numbers numbered)).answer)
+    ((rule env remembered (entries_of (lines_of rows))).answer ≡ Ok tt → HasNoError setting rows)
+    × (HasNoError setting rows →
+    IsOkOrNul (rule env remembered (entries_of (lines_of rows))).answer)
 
--- where no value has a NUL, no fault is found exactly where both loads return Ok, whatever the
--- environment
+-- where no value has a NUL, no error is found in a file exactly where both loads of it return Ok,
+-- whatever the environment, and whatever the guesses are
 abbrev pub FaultsStopLoads : Type 0
 FaultsStopLoads =
-    (names : Names) (numbered : List (ℕ × Entry)) →
-    LoadsIfNoFault load_result names numbered × LoadsIfNoFault override_result names numbered
+    (setting : Setting) (number : ℕ) (bytes : List ℕ) (rows : List Row) →
+    setting.is_guess ≡ false → HasNumbered setting.dialect number bytes (lines_of rows) →
+    LoadsIfNoError load_result setting rows × LoadsIfNoError override_result setting rows
 
 -- the result of a load says that it returned Ok, or that it stopped at a value with a NUL
 abbrev pub SaysOkOrNul : {A : Type 0} → Result (Unit {0}) (Error A) → Type 0
@@ -73,7 +75,7 @@ pub record CheckedAndLoaded {A W : Type 0} (rule : Rule) (sink : W → SinkTold)
     (found : Found) (answer : Result (Unit {0}) (Error A)) : Type 0 where
   pub checked : IterState
   pub file : List ℕ
-  pub names : Names
+  pub names : Known
   pub before : W
   pub after : W
   pub reports : Reports {A = A} sink file names checked a before (Ok found) after
@@ -96,3 +98,16 @@ LoadsChecked rule A W =
 -- both loads take what a check found no fault in
 abbrev pub CheckedFilesLoad : Type 0 → Type 0 → Type 0
 CheckedFilesLoad A W = LoadsChecked load_result A W × LoadsChecked override_result A W
+
+-- these are the findings of bytes whose first physical line has this number
+abbrev pub AreFindings : Setting → ℕ → List ℕ → List Finding → Type 0
+AreFindings setting number bytes found =
+    (rows : List Row) × HasNumbered setting.dialect number bytes (lines_of rows)
+    × AreRows setting.dialect rows × (found ≡ findings setting rows)
+
+-- bytes whose first physical line has this number have one list of findings, and only one
+abbrev pub FindingsOnce : Type 0
+FindingsOnce =
+    (setting : Setting) (number : ℕ) (bytes : List ℕ) →
+    (found : List Finding) × AreFindings setting number bytes found
+    × ((others : List Finding) → AreFindings setting number bytes others → others ≡ found)

@@ -2,6 +2,8 @@ pub mod Findings
 pub mod Report
 pub mod Checks
 pub mod Words
+pub mod WorkedWords
+pub mod Help
 pub mod Answers
 pub mod Laws
 pub mod inside

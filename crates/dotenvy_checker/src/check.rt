@@ -1,7 +1,6 @@
 //! Checks one file, over any reader and writer.
 
 ghost use Rattle.std.specs.Prelude.{◌≡◌, [], IfOk};
-ghost use Rattle.std.specs.Str.{chars};
 ghost use Rattle.dotenvy_base.specs.Source.{Ahead};
 ghost use Rattle.dotenvy_items.specs.Iter.{IsOpen, TellsLeft};
 ghost use Rattle.dotenvy_checker.specs.Checks.{found_in, names_in, FewLines, Reports};
@@ -9,6 +8,8 @@ ghost use Rattle.dotenvy_checker.specs.Checks.{found_in, names_in, FewLines, Rep
 use crate::failure::Stop;
 use crate::lines::Checker;
 pub use crate::report::Found;
+use crate::report::report_of;
+pub use crate::watched::Watched;
 use dotenvy::{Environment, Iter, Sink, Source};
 use dotenvy_base::output::{MOST_WRITES, write_all};
 use dotenvy_items::iter::into_lines;
@@ -16,28 +17,28 @@ use dotenvy_items::meaning::Names;
 use std::alloc::Allocator;
 use std::collections::HashMap;
 
-/// Checks what is left of a file, and writes a line for each finding: `NAME:LINE: error: TEXT` or
-/// `NAME:LINE: warning: TEXT`.
+/// Checks what is left of a file, and writes a line for each finding: `NAME:LINE:COL: error: MESSAGE [KIND]` or
+/// `NAME:LINE:COL: warning: MESSAGE [KIND]`.
 ///
-/// LINE is the first physical line of the finding's logical line, counted from 1. A name has a value if this
-/// environment has it, or the file declares it before. Nothing is set, and no value is written but as a part of a
-/// faulty line.
+/// LINE is a physical line and COL a character of it, both counted from 1: where the hand has to go. A name has a value
+/// if this environment has it, or the file declares it before. Nothing is set, and no byte of a value or of a faulty
+/// text is written. What follows a quote that stays open is told as if the quote had not been opened, as a warning that
+/// counts for nothing.
 ///
 /// ```
-/// let file = Iter::new(alloc, Bytes::new(b"A=1\nB=two words\nC=$X\n"))?;
+/// let file = Iter::new(alloc, Watched::new(alloc, Bytes::new(b"A=1\nB=two words\nC=$X\n")))?;
 /// let found = check(file, "a.env", &environment, &mut writer)?;
-/// // a.env:2: error: Error parsing line: 'two words', error at line index: 4
-/// // a.env:3: warning: 'X' has no value here; write \$ for a dollar
+/// // a.env:2:6: error: a value with a space needs quotes; put it in double quotes [space-in-value]
+/// // a.env:3:3: warning: the name after this dollar has no value; .. [unknown-name]
 /// ```
 pub fn check<R: Source + Drop, W: Sink, A: Allocator + Clone>(
-    file: Iter<R, A>,
+    file: Iter<Watched<R, A>, A>,
     name: &str,
     env: &Environment<A>,
     writer: &mut W,
 ) -> Result<Found, Stop<A>>
     ensures reports { IsOpen file → (a : Ahead) → TellsLeft file a → FewLines file.lines a →
-        Reports W.told (chars name.now) (names_in env.now.names) file a writer.old result
-        writer.new }
+        Reports W.told name.now (names_in env.now.names) file a writer.old result writer.new }
     ensures shut { ¬ (IsOpen file) → IfOk result (λ found. found ≡ found_in []) }
 {
     let (mut lines, dialect) = into_lines(file);
@@ -47,13 +48,15 @@ pub fn check<R: Source + Drop, W: Sink, A: Allocator + Clone>(
         env,
         remembered: &remembered,
     };
-    let mut checker = Checker::new(alloc, name, names, dialect)?;
+    let mut checker = Checker::new(alloc.clone()?, names, dialect)?;
     let fault = checker.check_all(&mut lines)?;
-    if let Err(unwritten) = write_all(writer, checker.report.text.as_bytes(), MOST_WRITES) {
+    let bad = lines.into_reader().finish()?;
+    let (report, found) = report_of(alloc, name, &checker, bad.found())?;
+    if let Err(unwritten) = write_all(writer, report.as_bytes(), MOST_WRITES) {
         return Err(Stop::Write(unwritten));
     }
     match fault {
-        None => Ok(checker.report.found),
+        None => Ok(found),
         Some(fault) => Err(Stop::Read(fault)),
     }
 }

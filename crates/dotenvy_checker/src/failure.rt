@@ -1,5 +1,9 @@
 //! Why a check stops before it has checked all files, and what the program prints of it.
 
+ghost use Rattle.std.specs.Prelude.{◌≡◌};
+ghost use Rattle.dotenvy_checker.specs.Answers.{mistake_text};
+
+use clap::error::ErrorKind;
 use dotenvy::Error;
 use std::alloc::{AllocError, AllocFailed, Allocator, Global};
 use std::fmt;
@@ -30,12 +34,22 @@ impl<A: Allocator> From<AllocError> for Stop<A> {
 #[derive(Drop)]
 #[derive_where(Debug)]
 pub enum Failure<A: Allocator = Global> {
-    /// This word begins with `-`, and is no option of the program.
-    UnknownOption(String<A>),
+    /// The words are refused: why, and the first word that is refused, as it is printed.
+    Usage(ErrorKind, String<A>),
     /// The report could not be written.
     Write(Error<A>),
     /// An allocation failed.
     Memory(AllocError),
+}
+
+// What is said of a mistake in the words, before the word that has it.
+fn mistake_text(kind: ErrorKind) -> &'static str
+    ensures { result.now ≡ mistake_text kind }
+{
+    match kind {
+        ErrorKind::TooManyValues => "unexpected value in",
+        _ => "unknown option",
+    }
 }
 
 impl<A: Allocator> fmt::Display for Failure<A> {
@@ -45,7 +59,10 @@ impl<A: Allocator> fmt::Display for Failure<A> {
 
     fn fmt<W: fmt::Write>(&self, f: &mut fmt::Formatter<W>) -> fmt::Result {
         match self {
-            Failure::UnknownOption(word) => write!(f, "error: unknown option '{word}'"),
+            Failure::Usage(kind, word) => {
+                let mistake = mistake_text(*kind);
+                write!(f, "error: {mistake} '{word}'; try 'dotenvy_check --help'")
+            }
             Failure::Write(error) => write!(f, "error: {error}"),
             Failure::Memory(_) => write!(f, "error: out of memory"),
         }

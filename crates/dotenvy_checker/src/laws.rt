@@ -1,25 +1,26 @@
 //! Laws of checks. A law is the contract of a function that does nothing.
 
-ghost use Rattle.dotenvy_checker.specs.Laws.{CheckedFilesLoad, FaultsStopLoads, HasOneNumberedDecision, HasOneNumbering};
+ghost use Rattle.dotenvy_checker.specs.Laws.{CheckedFilesLoad, FaultsStopLoads, FindingsOnce};
+ghost use Rattle.dotenvy_checker.specs.Laws.{HasOneNumberedDecision, HasOneNumbering};
+ghost use Rattle.dotenvy_checker.specs.WorkedWords.{WorkedWords};
 
 use dotenvy::Sink;
 use std::alloc::Allocator;
 
-/// The entries of a file, each with the number of its line, are its entries if the numbers are left out.
-///
-/// A file has them once: no other numbered list is that of the same bytes.
+/// A file has one list of lines, with their numbers and their entries, and these are the entries of the file.
 pub fn one_numbering()
     ensures { HasOneNumbering }
 {}
 
-/// A file that can be read only in part decides one list of entries with the numbers of their lines, and no other.
+/// A file that can be read only in part decides one list of lines, with their numbers and their entries.
 pub fn one_numbered_decision()
     ensures { HasOneNumberedDecision }
 {}
 
-/// Where no value has a NUL, no fault is found in a file exactly if both loads of it return Ok.
+/// Where no value has a NUL, no error is found in a file exactly if both loads of it return Ok.
 ///
-/// The environment and the remembered values may be any. A warning stops no load.
+/// The environment and the remembered values may be any. A warning stops no load, and neither does what is found
+/// behind a quote that stays open.
 pub fn faults_stop_loads()
     ensures { FaultsStopLoads }
 {}
@@ -31,4 +32,17 @@ pub fn faults_stop_loads()
 /// allocation fails and no read is interrupted.
 pub fn checked_files_load<A: Allocator, W: Sink>()
     ensures { CheckedFilesLoad A W }
+{}
+
+/// What is found in a file is one list of findings, decided by its bytes, its dialect and the names that have a value.
+pub fn findings_once()
+    ensures { FindingsOnce }
+{}
+
+/// What some command lines ask for, and why others are refused.
+///
+/// Options may be repeated, and come between files. `-` is a file, and each word after `--` is one. The first word
+/// that is no file and no option refuses all of them, unless `--help` or `--version` comes before it.
+pub fn worked_words()
+    ensures { WorkedWords }
 {}

@@ -1,31 +1,105 @@
-//! Reads the lines of a file, and reports what is found on each.
+//! Reads the lines of a file, and keeps what is found on each.
 
-ghost use Rattle.std.specs.Prelude.{◌≡◌, ◌≢◌, ◌⊎◌, Err, None, Ok, IfErr, IfOk, List, OnOk};
+ghost use Rattle.std.specs.Prelude.{◌≡◌, ◌≢◌, ◌⊎◌, ◌∷◌, ◌<◌, ◌+◌, [], ℕ, Err, None, Ok, false, true, IfErr, IfOk, OnOk, encode_utf8_all, length, map};
 ghost use Rattle.std.specs.Str.{chars};
 ghost use Rattle.dotenvy_base.specs.Errors.{IsMemory, IsMemoryErr};
+ghost use Rattle.dotenvy_format.specs.declared.walk.LineMode.TheVariants.{Outside};
+ghost use Rattle.dotenvy_format.specs.LogicalLine.{HasText};
+ghost use Rattle.dotenvy_format.specs.Outcome.{trimmed};
+ghost use Rattle.dotenvy_format.specs.inside.Walk.{walk};
+ghost use Rattle.dotenvy_findings.specs.Readings.{marks_of};
 ghost use Rattle.dotenvy_lines.specs.declared.lines.Stage.TheVariants.{Open, Failed};
-ghost use Rattle.dotenvy_format.specs.Characters.{underscore, begins_with};
-ghost use Rattle.dotenvy_format.specs.Entries.{Fails};
-ghost use Rattle.dotenvy_format.specs.Value.{IsValue, Piece as FormatPiece};
-ghost use Rattle.dotenvy_format.specs.inside.NextPiece.{named_piece};
-ghost use Rattle.dotenvy_checker.specs.Findings.{only_if};
-ghost use Rattle.dotenvy_lines.specs.Numbered.{at_line};
-ghost use Rattle.dotenvy_checker.specs.inside.Reports.{finding_of};
-ghost use Rattle.dotenvy_checker.specs.inside.CheckedLines.{failure_of, known_of, ChecksEntry, ChecksOutcome};
-ghost use Rattle.dotenvy_checker.specs.inside.CheckedLines.{ChecksRead, ChecksText, ChecksUpTo, AddsOnly, FindsPieces};
-ghost use Rattle.dotenvy_checker.specs.inside.CheckedLines.{IsNew, WhereFew};
+ghost use Rattle.dotenvy_checker.specs.Findings.{begins_at, cut, declaration_remarks, ends_inside, fault_remarks, found, guessed, is_passed, leaves_open, logical_text, open_behind, told_remark, with_key};
+ghost use Rattle.dotenvy_checker.specs.inside.CheckedLines.{declared_of, failed_as, left_len, logical_of, pieces, setting_of, ChecksGuess, ChecksGuesses, ChecksOutcome, ChecksPart, ChecksRead, ChecksUpTo, ChecksWhole, GuessIs, IsNew, KeepsMore, WhereFew};
 
-use crate::report::{Finding, Report};
+use crate::declared::{Declared, KnownNames};
+use dotenvy_base::environment::Environment;
 use dotenvy_base::errors::{Error, Result};
 use dotenvy_base::source::Source;
+use dotenvy_findings::characters::begins_declaration;
+use dotenvy_findings::finding::{Finding, LineFault};
+use dotenvy_findings::kind::Kind;
+use dotenvy_findings::line::{LineText, characters_of};
+use dotenvy_findings::open::is_inside;
+use dotenvy_findings::place::Place;
+use dotenvy_findings::reading::Mark;
 use dotenvy_format::dialect::Dialect;
-use dotenvy_format::text::{Quoting, split_first};
-use dotenvy_format::value::{NextPiece, Piece, next_piece};
+use dotenvy_format::walk::{LineMode, Walked, walk_text};
 use dotenvy_items::meaning::Names;
 use dotenvy_items::parse::scan_line;
 use dotenvy_lines::lines::Splitter;
 use std::alloc::{AllocError, Allocator};
-use std::collections::BTreeSet;
+
+/// Something that is found, and the name that has no value there, if that is found.
+#[derive(Drop)]
+pub(crate) struct Pending<A: Allocator> {
+    pub(crate) finding: Finding,
+    pub(crate) name: String<A>,
+}
+
+// A line that is checked: its number, and whether it is read as a guess.
+#[derive(Clone, Copy)]
+struct Numbered {
+    number: u64,
+    is_guess: bool,
+}
+
+// What is checked of a line: its text, or its text in which a quote stays open.
+#[derive(Clone, Copy)]
+enum Part<'t> {
+    Text(&'t str),
+    Open(&'t str),
+}
+
+impl Numbered {
+    // Something that is found on the line, with the number of another line, or 0.
+    fn finding(self, kind: Kind, place: Place, other: u64) -> Finding
+        ensures { result ≡ record {
+          kind = kind;
+          place = place;
+          other = other;
+          is_guess = self.is_guess;
+        } }
+    {
+        Finding {
+            kind,
+            place,
+            other,
+            is_guess: self.is_guess,
+        }
+    }
+
+    // Its text, as these characters.
+    fn text(self, dialect: Dialect, text: &[char]) -> LineText<'_>
+        ensures dialect { result.dialect ≡ dialect }
+        ensures text { result.text.now ≡ text.now }
+        ensures start { result.start ≡ begins_at self.number }
+    {
+        LineText {
+            dialect,
+            text,
+            start: begins_at(self.number),
+        }
+    }
+}
+
+impl<'t> Part<'t> {
+    // The text.
+    fn text(self) -> &'t str
+        ensures { chars result.now ≡ logical_text (logical_of self.entry) }
+    {
+        match self {
+            Part::Text(text) | Part::Open(text) => text,
+        }
+    }
+
+    // Whether a quote stays open in it.
+    fn is_open(self) -> bool
+        ensures { result ≡ leaves_open (logical_of self.entry) }
+    {
+        matches!(self, Part::Open(_))
+    }
+}
 
 /// The names that have a value, and what was found so far.
 #[derive(Drop)]
@@ -33,26 +107,81 @@ pub(crate) struct Checker<'a, A: Allocator> {
     // The names of the environment, and no others: what they stand for isn't asked.
     names: Names<'a, A>,
     // The names that the file declared so far.
-    declared: BTreeSet<String<A>, A>,
+    pub(crate) declared: Declared<A>,
     dialect: Dialect,
-    pub(crate) report: Report<'a, A>,
+    alloc: A,
+    pub(crate) pending: Vec<Pending<A>, A>,
+}
+
+// The place at which a line with this number begins.
+fn begins_at(number: u64) -> Place
+    ensures { result ≡ begins_at number }
+{
+    Place {
+        line: number,
+        column: 1,
+    }
+}
+
+// The characters of a text without white space at its end.
+fn trimmed_characters<A: Allocator>(
+    alloc: A,
+    text: &str,
+) -> std::result::Result<Vec<char, A>, AllocError>
+    ensures { IfOk result (λ characters. characters.items ≡ trimmed (chars text.now)) }
+{
+    characters_of(alloc, text.trim_end())
+}
+
+// The first physical line of a text, without its line feed, and the text behind it, if there is a line feed.
+fn split_line(text: &str) -> (&str, Option<&str>)
+    ensures pieces { cut text.now ≡ result.0.now ∷ pieces result.1 }
+    ensures falls { left_len result.1 < length text.now + 1 }
+{
+    match text.split_once('\n') {
+        Some((first, after)) => (first, Some(after)),
+        None => (text, None),
+    }
+}
+
+// Whether a quote stays open at the end of a physical line that is read alone.
+fn stays_open(text: &str) -> bool
+    ensures { result ≡ ends_inside (walk Outside [] (chars text.now)) }
+{
+    match walk_text(text, LineMode::Outside) {
+        Walked::Going(mode) => is_inside(mode),
+        Walked::EndedAt(_, _) => false,
+    }
+}
+
+// A physical line, read alone: a text, or a text in which a quote stays open; a comment is none.
+fn guess_of(text: &str) -> Option<Part<'_>>
+    ensures { GuessIs (guessed (chars text.now)) result }
+{
+    if text.trim_start().starts_with('#') {
+        None
+    } else if stays_open(text) {
+        Some(Part::Open(text))
+    } else {
+        Some(Part::Text(text))
+    }
 }
 
 impl<'a, A: Allocator + Clone> Checker<'a, A> {
     /// A checker of a file of which nothing was read.
     pub(crate) fn new(
         alloc: A,
-        file: &'a str,
         names: Names<'a, A>,
         dialect: Dialect,
     ) -> std::result::Result<Checker<'a, A>, AllocError>
-        ensures { IfOk result (IsNew file.now names.entry.env.now dialect) }
+        ensures { IfOk result (IsNew names.entry.env.now dialect) }
     {
         Ok(Checker {
             names,
-            declared: BTreeSet::new(alloc.clone()?),
+            declared: Declared::new(alloc.clone()?),
             dialect,
-            report: Report::new(alloc, file),
+            pending: Vec::new(alloc.clone()?),
+            alloc,
         })
     }
 
@@ -86,7 +215,7 @@ impl<'a, A: Allocator + Clone> Checker<'a, A> {
         Ok(())
     }
 
-    // Reports what is found on the last line that was taken, or gives its fault back if that is final.
+    // Keeps what is found in the last line that was taken, or gives its fault back if that is final.
     fn check_outcome<R: Source>(
         &mut self,
         lines: &Splitter<R, A>,
@@ -98,124 +227,247 @@ impl<'a, A: Allocator + Clone> Checker<'a, A> {
             (λ e. IsMemory e ⊎ ((outcome ≡ Err e) × (lines.now.lines.stage ≡ Failed)
             × (self.new ≡ self.old))) }
     {
-        let line = lines.last_lines().0;
+        let (number, last) = lines.last_lines();
         match outcome {
-            Ok(()) => {
-                self.check_text(line, lines.line())?;
-                Ok(())
-            }
+            Ok(()) => self.check_whole(number, Part::Text(lines.line()))?,
             Err(error) => {
                 if lines.has_failed() {
                     return Err(error);
                 }
-                self.check_fault(line, &error)
+                self.check_fault(number, last, &error)?;
             }
         }
+        Ok(())
     }
 
-    // Reports the fault of a line that is no text, or that stays open.
-    fn check_fault(&mut self, line: u64, error: &Error<A>) -> Result<(), A>
-        ensures checks { OnOk result
-            (ChecksEntry line (Fails (failure_of error.now)) self.old self.new) }
-        ensures memory { IfErr result IsMemory }
+    // Keeps the fault of a line that is no text, or that stays open.
+    fn check_fault(
+        &mut self,
+        number: u64,
+        last: u64,
+        error: &Error<A>,
+    ) -> std::result::Result<(), AllocError>
+        ensures { OnOk result (ChecksWhole number last (failed_as error.now) self.old self.new) }
     {
         match error {
-            Error::LineParse(text, place) => {
-                self.report
-                    .add(line, Finding::WrongText(text.as_str(), *place))?;
+            Error::LineParse(text, _) => self.check_whole(number, Part::Open(text.as_str())),
+            _ => {
+                let line = Numbered {
+                    number,
+                    is_guess: false,
+                };
+                self.keep(line, (Kind::NotUtf8, begins_at(last)), 0)
             }
-            _ => self.report.add(line, Finding::BrokenLine)?,
         }
-        Ok(())
     }
 
-    // Reports what is found in the text of a line, and keeps the key that it declares.
-    fn check_text(&mut self, line: u64, text: &str) -> std::result::Result<(), AllocError>
-        ensures { OnOk result (ChecksText line (chars text.now) self.old self.new) }
+    // Keeps what is found in a line, and in the guesses behind it.
+    fn check_whole(&mut self, number: u64, part: Part<'_>) -> std::result::Result<(), AllocError>
+        ensures { (last : ℕ) → OnOk result
+            (ChecksWhole number last (logical_of part.entry) self.old self.new) }
     {
-        let declaration = match scan_line(text, &self.names, self.dialect) {
-            Ok(Some(declaration)) => declaration,
-            Ok(None) => return Ok(()),
-            Err(fault) => {
-                return self
-                    .report
-                    .add(line, Finding::WrongText(fault.text, fault.index));
-            }
+        let line = Numbered {
+            number,
+            is_guess: false,
         };
-        let key = declaration.key;
-        let is_declared = self.declared.contains(key);
-        self.report_if(is_declared, line, Finding::DeclaredTwice(key))?;
-        if let Some(value) = declaration.value {
-            self.check_value(line, value.text)?;
-        }
-        let alloc = self.report.text.allocator().clone()?;
-        self.declared.insert(String::from_str(alloc, key)?)?;
-        Ok(())
-    }
-
-    // Reports what is found in a value.
-    fn check_value(&mut self, line: u64, value: &str) -> std::result::Result<(), AllocError>
-        ensures { (pieces : List FormatPiece) → IsValue self.old.dialect (chars value.now) pieces →
-            OnOk result (FindsPieces line pieces self.old self.new) }
-    {
-        let mut rest = value;
-        let mut quoting = Quoting::Unquoted;
-        'pieces: while let NextPiece::Piece(given) = next_piece(rest, quoting, self.dialect) {
-            self.check_piece(line, given.piece)?;
-            rest = given.rest;
-            quoting = given.quoting;
+        if let Some(from) = self.check_part(line, part)? {
+            self.check_guesses(number, from, part.text())?;
         }
         Ok(())
     }
 
-    // Reports what is found in a piece of a value.
-    fn check_piece(&mut self, line: u64, piece: Piece<'_>) -> std::result::Result<(), AllocError>
-        ensures { OnOk result (FindsPieces line (named_piece piece.entry) self.old self.new) }
-    {
-        match piece {
-            Piece::Text(_) => Ok(()),
-            Piece::Name { name, after } => {
-                self.report_if(!self.is_known(name), line, Finding::NoValue(name))?;
-                self.report_if(
-                    begins_with_underscore(after),
-                    line,
-                    Finding::EndsAtUnderscore(name),
-                )
-            }
-            Piece::LastBackslash => self.report_if(true, line, Finding::LastBackslash),
-        }
-    }
-
-    // Whether a name has a value: the process has it, or the file declared it before.
-    fn is_known(&self, name: &str) -> bool
-        ensures { result ≡ known_of self.now (chars name.now) }
-    {
-        self.names.env.contains(name) || self.declared.contains(name)
-    }
-
-    // Reports this finding, if it is one.
-    fn report_if(
+    // Keeps what is found in a line, and returns the physical line from which on the rest of it is to be guessed.
+    fn check_part(
         &mut self,
-        is_found: bool,
-        line: u64,
-        finding: Finding<'_>,
-    ) -> std::result::Result<(), AllocError>
-        ensures { OnOk result (AddsOnly (at_line line (only_if is_found
-            (finding_of finding.entry))) self.old self.new) }
+        line: Numbered,
+        part: Part<'_>,
+    ) -> std::result::Result<Option<u64>, AllocError>
+        ensures { (last : ℕ) → IfOk result
+            (λ from. ChecksPart line last (logical_of part.entry) from self.old self.new) }
     {
-        if is_found {
-            self.report.add(line, finding)?;
+        match part {
+            Part::Text(text) => self.check_text(line, text),
+            Part::Open(text) => {
+                let characters = characters_of(self.alloc.clone()?, text)?;
+                let fault = line.text(self.dialect, characters.as_slice()).open_fault();
+                self.keep_fault(line, fault)
+            }
+        }
+    }
+
+    // Keeps what is found in the text of a line, and returns the physical line from which on it is to be guessed.
+    fn check_text(
+        &mut self,
+        line: Numbered,
+        text: &str,
+    ) -> std::result::Result<Option<u64>, AllocError>
+        ensures { (last : ℕ) → IfOk result
+            (λ from. ChecksPart line last (HasText (chars text.now)) from self.old self.new) }
+    {
+        match scan_line(text, &self.names, self.dialect) {
+            Ok(None) => Ok(None),
+            Ok(Some(declaration)) => {
+                self.check_declaration(line, text, declaration.key)?;
+                Ok(None)
+            }
+            Err(_) => {
+                let characters = trimmed_characters(self.alloc.clone()?, text)?;
+                let fault = line.text(self.dialect, characters.as_slice()).fault();
+                self.keep_fault(line, fault)
+            }
+        }
+    }
+
+    // Keeps what is found in a declaration of this key, and keeps the key.
+    fn check_declaration(
+        &mut self,
+        line: Numbered,
+        text: &str,
+        key: &str,
+    ) -> std::result::Result<(), AllocError>
+        ensures { OnOk result (KeepsMore
+            (declaration_remarks (setting_of self.old line.is_guess) (declared_of self.old.declared)
+            line.number (trimmed (chars text.now)) (encode_utf8_all (chars key.now)))
+            (with_key (encode_utf8_all (chars key.now)) line.number
+            (declared_of self.old.declared)) self.old self.new) }
+    {
+        let characters = trimmed_characters(self.alloc.clone()?, text)?;
+        let trimmed = line.text(self.dialect, characters.as_slice());
+        if let Some(first) = self.declared.first_line(key) {
+            self.keep(line, (Kind::DeclaredTwice, trimmed.first_place()), first)?;
+        }
+        let names = KnownNames {
+            env: self.names.env,
+            declared: &self.declared,
+        };
+        let marks = trimmed.marks(self.alloc.clone()?, &names, key)?;
+        self.keep_marks(line, marks)?;
+        self.declared.declare(self.alloc.clone()?, key, line.number)
+    }
+
+    // Keeps what is told of a declaration.
+    fn keep_marks(
+        &mut self,
+        line: Numbered,
+        marks: Vec<Mark<A>, A>,
+    ) -> std::result::Result<(), AllocError>
+        ensures { OnOk result (KeepsMore
+            (map (told_remark (setting_of self.old line.is_guess)) (marks_of marks.items))
+            (declared_of self.old.declared) self.old self.new) }
+    {
+        'marks: for mark in marks {
+            let Mark { kind, place, name } = mark;
+            self.pending.push(Pending {
+                finding: line.finding(kind, place, 0),
+                name,
+            })?;
         }
         Ok(())
     }
-}
 
-// Whether the text begins with `_`.
-fn begins_with_underscore(text: &str) -> bool
-    ensures { result ≡ begins_with underscore (chars text.now) }
-{
-    match split_first(text) {
-        Some((first, _)) => first == '_',
-        None => false,
+    // Keeps the fault of a line, and returns the physical line from which on the rest of it is to be guessed.
+    fn keep_fault(
+        &mut self,
+        line: Numbered,
+        fault: LineFault,
+    ) -> std::result::Result<Option<u64>, AllocError>
+        ensures { IfOk result (λ from. (from ≡ fault.behind) × KeepsMore
+            (fault_remarks (setting_of self.old line.is_guess) fault)
+            (declared_of self.old.declared) self.old self.new) }
+    {
+        self.keep(line, (fault.kind, fault.place), 0)?;
+        Ok(fault.behind)
+    }
+
+    // Keeps something that is found on a line, with the number of another line, or 0.
+    fn keep(
+        &mut self,
+        line: Numbered,
+        told: (Kind, Place),
+        other: u64,
+    ) -> std::result::Result<(), AllocError>
+        ensures { OnOk result (KeepsMore
+            (found (setting_of self.old line.is_guess) told.0 told.1 other ∷ [])
+            (declared_of self.old.declared) self.old self.new) }
+    {
+        let name = String::new(self.alloc.clone()?);
+        self.pending.push(Pending {
+            finding: line.finding(told.0, told.1, other),
+            name,
+        })?;
+        Ok(())
+    }
+
+    // Keeps what is found in the physical lines of a text, from one of them on, each read as a guess.
+    fn check_guesses(
+        &mut self,
+        number: u64,
+        from: u64,
+        text: &str,
+    ) -> std::result::Result<(), AllocError>
+        ensures { OnOk result (ChecksGuesses from false number (cut text.now) self.old self.new) }
+    {
+        let mut line = Numbered {
+            number,
+            is_guess: true,
+        };
+        let mut is_open = false;
+        let mut left = Some(text);
+        'lines: while let Some(rest) = left {
+            let (first, after) = split_line(rest);
+            is_open = self.check_guess(line, from, is_open, first)?;
+            line.number = line.number.saturating_add(1);
+            left = after;
+        }
+        Ok(())
+    }
+
+    // Keeps what is found in a physical line that is read as a guess, unless it is passed by. Returns whether it leaves
+    // a quote open.
+    fn check_guess(
+        &mut self,
+        line: Numbered,
+        from: u64,
+        is_open: bool,
+        text: &str,
+    ) -> std::result::Result<bool, AllocError>
+        requires { line.is_guess ≡ true }
+        ensures open { IfOk result
+            (λ stays. stays ≡ open_behind from is_open line.number (chars text.now)) }
+        ensures checks { OnOk result (ChecksGuess (is_passed from is_open line.number (chars text.now))
+            line.number (chars text.now) self.old self.new) }
+    {
+        if self.is_passed(from, is_open, line.number, text)? {
+            return Ok(is_open);
+        }
+        match guess_of(text) {
+            Some(part) => {
+                self.check_part(line, part)?;
+                Ok(part.is_open())
+            }
+            None => Ok(false),
+        }
+    }
+
+    // Whether a physical line is passed by: it stands before the first that is guessed, or a guess left a quote open,
+    // and it begins no declaration.
+    fn is_passed(
+        &self,
+        from: u64,
+        is_open: bool,
+        number: u64,
+        text: &str,
+    ) -> std::result::Result<bool, AllocError>
+        ensures { IfOk result
+            (λ passed. passed ≡ is_passed from is_open number (chars text.now)) }
+    {
+        if number < from {
+            return Ok(true);
+        }
+        if !is_open {
+            return Ok(false);
+        }
+        let characters = characters_of(self.alloc.clone()?, text)?;
+        Ok(!begins_declaration(characters.as_slice()))
     }
 }

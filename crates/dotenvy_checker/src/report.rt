@@ -1,38 +1,27 @@
-//! The text that is printed of a file: a line for each finding.
+//! The report of a file: a line for each finding.
 
-ghost use Rattle.std.specs.Prelude.{◌≡◌, ◌++◌, ◌||◌, ◌&&◌, [], ◌∷◌, chars, encode_utf8_all, OnOk, string_bytes};
-ghost use Rattle.std.specs.Char.Escape.{escape_default};
-ghost use Rattle.dotenvy_checker.specs.Report.{finding_text, shown, shown_character};
-ghost use Rattle.dotenvy_checker.specs.Findings.{is_fault};
-ghost use Rattle.dotenvy_checker.specs.inside.Reports.{finding_of, nothing_found, Adds};
+ghost use Rattle.std.specs.Prelude.{◌≡◌, ◌||◌, ◌&&◌, IfOk, string_bytes};
+ghost use Rattle.dotenvy_checker.specs.Checks.{found_in};
+ghost use Rattle.dotenvy_checker.specs.Findings.{bad_left, findings_of, is_error, is_warning, placed, placed_one, resolved};
+ghost use Rattle.dotenvy_checker.specs.Report.{report};
+ghost use Rattle.dotenvy_checker.specs.inside.CheckedLines.{declared_of, remark_of, so_far};
 
+use crate::declared::Declared;
+use crate::lines::{Checker, Pending};
 use dotenvy::Error;
-use dotenvy_format::text::split_first;
+use dotenvy_findings::bytes::BadByte;
+use dotenvy_findings::finding::Finding;
+use dotenvy_findings::kind::Kind;
+use dotenvy_reports::format::Format;
+use dotenvy_reports::reports::{push_finding, push_unread};
 use std::alloc::{AllocError, Allocator};
-
-/// Something that is found on a line.
-#[derive(Clone, Copy)]
-pub(crate) enum Finding<'a> {
-    /// A fault: this text is no line, or no value, from this place on.
-    WrongText(&'a str, usize),
-    /// A fault: the line is no text.
-    BrokenLine,
-    /// This name has no value.
-    NoValue(&'a str),
-    /// This bare name ends before `_`.
-    EndsAtUnderscore(&'a str),
-    /// The value ends with a backslash, which means nothing.
-    LastBackslash,
-    /// This name was declared before.
-    DeclaredTwice(&'a str),
-}
 
 /// Whether a file has faults, and whether it has warnings.
 #[derive(Clone, Copy, Debug, PartialEq, Eq)]
 pub struct Found {
     /// Whether there is a fault.
     pub faults: bool,
-    /// Whether there is a warning.
+    /// Whether there is a warning that is no guess.
     pub warnings: bool,
 }
 
@@ -62,136 +51,86 @@ impl Found {
     {
         self.faults || is_strict && self.warnings
     }
-}
 
-/// What is printed of a file so far.
-#[derive(Drop)]
-pub(crate) struct Report<'a, A: Allocator> {
-    /// The file's name.
-    pub(crate) file: &'a str,
-    pub(crate) text: String<A>,
-    pub(crate) found: Found,
-}
-
-// Whether the finding is a fault.
-fn is_fault(finding: Finding<'_>) -> bool
-    ensures { result ≡ is_fault (finding_of finding.entry) }
-{
-    matches!(finding, Finding::WrongText(..) | Finding::BrokenLine)
-}
-
-// Appends a character as it is shown: a control character as its escape.
-fn push_character<A: Allocator>(text: &mut String<A>, c: char) -> Result<(), AllocError>
-    ensures { OnOk result (string_bytes text.new
-        ≡ string_bytes text.old ++ encode_utf8_all (shown_character c)) }
-{
-    if !c.is_control() {
-        text.push(c)?;
-        return Ok(());
-    }
-    'escape: for part in c.escape_default() {
-        text.push(part)?;
-    }
-    Ok(())
-}
-
-/// Appends a text as it is shown, on one line.
-pub(crate) fn push_shown<A: Allocator>(text: &mut String<A>, added: &str) -> Result<(), AllocError>
-    ensures { OnOk result (string_bytes text.new
-        ≡ string_bytes text.old ++ shown (chars added.now)) }
-{
-    let mut rest = added;
-    'characters: while let Some((first, after_first)) = split_first(rest) {
-        push_character(text, first)?;
-        rest = after_first;
-    }
-    Ok(())
-}
-
-// Appends a text between two others, as it is shown.
-fn push_between<A: Allocator>(
-    text: &mut String<A>,
-    before: &str,
-    middle: &str,
-    after: &str,
-) -> Result<(), AllocError>
-    ensures { OnOk result (string_bytes text.new
-        ≡ string_bytes text.old ++ (before.now ++ (shown (chars middle.now) ++ after.now))) }
-{
-    text.push_str(before)?;
-    push_shown(text, middle)?;
-    text.push_str(after)
-}
-
-// Appends what is printed of a finding.
-fn push_finding<A: Allocator>(text: &mut String<A>, finding: Finding<'_>) -> Result<(), AllocError>
-    ensures { OnOk result (string_bytes text.new
-        ≡ string_bytes text.old ++ finding_text (finding_of finding.entry)) }
-{
-    match finding {
-        Finding::WrongText(wrong, place) => {
-            push_between(
-                text,
-                "error: Error parsing line: '",
-                wrong,
-                "', error at line index: ",
-            )?;
-            write!(text, "{place}")
-        }
-        Finding::BrokenLine => text.push_str("error: the line is not UTF-8"),
-        Finding::NoValue(name) => push_between(
-            text,
-            "warning: '",
-            name,
-            "' has no value here; write \\$ for a dollar",
-        ),
-        Finding::EndsAtUnderscore(name) => push_between(
-            text,
-            "warning: the name '",
-            name,
-            "' ends before '_'; write ${NAME}",
-        ),
-        Finding::LastBackslash => {
-            text.push_str("warning: the backslash at the end means nothing; write \\\\")
-        }
-        Finding::DeclaredTwice(name) => push_between(
-            text,
-            "warning: '",
-            name,
-            "' is declared twice; the first value counts",
-        ),
-    }
-}
-
-impl<'a, A: Allocator> Report<'a, A> {
-    /// A report of this file, with no finding.
-    pub(crate) fn new(alloc: A, file: &'a str) -> Report<'a, A>
-        ensures file { result.file.now ≡ file.now }
-        ensures empty { string_bytes result.text ≡ [] }
-        ensures found { result.found ≡ nothing_found }
+    // Whether a finding is a fault or a warning. A guess is neither.
+    fn of(finding: Finding) -> Found
+        ensures { result ≡ record { faults = is_error finding; warnings = is_warning finding } }
     {
-        Report {
-            file,
-            text: String::new(alloc),
-            found: Found::NOTHING,
+        let is_fault = finding.kind.is_fault();
+        Found {
+            faults: is_fault && !finding.is_guess,
+            warnings: !is_fault && !finding.is_guess,
         }
     }
+}
 
-    /// Adds a finding on this line.
-    pub(crate) fn add(&mut self, line: u64, finding: Finding<'_>) -> Result<(), AllocError>
-        ensures { OnOk result (Adds ((line, finding_of finding.entry) ∷ []) self.old self.new) }
-    {
-        push_shown(&mut self.text, self.file)?;
-        write!(self.text, ":{line}: ")?;
-        push_finding(&mut self.text, finding)?;
-        self.text.push('\n')?;
-        if is_fault(finding) {
-            self.found.faults = true;
-        } else {
-            self.found.warnings = true;
-        }
-        Ok(())
+// What is found, where these names are declared in the whole file.
+fn resolved<A: Allocator>(declared: &Declared<A>, pending: &Pending<A>) -> Finding
+    ensures { result ≡ resolved (declared_of declared.now) (remark_of pending.now) }
+{
+    let finding = pending.finding;
+    if !matches!(finding.kind, Kind::UnknownName | Kind::UnknownBracedName) {
+        return finding;
     }
+    match declared.first_line(pending.name.as_str()) {
+        Some(line) => Finding {
+            kind: Kind::LaterName,
+            other: line,
+            ..finding
+        },
+        None => finding,
+    }
+}
+
+// A finding, at the next of these bytes that are no text, if it is that of a line that is none; and the bytes behind.
+fn placed(finding: Finding, bad: &[BadByte]) -> (Finding, &[BadByte])
+    ensures { (result.0 ≡ placed_one bad.now finding)
+        × (result.1.now ≡ bad_left bad.now finding) }
+{
+    match (finding.kind, bad.split_first()) {
+        (Kind::NotUtf8, Some((first, others))) => {
+            let kind = match first.hint {
+                Kind::Utf16 => Kind::Utf16,
+                Kind::Latin1 => Kind::Latin1,
+                _ => Kind::NotUtf8,
+            };
+            let placed = Finding {
+                kind,
+                place: first.place,
+                ..finding
+            };
+            (placed, others)
+        }
+        _ => (finding, bad),
+    }
+}
+
+/// The report of what was found in the file with this name, where these bytes are no text, and whether there are faults
+/// and warnings.
+pub(crate) fn report_of<A: Allocator + Clone>(
+    alloc: A,
+    file: &str,
+    checker: &Checker<'_, A>,
+    bad: &[BadByte],
+) -> Result<(String<A>, Found), AllocError>
+    ensures text { IfOk result (λ given. string_bytes given.0
+        ≡ report file.now (placed bad.now (findings_of (so_far checker.now)))) }
+    ensures found { IfOk result (λ given. given.1
+        ≡ found_in (findings_of (so_far checker.now))) }
+{
+    let mut text = String::new(alloc);
+    let mut found = Found::NOTHING;
+    let mut rest = checker.pending.as_slice();
+    let mut bad = bad;
+    'findings: while let Some((first, after)) = rest.split_first() {
+        let finding = resolved(&checker.declared, first);
+        let (shown, others) = placed(finding, bad);
+        push_finding(&mut text, Format::Text, file, shown)?;
+        found = found.and(Found::of(finding));
+        bad = others;
+        rest = after;
+    }
+    Ok((text, found))
 }
 
 /// The line that is printed of a file that could not be opened or read: its name, and the error.
@@ -202,7 +141,6 @@ pub(crate) fn unread_line<A: Allocator + Clone>(
 ) -> Result<String<A>, AllocError> {
     let mut line = String::new(alloc.clone()?);
     let said = format!(in alloc.clone()?; "{error}")?;
-    push_between(&mut line, "", file, ": error: ")?;
-    push_between(&mut line, "", said.as_str(), "\n")?;
+    push_unread(&mut line, Format::Text, file, said.as_str())?;
     Ok(line)
 }

@@ -8,7 +8,7 @@ use std::io;
 use std::process::ExitCode;
 
 fn main(rt: HostRuntime) -> ExitCode {
-    run_program(&rt, |words| {
+    run_program(&rt, "", 1, |words| {
         let mut reader = Plain::new(rt.reader());
         let mut writer = Plain::new(io::writer(&rt));
         run(&rt, words, &mut reader, &mut writer)

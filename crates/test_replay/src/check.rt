@@ -6,7 +6,7 @@ use crate::refused::MOST_REQUESTS;
 use crate::row::refuse_count;
 use anyhow::{Result, bail};
 use dotenvy::{Bytes, Dialect, Error, Iter, Plain, Source};
-use dotenvy_checker::check::{Found, check};
+use dotenvy_checker::check::{Found, Watched, check};
 use dotenvy_checker::failure::Stop;
 use std::alloc::{Allocator, Global};
 use test_comparison::Comparison;
@@ -43,7 +43,11 @@ impl Checked {
         writer: &mut Plain<PlayedWriter>,
     ) -> Result<std::result::Result<Found, Stop<A>>> {
         let environment = environment_of(plenty, &self.names)?;
-        match Iter::with_dialect(alloc, reader, self.dialect) {
+        let watched = match alloc.clone() {
+            Ok(alloc) => Watched::new(alloc, reader),
+            Err(refused) => return Ok(Err(Stop::Memory(refused))),
+        };
+        match Iter::with_dialect(alloc, watched, self.dialect) {
             Ok(file) => Ok(check(file, self.name.as_str(), &environment, writer)),
             Err(Error::Memory(refused)) => Ok(Err(Stop::Memory(refused))),
             Err(error) => Ok(Err(Stop::Read(error))),

@@ -1,4 +1,5 @@
-//! Rows of the kinds `check_run` and `refused_check_run`: what the program dotenvy_check does of its words.
+//! Rows of the kinds `check_run`, `check_input` and `refused_check_run`: what the program dotenvy_check does of its
+//! words.
 
 use crate::answer::{push_answer, push_compared};
 use crate::refused::MOST_REQUESTS;
@@ -13,8 +14,9 @@ use dotenvy_checker::run::run;
 use std::alloc::{Allocator, Global};
 use test_comparison::Comparison;
 use test_support::notation::texts;
+use test_support::reader::{Cut, PlayedReader};
 use test_support::writer::PlayedWriter;
-use test_support::{Rationed, writer};
+use test_support::{Rationed, reader, writer};
 
 // The status or the failure, and what was written, if anything was.
 fn told<A: Allocator>(
@@ -34,21 +36,55 @@ fn told<A: Allocator>(
     Ok(texts)
 }
 
-/// Plays a row of kind `check_run`.
-pub fn play(answers: &mut Vec<Comparison>, scene: &mut Scene, fields: &[&str]) -> Result<()> {
-    let [steps, words_field, output, wanted, notes] = fields else {
-        return refuse_count(fields, 5);
-    };
+// Plays a row with these steps of standard input and of the output.
+fn play_with(
+    answers: &mut Vec<Comparison>,
+    scene: &mut Scene,
+    input: &str,
+    output: &str,
+    fields: [&str; 4],
+) -> Result<()> {
+    let [steps, words_field, wanted, notes] = fields;
     let alloc = *answers.allocator();
     scene.set_up(steps)?;
     let words = words(alloc, scene.placed(words_field)?.as_str())?;
+    let input = reader::steps(alloc, input)?;
+    let mut reader = PlayedReader::new(&input, Cut::Whole);
     let mut writer = Plain::new(PlayedWriter::new(alloc, writer::steps(alloc, output)?));
-    let answered = run(&scene.system, &words, &mut writer);
+    let answered = run(&scene.system, alloc, &words, &mut reader, &mut writer);
     let got = told(alloc, &answered, writer.into_inner().into_taken())?;
     let wanted = scene.placed(wanted)?;
     push_answer(answers, "run", "answered", wanted.as_str(), got)?;
     let noted = scene.system.take_notes();
     push_answer(answers, "run", "opened", notes, scene.all_below(&noted)?)
+}
+
+/// Plays a row of kind `check_run`: standard input is empty.
+pub fn play(answers: &mut Vec<Comparison>, scene: &mut Scene, fields: &[&str]) -> Result<()> {
+    let [steps, words_field, output, wanted, notes] = fields else {
+        return refuse_count(fields, 5);
+    };
+    play_with(
+        answers,
+        scene,
+        "",
+        output,
+        [*steps, *words_field, *wanted, *notes],
+    )
+}
+
+/// Plays a row of kind `check_input`.
+pub fn play_input(answers: &mut Vec<Comparison>, scene: &mut Scene, fields: &[&str]) -> Result<()> {
+    let [steps, words_field, input, output, wanted, notes] = fields else {
+        return refuse_count(fields, 6);
+    };
+    play_with(
+        answers,
+        scene,
+        input,
+        output,
+        [*steps, *words_field, *wanted, *notes],
+    )
 }
 
 // What a run answers and writes whose memory is of this allocator.
@@ -60,7 +96,8 @@ fn told_with<'r>(
 ) -> Result<String> {
     let system = (&scene.system, ration);
     let mut writer = Plain::new(PlayedWriter::new(alloc, Vec::new(alloc)));
-    let answered = run(&system, words, &mut writer);
+    let mut reader = PlayedReader::new(&[], Cut::Whole);
+    let answered = run(&system, alloc, words, &mut reader, &mut writer);
     let texts = told(alloc, &answered, writer.into_inner().into_taken())?;
     Ok(texts.join(alloc, "; ")?)
 }

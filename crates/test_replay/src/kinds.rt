@@ -21,6 +21,7 @@ fn play_in_scene(
         "files" => scene::play(answers, &mut scene, fields),
         "run" => command::play_run(answers, &mut scene, fields),
         "check_run" => check_run::play(answers, &mut scene, fields),
+        "check_input" => check_run::play_input(answers, &mut scene, fields),
         "refused_check_run" => check_run::play_refused(answers, &mut scene, fields),
         _ => refused_call::play(answers, rt, &mut scene, fields),
     };
@@ -62,9 +63,9 @@ fn play_library(
         "words" => command::play_words(answers, fields),
         "check" => check::play(answers, fields),
         "refused_check" => check::play_refused(answers, fields),
-        "files" | "run" | "refused_call" | "check_run" | "refused_check_run" => play_in_scene(
-            answers, rt, kind, fields,
-        ),
+        "files" | "run" | "refused_call" | "check_run" | "check_input" | "refused_check_run" => {
+            play_in_scene(answers, rt, kind, fields)
+        }
         _ => bail!("no kind of row is called {kind}"),
     }
 }

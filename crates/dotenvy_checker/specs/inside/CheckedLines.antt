@@ -1,112 +1,171 @@
 -- What the code finds on lines, and what it then knows.
-use Rattle.std.specs.Prelude.{ℕ, ◌≡◌, ◌≢◌, ◌⊎◌, List, [], ◌∷◌, Option, Some, None, Result, Ok, Err}
-use Rattle.std.specs.Prelude.{string_bytes, encode_utf8_all}
-use Rattle.std.specs.List.{flat_map}
-use Rattle.std.specs.BTreeSet.{contains_text}
+use Rattle.std.specs.Prelude.{ℕ, ◌≡◌, ◌≢◌, ◌⊎◌, Bool, true, false, List, [], ◌++◌, map, Option, Some, None}
+use Rattle.std.specs.Prelude.{Result, Ok, Err, string_bytes, length, ◌+◌}
+use denote.Ref.{Bor}
+use Rattle.std.specs.HashMap.{get_by_text}
 use Rattle.std.specs.Str.{chars}
-use Rattle.std.specs.declared.io.ErrorKind.TheVariants.{InvalidData}
 use Rattle.dotenvy_base.specs.declared.errors.Error.{Error}
 use Rattle.dotenvy_base.specs.declared.errors.Error.TheVariants as error
 use Rattle.dotenvy_base.specs.Environment.{Env}
 use Rattle.dotenvy_base.specs.Errors.{IsMemory}
 use Rattle.dotenvy_base.specs.Source.{Ahead}
 use Rattle.dotenvy_format.specs.declared.dialect.Dialect.{Dialect}
-use Rattle.dotenvy_format.specs.Entries.{Failure, LineParse, Io, Entry, Fails, outcome_entries}
-use Rattle.dotenvy_format.specs.Outcome.{Outcome, Says}
-use Rattle.dotenvy_format.specs.Value.{Piece}
+use Rattle.dotenvy_format.specs.Characters.{byte_len}
+use Rattle.dotenvy_format.specs.Entries.{Entry, Gives}
+use Rattle.dotenvy_format.specs.LogicalLine.{Logical, Skip, HasText, StaysOpen, Broken}
 use Rattle.dotenvy_lines.specs.declared.lines.Stage.TheVariants.{Failed}
 use Rattle.dotenvy_lines.specs.Lines.{LinesState, WhereOpen}
+use Rattle.dotenvy_lines.specs.Numbered.{FileLine}
 use Rattle.dotenvy_lines.specs.inside.Splitter.{SplitterState, last_lines}
-use Rattle.dotenvy_lines.specs.Numbered.{at_line}
+use Rattle.dotenvy_findings.specs.Readings.{Known}
+use Rattle.dotenvy_checker.specs.declared.declared.Declared.{Declared as CodeDeclared}
+use Rattle.dotenvy_checker.specs.declared.declared.KnownNames.{KnownNames}
 use Rattle.dotenvy_checker.specs.declared.lines.Checker.{Checker}
-use Rattle.dotenvy_checker.specs.Findings.{Finding, Names, no_names, has_value, piece_findings}
-use Rattle.dotenvy_checker.specs.Findings.{declared_after, findings_from}
-use Rattle.dotenvy_checker.specs.Checks.{names_in, FewLines, ReadsEntries}
-use Rattle.dotenvy_checker.specs.inside.Reports.{Adds, nothing_found}
+use Rattle.dotenvy_checker.specs.declared.lines.Numbered.{Numbered}
+use Rattle.dotenvy_checker.specs.declared.lines.Part.{Part}
+use Rattle.dotenvy_checker.specs.declared.lines.Part.TheVariants.{Text, Open}
+use Rattle.dotenvy_checker.specs.declared.lines.Pending.{Pending}
+use Rattle.dotenvy_checker.specs.Findings.{Declared, Remark, Row, Setting, SoFar, behind, cut, has_value}
+use Rattle.dotenvy_checker.specs.Findings.{lines_of}
+use Rattle.dotenvy_checker.specs.Findings.{logical_text, nothing_yet, with_lines, with_logical, with_rows}
+use Rattle.dotenvy_checker.specs.Findings.{AreGuesses, AreRows, GuessesFrom, IsGuess}
+use Rattle.dotenvy_checker.specs.Checks.{names_in, FewLines, ReadsLines}
 
--- the names that the process has
-abbrev pub process_names : {A : Type 0} → Checker A → Names
-process_names checker = names_in checker.names.env.now.names
+-- the names that a file declared so far, each with its first line
+abbrev pub declared_of : {A : Type 0} → CodeDeclared A → Declared
+declared_of declared name = get_by_text declared.lines name
 
--- the names that the file declared so far
-abbrev pub declared_of : {A : Type 0} → Checker A → Names
-declared_of checker name = contains_text checker.declared (encode_utf8_all name)
+-- the names that have a value
+abbrev pub known_names : {A : Type 0} → KnownNames A → Known
+known_names names = has_value (names_in names.env.now.names) (declared_of names.declared.now)
 
--- the names that have a value so far: the process has them, or the file declared them
-abbrev pub known_of : {A : Type 0} → Checker A → Names
-known_of checker = has_value (process_names checker) (declared_of checker)
+-- what the code keeps of a finding
+abbrev pub remark_of : {A : Type 0} → Pending A → Remark
+remark_of pending = record { finding = pending.finding; name = string_bytes pending.name }
 
--- a checker of this file, of which nothing was read, under this environment and in this dialect
-pub record IsNew {A : Type 0} (name : List ℕ) (env : Env) (dialect : Dialect) (checker : Checker A)
-    : Type 0 where
+-- what was found so far
+abbrev pub so_far : {A : Type 0} → Checker A → SoFar
+so_far checker = record {
+  remarks = map remark_of checker.pending.items;
+  declared = declared_of checker.declared;
+}
+
+-- how lines are checked: as lines of the file, or as guesses
+abbrev pub setting_of : {A : Type 0} → Checker A → Bool → Setting
+setting_of checker is_guess = record {
+  names = names_in checker.names.env.now.names;
+  dialect = checker.dialect;
+  is_guess = is_guess;
+}
+
+-- a checker under this environment and in this dialect, of a file of which nothing was read
+pub record IsNew {A : Type 0} (env : Env) (dialect : Dialect) (checker : Checker A) : Type 0 where
   pub environment : checker.names.env.now ≡ env
-  pub declared : declared_of checker ≡ no_names
   pub in_dialect : checker.dialect ≡ dialect
-  pub file : checker.report.file.now ≡ name
-  pub text : string_bytes checker.report.text ≡ []
-  pub found : checker.report.found ≡ nothing_found
+  pub nothing : so_far checker ≡ nothing_yet
 
--- these findings are added to the report, and nothing else changes
-pub record AddsOnly {A : Type 0} (findings : List (ℕ × Finding)) (old new : Checker A) : Type 0 where
-  pub same : new ≡ record old { report = new.report }
-  pub report : Adds findings old.report new.report
-
--- the findings of these pieces of a value are added, on this line, and nothing else changes
-abbrev pub FindsPieces : {A : Type 0} → ℕ → List Piece → Checker A → Checker A → Type 0
-FindsPieces number pieces old new =
-    AddsOnly (at_line number (flat_map (piece_findings (known_of old)) pieces)) old new
-
--- the names that are declared after entries
-abbrev pub declared_by : Names → List (ℕ × Entry) → Names
-declared_by declared [] = declared
-declared_by declared ((number, entry) ∷ numbered) =
-    declared_by (declared_after declared entry) numbered
-
--- these entries are checked: their findings are added, and their keys are declared
-pub record ChecksEntries {A : Type 0} (numbered : List (ℕ × Entry)) (old new : Checker A)
-    : Type 0 where
-  pub report :
-      Adds (findings_from (process_names old) (declared_of old) numbered) old.report new.report
-  pub declared : declared_of new ≡ declared_by (declared_of old) numbered
-  pub env : process_names new ≡ process_names old
+-- these are found, and these names are declared then; nothing else changes
+pub record KeepsMore {A : Type 0} (remarks : List Remark) (declared : Declared)
+    (old new : Checker A) : Type 0 where
+  pub found : (so_far new).remarks ≡ (so_far old).remarks ++ remarks
+  pub declares : declared_of new.declared ≡ declared
+  pub names : new.names ≡ old.names
   pub dialect : new.dialect ≡ old.dialect
 
--- this entry, which is on this line, is checked
-abbrev pub ChecksEntry : {A : Type 0} → ℕ → Entry → Checker A → Checker A → Type 0
-ChecksEntry number entry old new = ChecksEntries ((number, entry) ∷ []) old new
+-- the checker came so far, and nothing else changes
+pub record ComesTo {A : Type 0} (to : SoFar) (old new : Checker A) : Type 0 where
+  pub comes : so_far new ≡ to
+  pub names : new.names ≡ old.names
+  pub dialect : new.dialect ≡ old.dialect
 
--- the fault of a line that stays open, or that is no text
-abbrev pub failure_of : {A : Type 0} → Error A → Failure
-failure_of (error.LineParse text index) = LineParse (chars (string_bytes text)) index
-failure_of (error.Io e) = Io InvalidData
-failure_of (error.EnvVar e) = Io InvalidData
-failure_of (error.Nul key) = Io InvalidData
-failure_of (error.Memory e) = Io InvalidData
+-- the logical line that is a part
+abbrev pub logical_of : Part → Logical
+logical_of (Text text) = HasText (chars text.now)
+logical_of (Open text) = StaysOpen (chars text.now) (byte_len (chars text.now))
 
--- what the text of a line says is checked, under the line's number
-abbrev pub ChecksText : {A : Type 0} → ℕ → List ℕ → Checker A → Checker A → Type 0
-ChecksText number text old new =
-    (outcome : Outcome) × Says old.dialect text outcome
-    × ChecksEntries (at_line number (outcome_entries outcome)) old new
+-- a physical line that is read alone is a comment, or this part
+abbrev pub GuessIs : Logical → Option Part → Type 0
+GuessIs logical None = logical ≡ Skip
+GuessIs logical (Some part) = logical ≡ logical_of part
 
--- the outcome of a line is checked: what its text says, or the fault that it is; but no final
--- fault
+-- the physical lines of what is left
+abbrev pub pieces : Option (Bor (List ℕ)) → List (List ℕ)
+pieces None = []
+pieces (Some text) = cut text.now
+
+-- one more than the length of what is left, if something is
+abbrev pub left_len : Option (Bor (List ℕ)) → ℕ
+left_len None = 0
+left_len (Some text) = length text.now + 1
+
+-- what is found in this logical line is kept, and this is the number of the physical line from which
+-- on the rest of it is a guess
+abbrev pub ChecksPart : {A : Type 0} → Numbered → ℕ → Logical → Option ℕ → Checker A → Checker A →
+    Type 0
+ChecksPart line last logical from old new =
+    (entries : List Entry) × Gives old.dialect logical entries
+    × (from ≡ behind old.dialect line.number logical entries)
+    × ComesTo
+    (with_logical (setting_of old line.is_guess) (so_far old) line.number last logical entries)
+    old new
+
+-- what is found in a physical line is kept, which is read as a guess, or passed by
+abbrev pub ChecksGuess : {A : Type 0} → Bool → ℕ → List ℕ → Checker A → Checker A → Type 0
+ChecksGuess is_passed number text old new =
+    (guesses : List FileLine) × IsGuess old.dialect is_passed number text guesses
+    × ComesTo (with_lines (setting_of old true) (so_far old) guesses) old new
+
+-- what is found in physical lines is kept, which are read as guesses
+abbrev pub ChecksGuesses : {A : Type 0} → ℕ → Bool → ℕ → List (List ℕ) → Checker A → Checker A →
+    Type 0
+ChecksGuesses from is_open number texts old new =
+    (guesses : List FileLine) × AreGuesses old.dialect from is_open number texts guesses
+    × ComesTo (with_lines (setting_of old true) (so_far old) guesses) old new
+
+-- what is found in a logical line with this number is kept, whose last physical line is the last one
+-- given, and what is found in the guesses behind it
+abbrev pub ChecksWhole : {A : Type 0} → ℕ → ℕ → Logical → Checker A → Checker A → Type 0
+ChecksWhole number last logical old new =
+    (entries : List Entry) × (guesses : List FileLine) × Gives old.dialect logical entries
+    × GuessesFrom old.dialect number (behind old.dialect number logical entries)
+    (logical_text logical) guesses
+    × ComesTo
+    (with_lines (setting_of old true)
+    (with_logical (setting_of old false) (so_far old) number last logical entries) guesses)
+    old new
+
+-- the logical line that stays open, or that is no text
+abbrev pub failed_as : {A : Type 0} → Error A → Logical
+failed_as (error.LineParse text index) =
+    StaysOpen (chars (string_bytes text)) (byte_len (chars (string_bytes text)))
+failed_as (error.Io e) = Broken
+failed_as (error.EnvVar e) = Broken
+failed_as (error.Nul key) = Broken
+failed_as (error.Memory e) = Broken
+
+-- the outcome of a line is checked, but no final fault
 abbrev pub ChecksOutcome : {A : Type 0} → SplitterState → Result (Unit {0}) (Error A) → Checker A →
     Checker A → Type 0
 ChecksOutcome lines (Ok done) old new =
-    ChecksText (last_lines lines.lines).0 (chars lines.line) old new
+    ChecksWhole (last_lines lines.lines).0 (last_lines lines.lines).1 (HasText (chars lines.line))
+    old new
 ChecksOutcome lines (Err e) old new =
     (lines.lines.stage ≢ Failed)
-    × ChecksEntry (last_lines lines.lines).0 (Fails (failure_of e)) old new
+    × ChecksWhole (last_lines lines.lines).0 (last_lines lines.lines).1 (failed_as e) old new
 
--- the entries that are read of a, from s on, up to this fault or the end, are checked
+-- these rows are checked
+pub record ChecksRows {A : Type 0} (rows : List Row) (old new : Checker A) : Type 0 where
+  pub are_rows : AreRows old.dialect rows
+  pub comes : ComesTo (with_rows (setting_of old false) (so_far old) rows) old new
+
+-- the lines that are read of a, from s on, up to this fault or the end, are checked
 abbrev pub ChecksUpTo : {A : Type 0} → LinesState → Ahead → Option (Error A) → Checker A →
     Checker A → Type 0
 ChecksUpTo s a fault old new =
-    (numbered : List (ℕ × Entry)) × ReadsEntries old.dialect s a fault numbered
-    × ChecksEntries numbered old new
+    (rows : List Row) × ReadsLines old.dialect s a fault (lines_of rows)
+    × ChecksRows rows old new
 
--- the entries that are read of a, from s on, are checked; or an allocation failed
+-- the lines that are read of a, from s on, are checked; or an allocation failed
 abbrev pub ChecksRead : {A : Type 0} → LinesState → Ahead → Result (Unit {0}) (Error A) →
     Checker A → Checker A → Type 0
 ChecksRead s a (Ok done) old new = ChecksUpTo s a None old new

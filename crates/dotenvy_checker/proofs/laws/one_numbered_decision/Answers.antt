@@ -1,4 +1,4 @@
-use Rattle.dotenvy_checker.proofs.NumberedEntries.{one_numbered_decision}
+use Rattle.dotenvy_checker.proofs.NumberedLines.{one_numbered_decision}
 use Rattle.dotenvy_checker.proofs.laws.one_numbered_decision.Goals as goal
 
 pub returns : goal.returns

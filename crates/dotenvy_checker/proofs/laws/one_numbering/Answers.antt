@@ -1,4 +1,4 @@
-use Rattle.dotenvy_checker.proofs.NumberedEntries.{one_numbering}
+use Rattle.dotenvy_checker.proofs.NumberedLines.{one_numbering}
 use Rattle.dotenvy_checker.proofs.laws.one_numbering.Goals as goal
 
 pub returns : goal.returns

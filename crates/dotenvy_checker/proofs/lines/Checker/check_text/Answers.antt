@@ -1,52 +1,33 @@
-use Rattle.std.proofs.Common.{◌≡◌, [], refl, sym, string_bytes}
+use Rattle.std.proofs.Common.{refl}
 use Rattle.std.specs.Str.{chars}
-use Rattle.std.proofs.lemmas.Str.{encodes-chars, IsUtf8-string_bytes}
-use Rattle.dotenvy_format.specs.Outcome.{Pair, Fault}
+use Rattle.dotenvy_base.proofs.Basics.{ok-weaker}
 use Rattle.dotenvy_items.specs.Meaning.{look_up_of}
 use Rattle.dotenvy_items.proofs.LinePasses.{says_declared}
-use Rattle.dotenvy_checker.specs.inside.CheckedLines.{declared_of, FindsPieces}
-use Rattle.dotenvy_checker.proofs.KnownNames.{names-inserted}
-use Rattle.dotenvy_checker.proofs.Texts.{after_ok}
-use Rattle.dotenvy_checker.proofs.Found.{value_pieces, no_pieces, finds_none, same_dialect, checks_declared}
-use Rattle.dotenvy_checker.proofs.lines.Checker.check_text.Goals.{in-Some+in_ok-check_value, in_default}
+use Rattle.dotenvy_checker.proofs.Parts.{fault_part, nothing_part, pair_part}
 use Rattle.dotenvy_checker.proofs.lines.Checker.check_text.Goals as goal
 
-pub returns-in-Err : goal.returns-in-Err
-returns-in-Err g c =
-    after_ok c.add.result (λ adds. (
-      Fault (chars c.in-Err.fault.text.now) c.in-Err.fault.index,
-      c.in-Err.ensures,
-      record { report = adds; declared = refl; env = refl; dialect = refl },
-    )) c.add.ensures
+pub returns-in-Ok-None : goal.returns-in-Ok-None
+returns-in-Ok-None g c = λ last.
+    nothing_part c.args.line last (chars c.args.text.now) (rw c.in-Ok-None.field-0-is at c.in-Ok-None.ensures)
 
-pub returns : goal.returns
-returns g c =
-    let key = c.in-Ok-Some.declaration.key.now in
-    let look_up = look_up_of c.args.self.now.names in
+pub returns-in_ok-check_declaration-in-Ok-Some : goal.returns-in_ok-check_declaration-in-Ok-Some
+returns-in_ok-check_declaration-in-Ok-Some g c = λ last.
     let declared = rw c.in-Ok-Some.field-0-is at c.in-Ok-Some.ensures in
-    let says = says_declared _ _ _ (chars key) c.in-Ok-Some.declaration declared refl in
-    let text = c.in_ok-from_str.field-0 in
-    let utf8 = IsUtf8-string_bytes text in
-    let inserted = names-inserted c.match-declaration.self.declared c.insert.new.self (string_bytes text) utf8
-    c.in_ok-insert.ensures.updates in
-    let first = c.in_ok-report_if.ensures in
-    let found : FindsPieces c.args.line declared.pieces c.report_if.new.self c.match-declaration.self =
-    elim c.match-declaration.branch [
-      | in-Some+in_ok-check_value w ↦
-          rw w.self-is (w.in_ok-check_value.ensures declared.pieces
-          (rw (same_dialect first) (value_pieces _ look_up declared.rest declared.pieces _ w.in-Some.value
-          declared.is_assigned w.in-Some.is)))
-      | in_default w ↦
-          let none : declared.pieces ≡ [] =
-          no_pieces c.args.self.now.dialect look_up declared.rest declared.pieces _ declared.is_assigned
-          w.in_default.is in
-          rw (w.self-is, none) (finds_none c.report_if.new.self)
-    ] in
-    let there = rw c.in_ok-from_str.ensures.ok at utf8 in
-    let twice : declared_of c.args.self.now (chars key) ≡ c.contains-is_declared.result =
-    rw (encodes-chars key there) (sym c.contains-is_declared.ensures) in (
-      Pair (chars key) declared.pieces,
-      says,
-      checks_declared c.args.line (chars key) declared.pieces twice first found
-          (rw c.in_ok-from_str.ensures.ok at inserted) refl,
-    )
+    let key = chars c.in-Ok-Some.declaration.key.now in
+    pair_part c.args.line last (chars c.args.text.now) key declared.pieces
+    (says_declared c.args.self.now.dialect (look_up_of c.args.self.now.names) (chars c.args.text.now) key
+    c.in-Ok-Some.declaration declared refl) c.in_ok-check_declaration-in-Ok-Some.ensures
+
+pub returns-in_ok-characters-in-Err : goal.returns-in_ok-characters-in-Err
+returns-in_ok-characters-in-Err g c = λ last.
+    let fault = rw (
+      c.text.ensures.dialect,
+      c.text.ensures.text,
+      c.text.ensures.start,
+      c.as_slice.ensures.value,
+      c.in_ok-characters-in-Err.ensures,
+    ) at c.fault-fault.ensures in
+    ok-weaker _ _ c.keep_fault.result
+    (λ from kept.
+    fault_part c.args.line last c.in-Err.field-0.index (chars c.args.text.now) (chars c.in-Err.field-0.text.now)
+    c.fault-fault.result from c.in-Err.ensures fault kept.0 kept.1) c.keep_fault.ensures

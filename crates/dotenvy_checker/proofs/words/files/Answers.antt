@@ -1,0 +1,12 @@
+use Rattle.std.proofs.Common.{rules}
+use Rattle.clap.specs.Words.{found_of}
+use Rattle.dotenvy_checker.proofs.Refusals.{files_by}
+use Rattle.dotenvy_checker.proofs.words.files.Goals as goal
+
+pub returns-in-Some : goal.returns-in-Some
+returns-in-Some g c =
+    rw (files_by (found_of c.args.found.now) _ (rw c.in-Some.is at c.get_strs.ensures)) c.copied.ensures
+
+pub returns-in-None : goal.returns-in-None
+returns-in-None g c =
+    rw (files_by (found_of c.args.found.now) _ (rw c.in-None.is at c.get_strs.ensures)) (search rules)

@@ -1,0 +1,44 @@
+use Rattle.std.proofs.Common.{◌<◌, arith, length, refl, string_bytes}
+use Rattle.std.proofs.lemmas.List.{take-map, take_all, length-map}
+use Rattle.std.proofs.lemmas.Option.{slice_get-map, slice_get_read}
+use Rattle.dotenvy_checker.specs.Answers.{texts}
+use Rattle.dotenvy_checker.proofs.Refusals.{none_refused, first_at}
+use Rattle.dotenvy_checker.proofs.words.first_refused.Goals as goal
+
+pub halves-init : goal.halves-init
+halves-init g c = record {
+  order = omega arith;
+  inside = omega arith;
+  taken = none_refused;
+  refused = λ given. rw (take_all (length c.args.words.now) (texts c.args.words.now) (grind (arith, length-map))) given;
+}
+
+pub halves-preserved-then-branch : goal.halves-preserved-then-branch
+halves-preserved-then-branch g c =
+    let invariant = c.halves.invariant in record {
+      order = omega (arith, invariant.order);
+      inside = omega (arith, invariant.order, invariant.inside);
+      taken = invariant.taken;
+      refused = λ given.
+          rw (take-map string_bytes _ c.args.words.now) (rw c.if-branch.true at c.in_ok-is_refused.ensures);
+    }
+
+pub halves-preserved : goal.halves-preserved
+halves-preserved g c =
+    let invariant = c.halves.invariant in record {
+      order = omega (arith, invariant.order);
+      inside = invariant.inside;
+      taken = rw (take-map string_bytes _ c.args.words.now) (rw c.if-branch.false at c.in_ok-is_refused.ensures);
+      refused = invariant.refused;
+    }
+
+pub returns-in-Some : goal.returns-in-Some
+returns-in-Some g c = λ mistaken.
+    let invariant = c.halves.invariant in
+    let found = c.in-Some.ensures.lookup in
+    let inside : c.halves.taken < length c.args.words.now = grind (arith, found.0) in
+    let there = slice_get_read c.args.words.now (length c.args.words.now) c.halves.taken c.in-Some.word.now refl inside
+    found.1 in
+    first_at (texts c.args.words.now) c.as_str.result.now c.halves.taken c.halves.refused invariant.order
+    (omega (arith, c.halves-test.false)) invariant.taken (invariant.refused mistaken)
+    (rw (slice_get-map string_bytes c.args.words.now c.halves.taken, there, c.as_str.ensures.value) refl)
