@@ -18,7 +18,7 @@ notices() {
     kit=$(dirname "$(rt doc)")
     echo "What is in these files, and under which terms"
     printf '\ndotenvy, and this port of it: the file LICENSE.\n'
-    for name in memchr unicode thiserror; do
+    for name in memchr unicode thiserror clap strsim percent_encoding; do
         printf '\n\n%s\n%s\n\n' "$name" "$(printf '%*s' "${#name}" '' | tr ' ' -)"
         cat "$kit/rattle/$name"/LICENSE*
     done

@@ -2,49 +2,53 @@
 """Prints the examples of docs/CHECK.md as rows (docs/ROWS.md), which are crates/test_replay/data/check_page.rows.
 
 The first example is the block labelled `env`, and the block labelled `report` is what is reported of it. Rows, names
-and phrases of the tables are those of tests/grammar_rows.py. Each line of a table of warnings is a row of the file, and
-one of what to write instead, whose name ends with `-instead`, and of which nothing is reported.
+and phrases of the tables are those of tests/grammar_rows.py. Each line of a table of findings is a row of its file. The
+page names their kinds, and tests/report_model.py says where they are and what is printed of each. If it finds others,
+the script ends with status 1.
 """
 
 import re
 import sys
 
+import report_model
 from grammar_rows import CODE, DOCS, FILE, listed, phrase, phrases, print_rows, refuse, written
 
 # The tables that have no examples, by their header lines.
 NO_EXAMPLES = ["| Word | Means |", "| Line | Means |", "| Text | Means |", "| Status | When |", "| Text | When |"]
+# That of the kinds is tried by tests/kinds.py.
+NO_EXAMPLES += ["| Kind | Is | A file with it | A file without it | Message |"]
 
-# Phrases for warnings. A warning that is not on the first line has its line before it, such as `line 2: `.
-WARNING = {
-    "the empty name has no value": "'' has no value here; write \\$ for a dollar",
-    "`([^`]*)` has no value": "'{0}' has no value here; write \\$ for a dollar",
-    "`([^`]*)` ends before `_`": "the name '{0}' ends before '_'; write ${{NAME}}",
-    "the last backslash means nothing": "the backslash at the end means nothing; write \\\\",
-    "`([^`]*)` is declared twice": "'{0}' is declared twice; the first value counts",
-}
+DIALECTS = {"first": "v15", "second": "next"}
+# Phrases for findings.
+FINDING = {"`([^`]*)`": "{0}", "`([^`]*)` as a guess": "{0}?"}
+MESSAGES = report_model.messages()
 
 
-def warning(said):
-    """The line that is printed for a warning."""
-    line, text = re.fullmatch("(?:line ([0-9]+): )?(.*)", said).groups()
-    return ".env:" + (line or "1") + ": warning: " + phrase(text, WARNING) + "\n"
+def answer_of(findings, path):
+    """What a row wants of a check of a file with this name: what was found, and the report."""
+    faults = any(finding.is_error and not finding.is_guess for finding in findings)
+    warnings = any(not finding.is_error and not finding.is_guess for finding in findings)
+    found = " and ".join(["faults"] * faults + ["warnings"] * warnings)
+    report = "".join(report_model.printed(path, finding, MESSAGES) + "\n" for finding in findings)
+    return listed([found, report]) if findings else "nothing"
 
 
-def check_row(name, under, file, warnings):
-    """What is reported of a file called .env: these warnings."""
-    report = "".join(warning(said) for said in warnings)
-    answer = listed(["warnings", report]) if warnings else "nothing"
-    return ["check", name, "v15", ".env", under, written(file), "", answer]
+def check_row(name, dialect, pairs, file, kinds):
+    """What is reported of a file called .env, in an environment of these pairs: findings of these kinds."""
+    names = [pair.split("=")[0] for pair in pairs]
+    findings = report_model.report(file.encode("utf-8", "surrogateescape"), dialect, names)
+    found = [finding.kind + "?" * finding.is_guess for finding in findings]
+    if found != kinds:
+        refuse(f"the page has other findings of {written(file)} than the model, which has {found}")
+    return ["check", name, dialect, ".env", listed(pairs), written(file), "", answer_of(findings, ".env")]
 
 
-def warning_rows(name, table):
-    """What is reported of a file, and that nothing is of what is to be written instead."""
-    environment, file, said, instead = table[-1].values()
-    under = listed(phrases(environment, ", ", "", CODE))
-    rows = [check_row(name, under, phrase(file, FILE), [] if said == "none" else said.split(", then "))]
-    if instead:
-        rows.append(check_row(name + "-instead", under, phrase(instead, FILE), []))
-    return rows
+def finding_rows(name, table):
+    """What is reported of a file."""
+    dialect, environment, file, said = table[-1].values()
+    pairs = phrases(environment, ", ", "", CODE)
+    kinds = phrases(said, ", then ", "none", FINDING)
+    return [check_row(name, DIALECTS[dialect], pairs, phrase(file, FILE), kinds)]
 
 
 def first_example():
@@ -55,11 +59,13 @@ def first_example():
         refuse("CHECK.md has no block of an environment file, or none of its report")
     file, report = [block.group(1) for block in blocks]
     answer = listed(["faults and warnings", report])
+    if answer != answer_of(report_model.report(file.encode()), "service.env"):
+        refuse("CHECK.md has another report of its first example than the model")
     print("|".join(["check", "the-first-example", "v15", "service.env", "", written(file), "", answer]))
     sys.stdout.flush()
 
 
-TABLES = {"| Environment | File | Warnings | Write instead |": warning_rows}
+TABLES = {"| Dialect | Environment | File | Findings |": finding_rows}
 
 if __name__ == "__main__":
     print_rows("CHECK.md", TABLES, NO_EXAMPLES)

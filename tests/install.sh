@@ -39,7 +39,7 @@ make_copy() {
     cp -r bindings/c "$copy/bindings"
     cp bindings/python/pyproject.toml "$copy/bindings/python"
     cp tests/install.sh "$copy/tests"
-    for name in memchr unicode thiserror; do
+    for name in memchr unicode thiserror clap strsim percent_encoding; do
         mkdir -p "$temporary/kit/rattle/$name"
         echo "the terms of $name" >"$temporary/kit/rattle/$name/LICENSE"
     done
@@ -297,7 +297,7 @@ says_where() {
 # Whether the texts of the licences are there, and what was built from what.
 holds_papers() {
     local folder=$1/share/doc/dotenvy name
-    for name in memchr unicode thiserror; do
+    for name in memchr unicode thiserror clap strsim percent_encoding; do
         grep -qxF "the terms of $name" "$folder/NOTICES" || return 1
     done
     cmp -s "$folder/LICENSE" LICENSE && grep -qxF 'kit of the test' "$folder/BUILT" && grep -q '^commit ' "$folder/BUILT" &&

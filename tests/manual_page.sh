@@ -87,7 +87,6 @@ manual=docs/dotenvy_check.1
 compare "Options and files" "OPTIONS"
 compare "What is printed" "OUTPUT"
 compare "Faults" "FAULTS"
-compare "Warnings" "WARNINGS"
 compare "Statuses" "EXIT STATUS"
 compare "Texts on standard error" "DIAGNOSTICS"
 check_macros

@@ -6,7 +6,7 @@ write instead, each of its lines is two rows: one for the line, and one for what
 `-instead`. What the page says of other libraries isn't read.
 """
 
-from check_page_rows import check_row
+from check_page_rows import FINDING, check_row
 from grammar_rows import CODE, EXAMPLES, FILE, file_rows, in_order, listed, phrase, phrases, print_rows
 
 # The tables that have no examples, by their header lines.
@@ -25,9 +25,10 @@ def instead_rows(name, table):
 
 
 def warned_rows(name, table):
-    """What a line gives, and which warnings dotenvy_check prints of it."""
+    """What a line gives, and what dotenvy_check reports of it."""
     line, here, warnings = table[-1].values()
-    warned = check_row(name + "-warned", "", phrase(line, FILE), warnings.split(", then "))
+    kinds = phrases(warnings, ", then ", "nothing", FINDING)
+    warned = check_row(name + "-warned", "v15", [], phrase(line, FILE), kinds)
     return file_rows(name, [{"Line": line, "Gives": here}]) + [warned]
 
 

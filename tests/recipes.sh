@@ -135,7 +135,6 @@ check_unit() {
     for target in $targets {sysinit,basic,shutdown}.target; do
         check "systemd has $target" cp "/usr/lib/systemd/system/$target" "$units"
     done
-    script "$room/root/bin/bash" </dev/null
     check 'systemd-analyze sees that a program of the unit is missing' missing_program
     for program in dotenvy_run dotenvy_check serve; do
         script "$room/root/usr/local/bin/$program" </dev/null
@@ -159,8 +158,8 @@ check_unit_commands() {
     check 'the unit starts the command with the settings' gave 0 'serve on 8080 --verbose'
     cp "$room/broken.env" "$room/etc/serve/service.env"
     call sh -c "$before"
-    check 'the unit refuses a file with a fault, and prints its place alone' \
-        gave 1 "$room/etc/serve/service.env:1: error"
+    check 'the unit refuses a file with a fault, and says what is wrong' \
+        gave 1 "$room/etc/serve/$open_quote"
     printf 'PORT=8080\nSTORE=/srv/backups\n' >"$room/etc/serve/service.env"
 }
 
@@ -294,8 +293,9 @@ check_job() {
     cp "$room/broken.env" "$room/checkout/deploy"
     echo 'A=$B' >"$room/checkout/deploy/dollar.env"
     call step 2
-    check 'the job fails at a fault and a warning, and prints their places alone' \
-        gave 1 'deploy/broken.env:1: error' 'deploy/dollar.env:1: warning'
+    local no_value='the name after this dollar has no value; write \$ for a dollar, or declare it before [unknown-name]'
+    check 'the job fails at a fault and a warning, and says what is wrong' \
+        gave 1 "deploy/broken.env:${open_quote#*:}" "deploy/dollar.env:1:3: warning: $no_value"
 }
 
 # --- Secrets ---
@@ -305,8 +305,8 @@ check_secrets() {
     cp "$room/broken.env" "$room/work/service.env"
     call dotenvy_run -f service.env ./serve
     check 'the text of a fault is that of the page' complained "$(block 'Then `dotenvy_run -f service.env ./serve`')"
-    call bash -o pipefail -c "$(block 'No output of the programs')"
-    check 'the place of a fault can be had alone' gave 1 "$(sed -n 's/^It prints `\(.*: error\)`.*/\1/p' "$page")"
+    call dotenvy_check service.env
+    check 'the report of the checker is that of the page' gave 1 "$open_quote"
 }
 
 # --- Recipes for a shell ---
@@ -350,7 +350,7 @@ check_joined() {
     printf 'B=2\nA=3' >base.env
     call sh -c "$(block_of "$top/docs/CHECK.md" 'Services that load several files')"
     check 'files without a last line feed are checked as one' gave 0 \
-        "/dev/stdin:3: warning: 'A' is declared twice; the first value counts"
+        '<stdin>:3:1: warning: this name is declared already, and the first value counts (line 1) [declared-twice]'
 }
 
 check_start() {
@@ -425,7 +425,7 @@ in_manual() {
 check_manual() {
     local title
     for title in '**Use a file only if it exists.**' '**Join files.**' '### Give the command' '**Print one value.**' \
-        '**Put the settings of this machine' '**Check a file before' 'No output of the programs'; do
+        '**Put the settings of this machine' '**Check a file before'; do
         check "docs/dotenvy_run.1 has the block of: $title" in_manual "$title"
     done
 }
@@ -442,6 +442,8 @@ if [ ! -x "$run" ] || [ ! -x "$checker" ]; then
 fi
 make_files
 block 'Values are often secrets' >"$room/broken.env"
+# What the checker reports of it.
+open_quote=$(block 'Nor does `--list` keep a secret')
 check 'the page has a file with a secret' grep -qx 'TOKEN=hidden' "$room/broken.env"
 check_unit
 if "$has_programs"; then

@@ -50,7 +50,7 @@ takes_less_than() {
 
 # The programs, the same for archive and wheel. The argument is their folder.
 check_programs() {
-    local said=$'bad.env:4: error: Error parsing line: \'two words\', error at line index: 4'
+    local said='bad.env:4:6: error: a value with a space needs quotes; put it in double quotes [space-in-value]'
     check "$1/dotenvy_run starts a command" prints 'x 1' 0 "$1/dotenvy_run" -f good.env printenv B
     check "$1/dotenvy_run lists" prints $'A="1"\nB="2"' 0 sh -c "printf 'B=2\nA=1\nA=3\n' | '$1/dotenvy_run' --list"
     check "$1/dotenvy_check finds a fault" prints "$said" 1 "$1/dotenvy_check" bad.env

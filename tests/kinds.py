@@ -1,0 +1,140 @@
+#!/usr/bin/env -S python3 -B
+"""Compares the lists of kinds in docs/CHECK.md and docs/dotenvy_check.1 with src/kind.rt of dotenvy_findings.
+
+    kinds.py [PROGRAM]          PROGRAM is the one that `rt run` in crates/dotenvy_check builds, if none is named
+    kinds.py --model[=FILE]     has the model of the report in place of the program
+    kinds.py --print            prints the table, from kind.rt and the first row of each kind in tests/advice.tsv
+
+The table of docs/CHECK.md, "Kinds of findings", has each kind in the order of its enum, whether it is an error, a file
+with it, a file without it, and its message. The program has to find the kind in the one file and not in the other. The
+manual page has the names alone. The last line is `N passed, M failed`.
+"""
+
+import re
+import sys
+
+import report
+import report_model
+from grammar_rows import FILE, phrase
+
+PAGE = report_model.TOP / "docs" / "CHECK.md"
+MANUAL = report_model.TOP / "docs" / "dotenvy_check.1"
+HEADER = ["| Kind | Is | A file with it | A file without it | Message |", "|---|---|---|---|---|"]
+SEVERITIES = {"Errors": "error", "Warnings": "warning"}
+SIGNS = {"\t": "<TAB>", "\r": "<CR>", "\0": "<NUL>", "\n": "\u23ce"}
+
+
+def severities():
+    """Whether each kind is an error or a warning, by src/kind.rt."""
+    text = report_model.KINDS.read_text(encoding="utf-8")
+    names = re.search(r"pub fn name\(self\)(.*?)\n    \}\n", text, re.S).group(1)
+    faults = re.search(r"pub fn is_fault\(self\)(.*?)\n    \}\n", text, re.S).group(1)
+    is_fault = dict(re.findall(r"Kind::(\w+) => (true|false),", faults))
+    return {
+        name: "error" if is_fault[variant] == "true" else "warning"
+        for variant, name in re.findall(r'Kind::(\w+) => "([^"]*)",', names)}
+
+
+def sign(found):
+    """How a character is written, or blanks that could be overlooked."""
+    text = found.group()
+    if "\udc80" <= text <= "\udcff":
+        return f"<x{ord(text) - 0xdc00:02X}>"
+    if text.startswith(" "):
+        return "\u2423" * len(text)
+    return text if text.isprintable() else SIGNS.get(text) or f"<U+{ord(text):04X}>"
+
+
+def shown(data):
+    """The bytes of a file as the tables of the pages have them."""
+    text = data.decode("utf-8", "surrogateescape")
+    behind = "" if text.endswith("\n") else " (no `\u23ce` at the end)"
+    text = re.sub(r"^ +| +(?=\n|$)| {2,}|[^ ]", sign, text.removesuffix("\n"))
+    return f"`{text}`{behind}"
+
+
+def table():
+    """The rows of the table."""
+    examples = {}
+    for kind, file, instead in report.rows(report.ADVICE):
+        examples.setdefault(kind, [shown(report_model.bytes_of(cell)) for cell in (file, instead)])
+    kinds = severities()
+    return [
+        "| " + " | ".join([f"`{kind}`", kinds[kind]] + examples.get(kind, ["", ""]) + [f"`{message}`"]) + " |"
+        for kind, message in report.MESSAGES.items()]
+
+
+def page_rows(count):
+    """The rows of the table as the page has them."""
+    section = re.search(r"^## Kinds of findings\n(.*?)(?=^## )", PAGE.read_text(encoding="utf-8"), re.M | re.S)
+    lines = re.findall(r"^\|.*", section.group(1), re.M) if section else []
+    count.check(lines[:2] == HEADER, 'docs/CHECK.md, "Kinds of findings", has no table of kinds')
+    return lines[2:]
+
+
+def check_page(count, lines):
+    """Checks that the page has each kind in its place, with its severity and its message, and no more."""
+    kinds = severities()
+    wanted = [(f"`{kind}`", kinds[kind], f"`{message}`") for kind, message in report.MESSAGES.items()]
+    cells = [line.strip("|").split("|") for line in lines]
+    found = [tuple(row[at].strip() for at in (0, 1, -1)) if len(row) == 5 else tuple(row) for row in cells]
+    for row in wanted:
+        count.check(row in found, f"docs/CHECK.md has no row with {row}")
+    for row in found:
+        count.check(row in wanted, f"docs/CHECK.md has a row with {row}")
+    count.check(found == wanted, "docs/CHECK.md has the kinds in another order")
+    count.check(lines == table(), "docs/CHECK.md has another table than the one that tests/kinds.py --print prints")
+
+
+def check_files(count, lines, reader):
+    """Checks that what the page says of each file is so."""
+    rows = [[cell.strip() for cell in line.strip("|").split("|")] for line in lines]
+    texts = [phrase(cell, FILE) for row in rows for cell in row[2:4]]
+    files = [text.encode("utf-8", "surrogateescape") for text in texts]
+    found = report.findings_of(count, reader, "the table", files)
+    for row, before, after in zip(rows, found[0::2], found[1::2]):
+        kind = row[0].strip("`")
+        is_told = any(finding.kind == kind and not finding.is_guess for finding in before)
+        count.check(is_told, f"{kind} isn't told of {row[2]}", before)
+        count.check(kind not in {finding.kind for finding in after}, f"{kind} is told of {row[3]}", after)
+
+
+def check_manual(count):
+    """Checks that the manual page has the names of all kinds, by errors and warnings, in order."""
+    section = re.search(r"^\.SH KINDS OF FINDINGS\n(.*?)(?=^\.SH )", MANUAL.read_text(encoding="utf-8"), re.M | re.S)
+    lists = re.findall(r"^\.SS (\w+)\n([^.]*)", section.group(1), re.M) if section else []
+    found = {}
+    for title, text in lists:
+        found[SEVERITIES.get(title, title)] = re.split(r",\s+", text.replace("\\-", "-").strip())
+    kinds = severities()
+    for severity in SEVERITIES.values():
+        wanted = [kind for kind in kinds if kinds[kind] == severity]
+        names = found.get(severity, [])
+        for kind in wanted:
+            count.check(kind in names, f"docs/dotenvy_check.1, {severity}s, hasn't {kind}")
+        count.check(names == wanted, f"docs/dotenvy_check.1, {severity}s, has {names}")
+    count.check(len(lists) == len(found) == len(SEVERITIES), "docs/dotenvy_check.1 has other lists of kinds")
+
+
+def main(words):
+    """Does what the words of the command line say, and returns the status."""
+    sys.stdout.reconfigure(encoding="utf-8", errors="backslashreplace")
+    if words == ["--print"]:
+        print("\n".join(HEADER + table()))
+        return 0
+    make, path, _ = report.asked(words)
+    count = report.Count()
+    count.check(severities().keys() == report.MESSAGES.keys(), "kind.rt has other names than messages")
+    lines = page_rows(count)
+    check_page(count, lines)
+    check_manual(count)
+    if make is report.Program and not path.exists():
+        count.check(False, f"there is no program {path}; rt run in crates/dotenvy_check builds it")
+    else:
+        check_files(count, lines, make(path))
+    print(f"{count.passed} passed, {count.failed} failed")
+    return 1 if count.failed else 0
+
+
+if __name__ == "__main__":
+    sys.exit(main(sys.argv[1:]))
