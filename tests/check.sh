@@ -1,10 +1,11 @@
 #!/usr/bin/env bash
-# Calls the built program dotenvy_check on real files: ones that can't be opened or read, a FIFO, links, the search for
-# `.env`, words that are no text, and standard output and error that are closed or full. `tests/check.sh PROGRAM` calls
-# another program, and a second word is its version. Without a word it is the one that `rt ci`, or `rt run` in
-# crates/dotenvy_check, has built. It takes a few seconds. The last line is `N passed, M failed`.
+# Calls the built program dotenvy_check on real files, with each option: files that can't be opened or read, a FIFO, links,
+# folders, the search for `.env`, words that are no text, and standard output and error that are closed or full.
+# `tests/check.sh PROGRAM` calls another program, and a second word is its version. Without a word it is the one that
+# `rt ci`, or `rt run` in crates/dotenvy_check, has built. It takes some seconds. The last line is `N passed, M failed`.
 #
 # shellcheck disable=SC2016 # dollars in single quotes belong to files and reports
+# shellcheck disable=SC2059 # the names of files in formats of printf are plain
 set -euo pipefail
 cd "$(dirname "$0")/.."
 umask 022
@@ -65,6 +66,19 @@ space_in_value() {
 unknown_name() {
     printf '%s: warning: the name after this dollar has no value; write \\$ for a dollar, or declare it before%s\n' \
         "$1" ' [unknown-name]'
+}
+
+tilde() {
+    printf '%s: warning: ~ is not expanded; write the directory, or ${HOME} [tilde]\n' "$@"
+}
+
+# What is printed of names: those that no checked file declares, and those that the file FILE doesn't have.
+not_declared() {
+    printf "$1: error: no checked file declares this name: %s [not-declared]\n" "${@:2}"
+}
+
+not_in_schema() {
+    printf "$1: warning: a checked file declares this name, and this file doesn't: %s [not-in-schema]\n" "${@:2}"
 }
 
 # What the program prints of itself on standard error.
@@ -133,6 +147,28 @@ check_refused() {
     check "$what" 2 '' "$(failure "$text; try 'dotenvy_check --help'")$nl"
 }
 
+# Values of options that are refused, and options without their value.
+check_values() {
+    local option
+    check_refused 'an unknown kind that is allowed' "there is no kind 'none'" --allow none bad.env
+    check_refused 'an unknown kind that is denied' "there is no kind 'Tilde'" bad.env --deny Tilde
+    check_refused 'an error that is allowed' "only a warning can be allowed, not 'open-brace'" --allow=open-brace bad.env
+    check_refused 'an unknown format' "there is no format 'xml'" --format xml bad.env
+    check_refused 'an empty format' "there is no format ''" --format= bad.env
+    check_refused 'an unknown kind with an escape' "there is no kind '\\u{1b}[31m\\n'" --deny $'\e[31m\n' bad.env
+    check_refused 'the first wrong value of --allow' "there is no kind 'x'" --format w --deny y --allow x --allow z
+    check_refused 'a wrong value, quietly' "there is no format 'x'" -q --format x bad.env
+    for option in --allow --deny --known --schema --exclude --format; do
+        check_refused "$option at the end" "no value after '$option'" bad.env "$option"
+        check_refused "$option before an option" "no value after '$option'" "$option" --strict bad.env
+    done
+    for option in --text --together --ignore-environment; do
+        check_refused "$option with a value" "unexpected value in '$option=1'" "$option=1" bad.env
+    done
+    call --allow none --version
+    check 'a wrong value before --version' 0 "dotenvy_check $version$nl" ''
+}
+
 check_words() {
     check_refused 'an unknown option' "unknown option '-x'" -x
     check_refused 'an unknown option after a file: nothing is checked' "unknown option '--list'" bad.env --list
@@ -140,6 +176,7 @@ check_words() {
     check_refused 'an unknown letter beside a known one' "unknown option '-qx'" -qx
     check_refused 'a value of an option that takes none' "unexpected value in '--next=1'" --next=1 -x
     check_refused 'an unknown option before --help' "unknown option '-x'" -x --help
+    check_values
     check_refused 'an unknown option with an escape and a line feed' "unknown option '-\\u{1b}[31m\\n'" $'-\e[31m\n'
     check_refused 'an unknown option with characters that turn or end a line' \
         "unknown option '-\\u{202e}\\u{2066}\\u{2028}\\u{2029}'" $'-\u202e\u2066\u2028\u2029'
@@ -153,7 +190,8 @@ check_words() {
     cp "$room/output" "$room/help"
     check 'help' 0 "$(cat "$room/help")$nl" ''
     local option
-    for option in --next --strict -q --quiet -h --help -V --version --; do
+    for option in --next --strict --allow --deny --known --ignore-environment --together --schema --exclude --format \
+        --text -q --quiet -h --help -V --version --; do
         status=0
         grep -qE -- "^ .*$option(,| )" "$room/help" || status=$?
         check "help has $option" 0 "$(cat "$room/help")$nl" ''
@@ -178,6 +216,259 @@ check_words() {
     # shellcheck disable=SC2046 # each number is a word of its own
     call $(seq 300 | sed 's/.*/absent&.env/')
     check 'three hundred files' 2 "$all" ''
+}
+
+# Which findings are reported, and which count.
+check_counts() {
+    local warnings
+    printf 'A=$CHECKED\nB=~/x\n' >warnings.env
+    warnings=$(unknown_name warnings.env:1:3)$nl$(tilde warnings.env:2:3)$nl
+    call warnings.env --allow unknown-name
+    check 'a kind that is allowed' 0 "$(tilde warnings.env:2:3)$nl" ''
+    call --strict --allow=unknown-name warnings.env --allow tilde
+    check 'two kinds that are allowed, with --strict' 0 '' ''
+    call --allow name-before-underscore bad.env
+    check 'a fault beside a kind that is allowed' 1 "$(space_in_value bad.env:2:6)$nl" ''
+    call --deny tilde warnings.env
+    check 'a kind that is denied' 1 "$warnings" ''
+    call --deny default --deny open-brace warnings.env
+    check 'kinds that are denied and not there' 0 "$warnings" ''
+    call --deny tilde --allow tilde warnings.env
+    check 'a kind that is denied and allowed' 0 "$(unknown_name warnings.env:1:3)$nl" ''
+    call -q --deny tilde warnings.env
+    check 'a kind that is denied, quietly' 1 '' ''
+}
+
+# Which names have a value that the file doesn't declare.
+check_names() {
+    call --known CHECKED --strict mentions.env
+    check 'a known name' 0 '' ''
+    call --known=NOT mentions.env
+    check 'another known name' 0 "$mentions" ''
+    call --known 1A --known '' mentions.env
+    check 'known names that are none' 0 "$mentions" ''
+    CHECKED=1 call --ignore-environment mentions.env
+    check 'a name of the environment that is ignored' 0 "$mentions" ''
+    CHECKED=1 call --ignore-environment --known CHECKED --strict mentions.env
+    check 'a known name beside an environment that is ignored' 0 '' ''
+    echo 'CHECKED=1' >before.env
+    call --strict before.env mentions.env
+    check 'a name of another file' 1 "$mentions" ''
+    call --strict --together before.env mentions.env
+    check 'a name of the file before, together' 0 '' ''
+    call --together mentions.env before.env
+    check 'a name of the file behind, together' 0 "$mentions" ''
+    call --strict --together before.env before.env
+    check 'a name that two files declare, together' 0 '' ''
+    call --together - mentions.env <before.env
+    check 'a name of standard input, together' 0 '' ''
+    CHECKED=1 call --together --ignore-environment mentions.env
+    check 'a name of the environment that is ignored, together' 0 "$mentions" ''
+}
+
+# The names that there should be.
+check_schema() {
+    local missing extra json
+    printf 'B=secret\nA=\nfaulty\nZ=$CHECKED\n' >names.schema
+    printf 'A=1\nC=hidden\nB_=2\n' >some.env
+    printf 'Z=1\nB=1\n' >others.env
+    missing=$(not_declared names.schema B Z)$nl
+    extra=$(not_in_schema names.schema B_ C)$nl
+    call --schema names.schema some.env
+    check 'names that are missing, and others' 1 "$missing$extra" ''
+    call some.env others.env --schema=names.schema
+    check 'names of two files, and others' 0 "$extra" ''
+    call --strict --schema names.schema some.env others.env
+    check 'other names with --strict' 1 "$extra" ''
+    printf 'A=1\n' >one.env
+    call --strict --schema names.schema one.env others.env
+    check 'each name in one of two files' 0 '' ''
+    call --schema names.schema others.env bad.env
+    check 'names come behind findings' 1 "$bad$(not_in_schema names.schema C)$nl" ''
+    CHECKED=1 A=1 call --known A --schema names.schema others.env
+    check 'a name of the environment is not declared' 1 "$(not_declared names.schema A)$nl" ''
+    call -q --schema names.schema some.env
+    check 'names that are missing, quietly' 1 '' ''
+    call --schema absent.schema one.env
+    check 'an absent file of names' 2 "$(unread absent.schema 'No such file or directory (os error 2)')$nl" ''
+    call --format github --schema names.schema one.env others.env some.env
+    check "other names in GitHub's form" 0 \
+        "::warning file=names.schema,title=not-in-schema::a checked file declares this name, and this file doesn't: B_
+::warning file=names.schema,title=not-in-schema::a checked file declares this name, and this file doesn't: C$nl" ''
+    json='"file":"names.schema","severity":"error","kind":"not-declared","message":"no checked file declares this name'
+    call --format json --schema names.schema one.env
+    check 'names that are missing, as JSON' 1 "{$json: B\"}$nl{$json: Z\"}$nl" ''
+    mkdir sorts
+    cp one.env sorts/.env
+    cp names.schema sorts/.env.example
+    call --schema sorts/.env.example --exclude .env.example sorts
+    check 'a file of names that is left out of its folder' 1 "$(not_declared sorts/.env.example B Z)$nl" ''
+}
+
+# The environment files of a folder.
+check_folders() {
+    local found
+    mkdir -p many/below many/below.env bare
+    printf 'A\n' | tee many/{.env,b.env,.env.local,-x.env} many/{.envrc,.env.,env,a.env.bak} many/below{,.env}/a.env \
+        >"$room/output"
+    ln -s ../bad.env many/c.env
+    ln -s ../bare many/d.env
+    mkfifo many/e.env
+    found=$(no_equals_sign many/{-x.env,.env,.env.local,b.env}:1:2)$nl
+    call many
+    check 'a folder' 1 "$found" ''
+    call many/
+    check 'a folder with a slash' 1 "$found" ''
+    check_refused 'a value that begins with a dash, as a word' "no value after '--exclude'" --exclude -x.env many
+    call --exclude=-x.env many --exclude .env
+    check 'two names that are left out of a folder' 1 "$(no_equals_sign many/{.env.local,b.env}:1:2)$nl" ''
+    call --exclude b.env many many/b.env
+    check 'a file that is left out, and named' 1 "$(no_equals_sign many/{-x.env,.env,.env.local,b.env}:1:2)$nl" ''
+    call many/below good.env many/below.env
+    check 'folders below it, around a file' 1 "$(no_equals_sign many/below/a.env:1:2 many/below.env/a.env:1:2)$nl" ''
+    ln -s many/below linked
+    call linked
+    check 'a link to a folder' 1 "$(no_equals_sign linked/a.env:1:2)$nl" ''
+    call bare
+    check 'a folder without files' 0 '' ''
+    cd many/below
+    call .
+    cd ../..
+    check 'the current directory' 1 "$(no_equals_sign ./a.env:1:2)$nl" ''
+    if [ "$(id -u)" -ne 0 ]; then
+        chmod 111 bare
+        check_between 'a folder that may not be read' bare 'Permission denied (os error 13)'
+        chmod 755 bare
+    fi
+    if printf 'A\n' >"bare/"$'\377.env' && printf 'B\n' >bare/z.env; then
+        call bare good.env
+        found=$(no_equals_sign bare/z.env:1:2)$nl$(unread bare 'a file here has a name that is not UTF-8')$nl
+        check 'a folder with a name that is no text' 2 "$found" ''
+        call -q bare
+        check 'a folder with a name that is no text, quietly' 2 '' ''
+    fi
+}
+
+# A report in another format.
+check_formats() {
+    local format
+    call --format text bad.env
+    check 'a report as text' 1 "$bad" ''
+    check_github
+    check_json
+    check_sarif
+    for format in text github json sarif; do
+        call --format "$format" --quiet bad.env absent.env
+        check "a quiet check in the format $format" 2 '' ''
+        call --format "$format" --deny unknown-name mentions.env -q
+        check "a quiet check in the format $format with a warning that counts" 1 '' ''
+    done
+    for format in text github json; do
+        call --format "$format" good.env
+        check "nothing is found in the format $format" 0 '' ''
+    done
+    call --format xml bad.env --format text
+    check 'the last format counts' 1 "$bad" ''
+}
+
+check_github() {
+    local wanted
+    wanted=$(
+        cat <<'END'
+::error file=bad.env,line=2,col=6,title=space-in-value::a value with a space needs quotes; put it in double quotes
+::warning file=bad.env,line=3,col=7,title=name-before-underscore::the name ends before this _; write ${NAME}
+::error file=absent.env::No such file or directory (os error 2)
+END
+    )
+    call --format github bad.env absent.env
+    check "a report in GitHub's form" 2 "$wanted$nl" ''
+    printf '// c\n' >'a:b,c%d.env'
+    call --format github 'a:b,c%d.env'
+    check "a file name in GitHub's form" 1 \
+        "::error file=a%3Ab%2Cc%25d.env,line=1,col=1,title=other-comment::a comment begins with #$nl" ''
+}
+
+check_json() {
+    local wanted
+    wanted=$(
+        cat <<'END'
+{"file":"\"a\\b\".env","line":1,"column":1,"severity":"error","kind":"other-comment","message":"a comment begins with #"}
+END
+    )
+    printf '// c\n' >'"a\b".env'
+    call --format json '"a\b".env'
+    check 'a file name in JSON' 1 "$wanted$nl" ''
+    # Each object is a line, which is broken here.
+    wanted=$(
+        sed ':next; /}$/!{ N; s/\n *//; b next; }' <<'END'
+{"file":"guess.env","line":2,"column":1,"severity":"warning","kind":"declared-twice",
+    "message":"this name is declared already, and the first value counts","other":1}
+{"file":"guess.env","line":3,"column":3,"severity":"error","kind":"open-double-quote",
+    "message":"this double quote is never closed; close it, or write \\\" for one that is meant"}
+{"file":"guess.env","line":4,"column":1,"severity":"warning","kind":"other-comment",
+    "message":"a comment begins with #","guess":true}
+{"file":"absent.env","severity":"error",
+    "message":"No such file or directory (os error 2)"}
+END
+    )
+    printf 'A=1\nA=2\nB="\n// c\n' >guess.env
+    call --format json guess.env absent.env
+    check 'a report as JSON' 2 "$wanted$nl" ''
+}
+
+# Keeps of a document of SARIF its results, and what is behind them.
+cut_results() {
+    grep -o '"results":\[.*' "$room/output" >"$room/results" || :
+    mv "$room/results" "$room/output"
+}
+
+check_sarif() {
+    local wanted
+    call --format sarif good.env
+    cut_results
+    check 'nothing is found in the format sarif' 0 "\"results\":[]}]}$nl" ''
+    # It is one line, which is broken here.
+    wanted=$(
+        sed 's/^ *//' <<'END' | tr -d '\n'
+"results":[{"ruleId":"other-comment","level":"error","message":{"text":"a comment begins with #"},
+    "locations":[{"physicalLocation":{"artifactLocation":{"uri":"a%20b.env"},
+        "region":{"startLine":1,"startColumn":1}}}]},
+    {"ruleId":"unread-file","level":"error","message":{"text":"No such file or directory (os error 2)"},
+    "locations":[{"physicalLocation":{"artifactLocation":{"uri":"absent.env"}}}]}]}]}
+END
+    )
+    printf '// c\n' >'a b.env'
+    call --format sarif 'a b.env' absent.env
+    cut_results
+    check 'a report as SARIF' 2 "$wanted$nl" ''
+    call_without_output '>/dev/full' --format sarif good.env
+    check 'SARIF is written where nothing is found' 2 '' "$(failure 'No space left on device (os error 28)')$nl"
+}
+
+# What a load says of each error.
+check_texts() {
+    local space said
+    space=$(space_in_value bad.env:2:6)$nl
+    said="    Error parsing line: 'two words', error at line index: 4$nl"
+    call --text bad.env
+    check 'what a load says' 1 "${bad/"$space"/"$space$said"}" ''
+    call --text mentions.env
+    check 'a load says nothing of a warning' 0 "$mentions" ''
+    printf 'A="secret\n# \e[31m\n' >turned.env
+    call turned.env --text
+    check 'what a load says of an open quote, on one line' 1 \
+        "turned.env:1:3: error: this double quote is never closed; close it, or write \\\" for one that is meant [open-double-quote]
+    Error parsing line: 'A=\"secret\\n# \\u{1b}[31m\\n', error at line index: 18$nl" ''
+    printf 'A=\377\n' >none.env
+    call --text none.env
+    check 'a load says nothing of a line that is no text' 1 \
+        "none.env:1:3: error: this byte is not UTF-8, and the file may be in Latin-1; save it as UTF-8 [latin-1]$nl" ''
+    call --text --quiet bad.env
+    check 'what a load says, quietly' 1 '' ''
+    call --format github bad.env
+    cp "$room/output" "$room/kept"
+    call --text --format github bad.env
+    check "what a load says is not in GitHub's form" 1 "$(cat "$room/kept")$nl" ''
 }
 
 check_quiet() {
@@ -228,7 +519,6 @@ check_files() {
     ln -s absent.env nothing.env
     chmod 000 locked.env shut
     check_between 'an absent file' absent.env 'No such file or directory (os error 2)'
-    check_between 'a directory' folder 'Is a directory (os error 21)'
     check_between 'a link to nothing' nothing.env 'No such file or directory (os error 2)'
     check_between 'a link to itself' loop.env 'Too many levels of symbolic links (os error 40)'
     check_between 'a file in a file' good.env/x 'Not a directory (os error 20)'
@@ -297,8 +587,9 @@ check_search() {
     cd below
     call
     check 'the default file of the directory above' 1 "${bad//bad.env/$here/above/.env}" ''
-    call .env
-    check 'a file that is named is not searched for' 2 "$(unread .env 'Is a directory (os error 21)')$nl" ''
+    cp ../.env ../other.env
+    call other.env
+    check 'a file that is named is not searched for' 2 "$(unread other.env 'No such file or directory (os error 2)')$nl" ''
     cd "$here"
     mkdir gone
     cd gone
@@ -348,6 +639,12 @@ check_outputs() {
 
 check_statuses
 check_words
+check_counts
+check_names
+check_schema
+check_folders
+check_formats
+check_texts
 check_quiet
 check_many_names
 check_files

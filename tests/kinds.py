@@ -1,15 +1,18 @@
 #!/usr/bin/env -S python3 -B
-"""Compares the lists of kinds in docs/CHECK.md and docs/dotenvy_check.1 with src/kind.rt of dotenvy_findings.
+"""Compares the lists of kinds in docs/CHECK.md, docs/dotenvy_check.1 and release/completions with src/kind.rt of
+dotenvy_findings.
 
     kinds.py [PROGRAM]          PROGRAM is the one that `rt run` in crates/dotenvy_check builds, if none is named
     kinds.py --model[=FILE]     has the model of the report in place of the program
     kinds.py --print            prints the table, from kind.rt and the first row of each kind in tests/advice.tsv
 
 The table of docs/CHECK.md, "Kinds of findings", has each kind in the order of its enum, whether it is an error, a file
-with it, a file without it, and its message. The program has to find the kind in the one file and not in the other. The
-manual page has the names alone. The last line is `N passed, M failed`.
+with it, a file without it, and its message. The program has to find the kind in the one file and not in the other, and
+to have a rule of SARIF for each kind, with its message. The manual page and the completions have the names alone. The
+last line is `N passed, M failed`.
 """
 
+import json
 import re
 import sys
 
@@ -19,6 +22,7 @@ from grammar_rows import FILE, phrase
 
 PAGE = report_model.TOP / "docs" / "CHECK.md"
 MANUAL = report_model.TOP / "docs" / "dotenvy_check.1"
+COMPLETIONS = report_model.TOP / "release" / "completions"
 HEADER = ["| Kind | Is | A file with it | A file without it | Message |", "|---|---|---|---|---|"]
 SEVERITIES = {"Errors": "error", "Warnings": "warning"}
 SIGNS = {"\t": "<TAB>", "\r": "<CR>", "\0": "<NUL>", "\n": "\u23ce"}
@@ -99,6 +103,14 @@ def check_files(count, lines, reader):
         count.check(kind not in {finding.kind for finding in after}, f"{kind} is told of {row[3]}", after)
 
 
+def check_rules(count, program):
+    """Checks that a document of SARIF has a rule for each kind, with its message."""
+    answer = program.call("/", [], "v15", [], ["--format", "sarif", "/dev/null"])
+    driver = json.loads(answer.output)["runs"][0]["tool"]["driver"]
+    rules = [(rule["id"], rule["shortDescription"]["text"]) for rule in driver["rules"]]
+    count.check(rules[:len(report.MESSAGES)] == list(report.MESSAGES.items()), "SARIF has other rules", *rules)
+
+
 def check_manual(count):
     """Checks that the manual page has the names of all kinds, by errors and warnings, in order."""
     section = re.search(r"^\.SH KINDS OF FINDINGS\n(.*?)(?=^\.SH )", MANUAL.read_text(encoding="utf-8"), re.M | re.S)
@@ -116,6 +128,18 @@ def check_manual(count):
     count.check(len(lists) == len(found) == len(SEVERITIES), "docs/dotenvy_check.1 has other lists of kinds")
 
 
+def check_completions(count):
+    """Checks that the completions of each shell have the names of all kinds, by errors and warnings, in order."""
+    kinds = severities()
+    for path in sorted(COMPLETIONS.glob("dotenvy_check.*")):
+        words = [word for word in path.read_text(encoding="utf-8").split() if word != "\\"]
+        for severity in SEVERITIES.values():
+            wanted = [kind for kind in kinds if kinds[kind] == severity]
+            at = words.index(wanted[0]) if wanted[0] in words else 0
+            named = [word for word in words[at:at + len(wanted) + 1] if word in kinds]
+            count.check(named == wanted, f"release/completions/{path.name} has other {severity}s: {named}")
+
+
 def main(words):
     """Does what the words of the command line say, and returns the status."""
     sys.stdout.reconfigure(encoding="utf-8", errors="backslashreplace")
@@ -128,10 +152,13 @@ def main(words):
     lines = page_rows(count)
     check_page(count, lines)
     check_manual(count)
+    check_completions(count)
     if make is report.Program and not path.exists():
         count.check(False, f"there is no program {path}; rt run in crates/dotenvy_check builds it")
     else:
         check_files(count, lines, make(path))
+        if make is report.Program:
+            check_rules(count, make(path))
     print(f"{count.passed} passed, {count.failed} failed")
     return 1 if count.failed else 0
 

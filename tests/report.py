@@ -7,6 +7,7 @@
 What is compared: each line of tests/report_examples.tsv, and N files that are drawn (2,000 if no number is given), in
 both dialects. Other checks are without the model: each mistake of tests/mistakes.tsv is told on its line; what is
 advised in tests/advice.tsv helps; files that differ in a secret alone have one report, without a part of the secret;
+each format has the report of the text; a kind that is allowed leaves the report alone, and one that is denied counts;
 and each kind has an example. The program is run in an empty environment but for the names that are to have a value.
 It takes some seconds. The last line is `N passed, M failed`.
 """
@@ -14,6 +15,7 @@ It takes some seconds. The last line is `N passed, M failed`.
 import collections
 import contextlib
 import importlib.util
+import itertools
 import multiprocessing
 import pathlib
 import random
@@ -23,6 +25,7 @@ import subprocess
 import sys
 import tempfile
 
+import formats
 import report_drawing
 import report_model
 
@@ -49,9 +52,9 @@ class Program:
     def __init__(self, path):
         self.path = path
 
-    def call(self, folder, paths, dialect, names):
+    def call(self, folder, paths, dialect, names, options=()):
         """What it prints of files in the folder, where the names have a value."""
-        words = [self.path] + (["--next"] if dialect == "next" else []) + ["--"] + paths
+        words = [self.path, *options] + (["--next"] if dialect == "next" else []) + ["--"] + paths
         environment = {name: "1" for name in names}
         done = subprocess.run(
             words, cwd=folder, env=environment, stdin=subprocess.DEVNULL, capture_output=True, timeout=SECONDS)
@@ -339,6 +342,61 @@ def check_secrets(count, reader):
             count.check(bool(one) == is_told, f"what is told of {as_written(file)}, {dialect}", *one)
 
 
+# The options.
+
+
+def read_in(name, printed):
+    """The lines of text for which a report in this format stands, or what is wrong with it."""
+    try:
+        return list(formats.READERS[name](printed.decode("utf-8")))
+    except (KeyError, TypeError, ValueError) as fault:
+        return [f"{name}: {type(fault).__name__}: {fault}"]
+
+
+def check_formats(count, reader):
+    """Checks that each format has the report of the text."""
+    with placed(SECRET_FILES + SILENT_FILES) as (folder, paths):
+        for dialect in DIALECTS:
+            lines = reader.call(folder, paths, dialect, ["B"]).output.decode("utf-8").splitlines()
+            for name in formats.READERS:
+                answer = reader.call(folder, paths, dialect, ["B"], ["--format", name])
+                read = read_in(name, answer.output)
+                other = [pair for pair in itertools.zip_longest(lines, read) if pair[0] != pair[1]]
+                count.check(not other, f"the format {name} has another report than the text, {dialect}", *other[:3])
+
+
+def is_of(line, kind):
+    """Whether a printed line is a finding of this kind."""
+    return line.endswith(f" [{kind}]")
+
+
+def check_allowed(count, reader):
+    """Checks that a kind of warnings can be allowed, and what is reported then, and that an error can't."""
+    with placed(SECRET_FILES) as (folder, paths):
+        lines = reader.call(folder, paths, "v15", []).output.decode("utf-8").splitlines()
+        for kind in MESSAGES:
+            answer = reader.call(folder, paths, "v15", [], ["--allow", kind])
+            left = answer.output.decode("utf-8").splitlines()
+            if kind in report_model.FAULTS:
+                count.check(answer.status == 2 and not left, f"the error {kind} can be allowed", *left[:3])
+            else:
+                is_right = left == [line for line in lines if not is_of(line, kind)]
+                count.check(answer.status == 1 and is_right, f"another report, where {kind} is allowed", *left[:3])
+
+
+def check_denied(count, reader):
+    """Checks that a kind that is denied counts, and no other, and changes nothing in the report."""
+    found, _ = ask(reader, SECRET_FILES, "v15", [])
+    files = [file for file, lines in zip(SECRET_FILES, found) if not any(": error: " in line for line in lines)]
+    with placed(files) as (folder, paths):
+        printed = reader.call(folder, paths, "v15", []).output
+        lines = printed.decode("utf-8").splitlines()
+        for kind in MESSAGES:
+            answer = reader.call(folder, paths, "v15", [], ["--deny", kind])
+            status = 1 if any(is_of(line, kind) for line in lines) else 0
+            count.check(answer == Answer(status, printed, b""), f"status {answer.status}, where {kind} is denied")
+
+
 # The command.
 
 
@@ -371,10 +429,19 @@ def main(words):
         for what, check in CHECKS.items():
             count.part(what)
             check(count, reader)
+        if make is Program:
+            check_options(count, reader)
         count.part(f"{amount} files that are drawn have the findings of the model")
         check_drawn(count, make, path, amount)
     print(f"{count.passed} passed, {count.failed} failed")
     return 1 if count.failed else 0
+
+
+def check_options(count, reader):
+    """Makes the checks that call the program with options, which a model doesn't have."""
+    for what, check in OPTION_CHECKS.items():
+        count.part(what)
+        check(count, reader)
 
 
 CHECKS = {
@@ -382,6 +449,11 @@ CHECKS = {
     "each mistake is told on its line": check_mistakes,
     "what is advised helps": check_advice,
     "no secret is told": check_secrets,
+}
+OPTION_CHECKS = {
+    "each format has the report of the text": check_formats,
+    "a kind that is allowed leaves the report": check_allowed,
+    "a kind that is denied counts": check_denied,
 }
 
 if __name__ == "__main__":

@@ -1,6 +1,11 @@
 -- A file that was checked, and a load of it.
-use Rattle.std.proofs.Common.{◌≡◌, ℕ, ◌+◌, List, append-nil, false, Result, Ok, Err, refl}
+use Rattle.std.proofs.Common.{◌≡◌, ℕ, ◌+◌, List, [], ◌∷◌, ◌∙◌, ap, append-nil, inl, inr, false, Result, Ok, Err, refl}
+use Rattle.std.proofs.Common.{sym}
+use Rattle.std.proofs.lemmas.Bool.{cases_Bool}
 use Rattle.dotenvy_base.specs.declared.errors.Error.{Error}
+use Rattle.std.specs.List.{list_any}
+use Rattle.dotenvy_findings.specs.declared.finding.Finding.{Finding}
+use Rattle.dotenvy_findings.specs.declared.kind.Kind.{Kind}
 use Rattle.dotenvy_format.specs.Entries.{Failure}
 use Rattle.dotenvy_format.specs.Loads.{load_result, override_result}
 use Rattle.dotenvy_format.specs.Marks.{without_mark}
@@ -10,7 +15,10 @@ use Rattle.dotenvy_items.specs.Laws.{LoadsAllLeft}
 use Rattle.dotenvy_items.specs.LoadsRest.{IsAnswer, Rule}
 use Rattle.dotenvy_items.specs.Meaning.{values_of, recalled_of}
 use Rattle.dotenvy_items.proofs.WholeLoads.{load_takes_all, override_takes_all}
-use Rattle.dotenvy_checker.specs.Findings.{Row, Setting, lines_of}
+use Rattle.dotenvy_checker.specs.declared.report.Found.{Found}
+use Rattle.dotenvy_checker.specs.Checks.{file_setting}
+use Rattle.dotenvy_checker.specs.Findings.{Row, Setting, SoFar, findings, findings_of, is_among, is_error}
+use Rattle.dotenvy_checker.specs.Findings.{lines_of, shown}
 use Rattle.dotenvy_checker.specs.Laws.{CheckedFilesLoad, LoadsChecked, LoadsIfNoError}
 use Rattle.dotenvy_checker.proofs.FoundFaults.{faults_stop_loads}
 use Rattle.dotenvy_checker.proofs.NumberedLines.{numbered_entries}
@@ -22,6 +30,20 @@ ok_said (Ok done) answer is e = refl
 ok_said (Err failure) (Ok done) is e = absurd is
 ok_said (Err failure) (Err error) is e = cc
 
+-- what is reported has an error exactly where what is found has one
+errors_shown : (allowed : List Kind) (found : List Finding) →
+    list_any is_error (shown allowed found) ≡ list_any is_error found
+errors_shown allowed [] = refl
+errors_shown allowed (finding ∷ found) =
+    elim (cases_Bool (is_error finding)) [
+      | inl is ↦ rw (is, is) refl
+      | inr passes ↦
+          elim (cases_Bool (is_among finding.kind allowed)) [
+            | inl among ↦ rw (passes, among) (errors_shown allowed found)
+            | inr other ↦ rw (passes, other, passes) (errors_shown allowed found)
+          ]
+    ]
+
 -- a rule loads the lines of a file exactly where no error is found
 abbrev StopsAtErrors : Rule → Type 0
 StopsAtErrors rule =
@@ -30,9 +52,9 @@ StopsAtErrors rule =
 
 -- a rule that loads all that is left, and entries exactly where no error is found, loads what was checked
 loads_checked : {A W : Type 0} (rule : Rule) → LoadsAllLeft rule A → StopsAtErrors rule → LoadsChecked rule A W
-loads_checked {A = A} rule takes_all if_no_error sink a found answer k =
-    let (all, (rows, (no_fault, has), are_rows, is_all), is_found, sends) = k.reports in
-    let setting : Setting = record { names = k.names; dialect = k.checked.dialect; is_guess = false } in
+loads_checked {A = A} rule takes_all if_no_error sink a outcome answer k =
+    let (all, (rows, (no_fault, has), are_rows, is_all), tells, sends) = k.reports in
+    let setting = file_setting k.names k.checked.dialect k.how.text in
     let number = k.checked.lines.lines_taken + 1 in
     let entries = entries_of (lines_of rows) in
     let are = numbered_entries k.checked.dialect number (without_mark a.bytes) (lines_of rows) has in
@@ -42,9 +64,12 @@ loads_checked {A = A} rule takes_all if_no_error sink a found answer k =
     let said : IsAnswer loaded.answer answer = rw (no_fault, append-nil) at leaves.is_answer in
     let loads =
     if_no_error setting number (without_mark a.bytes) rows refl has (values_of k.old) (recalled_of k.loaded.remembered)
-    in (
-      λ none. (loaded.answer, loads.1 (rw (is_found, is_all) at none), said),
-      λ ok. rw (is_found, is_all) (loads.0 (ok_said loaded.answer answer said ok)),
+    in
+    let errors : outcome.found.faults ≡ list_any is_error (findings setting rows) =
+    ap (λ (found : Found). found.faults) tells.found ∙ errors_shown k.how.allowed.now (findings_of all)
+    ∙ ap (λ (all : SoFar). list_any is_error (findings_of all)) is_all in (
+      λ none. (loaded.answer, loads.1 (sym errors ∙ none), said),
+      λ ok. errors ∙ loads.0 (ok_said loaded.answer answer said ok),
     )
 
 -- both loads take what a check found no fault in

@@ -1,6 +1,6 @@
 -- The lines that a checker reads, one after another, and how its reading ends.
 use Rattle.std.proofs.Common.{◌≡◌, ◌≢◌, ℕ, ◌+◌, ◌-◌, ◌<◌, ◌≤◌, ◌⊎◌, inl, inr, List, [], ◌∷◌, ◌++◌, length, Option, Some, None}
-use Rattle.std.proofs.Common.{Result, Ok, Err, refl, sym, ap, ◌∙◌, string_bytes, true, false, arith}
+use Rattle.std.proofs.Common.{Result, Ok, Err, refl, sym, ap, ◌∙◌, string_bytes, Bool, true, false, arith}
 use Rattle.std.specs.Prelude.{◌^◌}
 use Rattle.std.specs.Str.{chars}
 use Rattle.std.specs.declared.io.ErrorKind.TheVariants.{InvalidData}
@@ -33,11 +33,9 @@ use Rattle.dotenvy_lines.proofs.LinesRead.{next_outcome, read_end, read_final}
 use Rattle.dotenvy_items.specs.LoadStops.{unmarked}
 use Rattle.dotenvy_items.proofs.NextItems.{goes_on_lines}
 use Rattle.dotenvy_checker.specs.declared.lines.Checker.{Checker}
-use Rattle.dotenvy_findings.specs.declared.finding.Finding.{Finding}
-use Rattle.dotenvy_findings.specs.Readings.{Known}
-use Rattle.dotenvy_checker.specs.Checks.{names_in, FewLines, HasFindings}
-use Rattle.dotenvy_checker.specs.Findings.{Row, Setting, SoFar, behind, findings, findings_of, last_of, lines_of, logical_text}
-use Rattle.dotenvy_checker.specs.Findings.{with_lines, with_logical, with_rows}
+use Rattle.dotenvy_checker.specs.Checks.{file_setting, names_in, FewLines, HasFindings}
+use Rattle.dotenvy_checker.specs.Findings.{Row, Setting, SoFar, behind, last_of, lines_of, logical_text}
+use Rattle.dotenvy_checker.specs.Findings.{nothing_yet, with_lines, with_logical, with_rows}
 use Rattle.dotenvy_checker.specs.Findings.{AreRows, GuessesFrom}
 use Rattle.dotenvy_checker.specs.inside.CheckedLines.{setting_of, so_far, ChecksOutcome, ChecksRead, ChecksRows}
 use Rattle.dotenvy_checker.specs.inside.CheckedLines.{ChecksUpTo, ComesTo, IsNew, WhereFew}
@@ -168,7 +166,7 @@ line_checked dialect a t old new m (Err (error.LineParse text index)) same
       };
       guesses = guesses;
       guessed = rw same at guessed;
-      comes = rw gives at comes;
+      comes = rw (gives, ← takes.is_next.4) at comes;
     }
 line_checked dialect a t old new m (Err (error.Io e)) same (inl (count, takes, counts, goes_on))
     (not_failed, (entries, guesses, gives, guessed, comes)) = record {
@@ -220,6 +218,7 @@ line_read {old = old} m few k is =
                   (same_setting false k.checks.comes) k.checks.comes.comes numbers.0 numbers.1;
               names = is.comes.names;
               dialect = is.comes.dialect;
+              tells = is.comes.tells;
             }));
       };
     }
@@ -300,33 +299,33 @@ checked_mark a s m old e drops =
     (checks_none old)
 
 -- where a checker of which nothing was read comes to, and what it then read of the lines that were handed over
-pub record IsRead {A : Type 0} (env : Known) (dialect : Dialect) (s : LinesState) (a : Ahead) (fault : Option (Error A))
+pub record IsRead {A : Type 0} (setting : Setting) (s : LinesState) (a : Ahead) (fault : Option (Error A))
     (checker : Checker A) : Type 0 where
-  pub all : List Finding
-  pub has : HasFindings env dialect s a fault all
-  pub found : findings_of (so_far checker) ≡ all
+  pub all : SoFar
+  pub has : HasFindings setting s a fault all
+  pub found : so_far checker ≡ all
 
 -- what is found in rows is the same from the same place on
 same_rows : {a b : Setting} {s t : SoFar} (rows : List Row) → a ≡ b → s ≡ t → with_rows a s rows ≡ with_rows b t rows
 same_rows rows a s = rw (a, s) refl
 
 -- a checker of which nothing was read has the findings of what it then reads of the lines that were handed over
-pub is_read : {A : Type 0} {env : Env} {dialect given : Dialect} {s t : LinesState} {fault is : Option (Error A)}
-    {old : Checker A} (new : Checker A) → IsNew env given old → given ≡ dialect → t ≡ s →
-    WhereFew t (λ a. ChecksUpTo t a fault old new) → fault ≡ is →
-    WhereFew s (λ a. IsRead (names_in env.names) dialect s a is new)
-is_read {env = env} {dialect} {given} {s} {t} {fault} {is} {old} new made in_dialect same told fault_is a opened is_told
-    few =
+pub is_read : {A : Type 0} {env : Env} {dialect given : Dialect} {tells : Bool} {s t : LinesState}
+    {fault is : Option (Error A)} {old : Checker A} (new : Checker A) → IsNew env given tells old → given ≡ dialect →
+    t ≡ s → WhereFew t (λ a. ChecksUpTo t a fault old new) → fault ≡ is →
+    WhereFew s (λ a. IsRead (file_setting (names_in env.names) dialect tells) s a is new)
+is_read {env = env} {dialect} {given} {tells} {s} {t} {fault} {is} {old} new made in_dialect same told fault_is a opened
+    is_told few =
     let (rows, reads, checks) = (rw same at told) a opened is_told few in
-    let setting : setting_of old false ≡ record { names = names_in env.names; dialect = dialect; is_guess = false } =
-    rw (made.environment, made.in_dialect, in_dialect) refl in
+    let setting : setting_of old false ≡ file_setting (names_in env.names) dialect tells =
+    rw (made.environment, made.in_dialect, in_dialect, made.tells) refl in
     let dialects : old.dialect ≡ dialect = made.in_dialect ∙ in_dialect in record {
-      all = findings (record { names = names_in env.names; dialect = dialect; is_guess = false }) rows;
+      all = with_rows (file_setting (names_in env.names) dialect tells) nothing_yet rows;
       has = (rows, rw (dialects, fault_is) at reads, rw dialects at checks.are_rows, refl);
-      found = ap findings_of (checks.comes.comes ∙ same_rows rows setting made.nothing);
+      found = checks.comes.comes ∙ same_rows rows setting made.nothing;
     }
 
--- a checker that stays as it was new finds nothing
-pub nothing_found : {A : Type 0} {env : Env} {dialect : Dialect} {old new : Checker A} → IsNew env dialect old →
-    new ≡ old → findings_of (so_far new) ≡ []
-nothing_found made same = ap findings_of (ap so_far same ∙ made.nothing)
+-- a checker that stays as it was new has found nothing
+pub nothing_found : {A : Type 0} {env : Env} {dialect : Dialect} {tells : Bool} {old new : Checker A} →
+    IsNew env dialect tells old → new ≡ old → so_far new ≡ nothing_yet
+nothing_found made same = ap so_far same ∙ made.nothing

@@ -51,7 +51,7 @@ pub guess_comment : {A : Type 0} {passed : Bool} {old : Checker A} (number : ℕ
 guess_comment {old = old} number text not_passed is = rw not_passed (
   record { number = number; count = 1; logical = guessed text; entries = [] } ∷ [],
   ([], rw is refl, refl),
-  rw is (record { comes = sym (none_more (so_far old)); names = refl; dialect = refl }),
+  rw is (record { comes = sym (none_more (so_far old)); names = refl; dialect = refl; tells = refl }),
 )
 
 -- one more was guessed

@@ -18,7 +18,7 @@ use Rattle.dotenvy_checker.specs.inside.CheckedLines.{declared_of, setting_of, s
 pub keeps : {A : Type 0} {remarks : List Remark} {declared : Declared} {old new : Checker A} →
     KeepsMore remarks declared old new →
     ComesTo (record { remarks = (so_far old).remarks ++ remarks; declared = declared }) old new
-keeps k = record { comes = rw (k.found, k.declares) refl; names = k.names; dialect = k.dialect }
+keeps k = record { comes = rw (k.found, k.declares) refl; names = k.names; dialect = k.dialect; tells = k.tells }
 
 -- what is kept, and then more, is all kept
 pub keeps_more : {A : Type 0} {xs ys : List Remark} {middle end : Declared} {a b c : Checker A} →
@@ -28,15 +28,16 @@ keeps_more {xs = xs} {ys = ys} {a = a} h k = record {
   declares = k.declares;
   names = k.names ∙ h.names;
   dialect = k.dialect ∙ h.dialect;
+  tells = k.tells ∙ h.tells;
 }
 
 -- nothing is kept
 pub keeps_none : {A : Type 0} (s : Checker A) → KeepsMore [] (declared_of s.declared) s s
-keeps_none s = record { found = sym (append-nil _); declares = refl; names = refl; dialect = refl }
+keeps_none s = record { found = sym (append-nil _); declares = refl; names = refl; dialect = refl; tells = refl }
 
 -- a checker that keeps nothing stays where it is
 pub comes_none : {A : Type 0} (s : Checker A) → ComesTo (so_far s) s s
-comes_none s = record { comes = refl; names = refl; dialect = refl }
+comes_none s = record { comes = refl; names = refl; dialect = refl; tells = refl }
 
 -- to find nothing more is to stay
 pub none_more : (s : SoFar) → record { remarks = s.remarks ++ []; declared = s.declared } ≡ s
@@ -45,12 +46,17 @@ none_more s = rw (append-nil s.remarks) refl
 -- a checker that comes on from where it came goes all the way
 pub comes_on : {A : Type 0} {middle end : SoFar} {old now new : Checker A} → ComesTo middle old now →
     ComesTo end now new → ComesTo end old new
-comes_on h k = record { comes = k.comes; names = k.names ∙ h.names; dialect = k.dialect ∙ h.dialect }
+comes_on h k = record {
+  comes = k.comes;
+  names = k.names ∙ h.names;
+  dialect = k.dialect ∙ h.dialect;
+  tells = k.tells ∙ h.tells;
+}
 
 -- how lines are checked stays the same
 pub same_setting : {A : Type 0} {to : SoFar} {old new : Checker A} (is_guess : Bool) → ComesTo to old new →
     setting_of new is_guess ≡ setting_of old is_guess
-same_setting is_guess h = rw (h.names, h.dialect) refl
+same_setting is_guess h = rw (h.names, h.dialect, h.tells) refl
 
 -- lines that are kept, and then others, are all kept
 pub with_lines-append : (setting : Setting) (s : SoFar) (xs ys : List FileLine) →
@@ -73,7 +79,13 @@ after_ok (Err e) f h = tt
 pub keeps_declared : {A : Type 0} {remarks : List Remark} {middle end : Declared} {a b : Checker A}
     (declared : CodeDeclared A) → KeepsMore remarks middle a b → declared_of declared ≡ end →
     KeepsMore remarks end a (record b { declared = declared })
-keeps_declared declared k e = record { found = k.found; declares = e; names = k.names; dialect = k.dialect }
+keeps_declared declared k e = record {
+  found = k.found;
+  declares = e;
+  names = k.names;
+  dialect = k.dialect;
+  tells = k.tells;
+}
 
 -- a declaration is kept: its key, if it was declared before, and what is told of it; and then the key is declared
 pub declaration_kept : {A : Type 0} (is_guess : Bool) (number : ℕ) (text key : List ℕ) (line : LineText)
@@ -94,5 +106,5 @@ declaration_kept is_guess number text key line declared marks {old} {one} {two} 
     let remarks : map (told_remark (setting_of one is_guess)) marks
     ≡ map (told_remark (setting_of old is_guess)) (line_marks
     (has_value (names_in old.names.env.now.names) (declared_of old.declared)) key old.dialect (begins_at number)
-    text) = rw (h.names, h.dialect, marked) refl in
+    text) = rw (h.names, h.dialect, h.tells, marked) refl in
     keeps_declared {b = two} declared (keeps_more h (rw remarks at k)) (e ∙ same)

@@ -1,12 +1,17 @@
 mod CheckedLoads
 mod CheckedReads
 mod DeclaredNames
+mod EmptyValues
 mod FindingsOnce
 mod FoundFaults
 mod Guesses
 mod KeptLines
+mod Lacking
+mod NamesAmong
 mod NumberedLines
 mod Parts
 mod Refusals
 mod Reported
+mod RequiredNames
+mod Untold
 mod Wholes

@@ -1,5 +1,5 @@
 -- What is found in a logical line by what it is.
-use Rattle.std.proofs.Common.{◌≡◌, ℕ, true, false, List, [], ◌∷◌, Option, None, refl, sym}
+use Rattle.std.proofs.Common.{◌≡◌, ℕ, true, false, List, [], ◌∷◌, ◌++◌, Option, None, refl, sym}
 use Rattle.std.specs.Str.{skip_leading_whitespace}
 use Rattle.dotenvy_format.specs.Characters.{begins_with, byte_len, hash}
 use Rattle.std.specs.Prelude.{encode_utf8_all}
@@ -14,8 +14,8 @@ use Rattle.dotenvy_findings.specs.declared.finding.LineFault.{LineFault}
 use Rattle.dotenvy_checker.specs.declared.lines.Checker.{Checker}
 use Rattle.dotenvy_checker.specs.declared.lines.Numbered.{Numbered}
 use Rattle.dotenvy_checker.specs.Findings.{begins_at, declaration_remarks, ends_inside, fault_remarks, guessed}
-use Rattle.dotenvy_checker.specs.Findings.{with_key}
-use Rattle.dotenvy_checker.specs.inside.CheckedLines.{declared_of, setting_of, so_far, ChecksPart, KeepsMore}
+use Rattle.dotenvy_checker.specs.Findings.{said_of, with_key}
+use Rattle.dotenvy_checker.specs.inside.CheckedLines.{declared_of, setting_of, so_far, ChecksPart, ComesTo, KeepsMore}
 use Rattle.dotenvy_checker.proofs.KeptLines.{keeps, none_more}
 
 -- a comment, read alone, is skipped
@@ -33,18 +33,21 @@ pub guessed_text : (text : List ℕ) → begins_with hash (skip_leading_whitespa
 guessed_text text other is = rw (other, is) refl
 
 -- the fault of a text in which a quote stays open is what is found in it
-pub open_part : {A : Type 0} (line : Numbered) (last index : ℕ) (text : List ℕ) (fault : LineFault) (from : Option ℕ)
-    {old new : Checker A} → fault ≡ open_line_fault (begins_at line.number) text → from ≡ fault.behind →
-    KeepsMore (fault_remarks (setting_of old line.is_guess) fault) (declared_of old.declared) old new →
+pub open_part : {A : Type 0} (line : Numbered) (last index : ℕ) (text said : List ℕ) (fault : LineFault)
+    (from : Option ℕ) {old new : Checker A} → fault ≡ open_line_fault (begins_at line.number) text →
+    said ≡ said_of old.tells_text (LineParse text index) → from ≡ fault.behind →
+    KeepsMore (fault_remarks (setting_of old line.is_guess) fault said) (declared_of old.declared) old new →
     ChecksPart line last (StaysOpen text index) from old new
-open_part line last index text fault from is e kept =
-    (Fails (LineParse text index) ∷ [], refl, rw is at e, keeps (rw is at kept))
+open_part line last index text said fault from is says e kept =
+    (Fails (LineParse text index) ∷ [], refl, rw is at e, keeps (rw (is, says) at kept))
 
 -- nothing is found in a text that says nothing
 pub nothing_part : {A : Type 0} (line : Numbered) (last : ℕ) (text : List ℕ) {old : Checker A} →
     Says old.dialect text Nothing → ChecksPart line last (HasText text) None old old
 nothing_part line last text {old} says =
-    ([], (Nothing, says, refl), refl, record { comes = sym (none_more (so_far old)); names = refl; dialect = refl })
+    let stays : ComesTo (record { remarks = (so_far old).remarks ++ []; declared = declared_of old.declared }) old old =
+    record { comes = sym (none_more (so_far old)); names = refl; dialect = refl; tells = refl } in
+    ([], (Nothing, says, refl), refl, stays)
 
 -- what is found in a declaration is found in its text
 pub pair_part : {A : Type 0} (line : Numbered) (last : ℕ) (text key : List ℕ) (pieces : List Piece)
@@ -57,10 +60,11 @@ pair_part line last text key pieces says kept =
     (Declares key pieces ∷ [], (Pair key pieces, says, refl), refl, keeps kept)
 
 -- the fault of a text is what is found in it
-pub fault_part : {A : Type 0} (line : Numbered) (last index : ℕ) (text wrong : List ℕ) (fault : LineFault)
+pub fault_part : {A : Type 0} (line : Numbered) (last index : ℕ) (text wrong said : List ℕ) (fault : LineFault)
     (from : Option ℕ) {old new : Checker A} → Says old.dialect text (Fault wrong index) →
-    fault ≡ closed_fault old.dialect (begins_at line.number) (trimmed text) → from ≡ fault.behind →
-    KeepsMore (fault_remarks (setting_of old line.is_guess) fault) (declared_of old.declared) old new →
+    fault ≡ closed_fault old.dialect (begins_at line.number) (trimmed text) →
+    said ≡ said_of old.tells_text (LineParse wrong index) → from ≡ fault.behind →
+    KeepsMore (fault_remarks (setting_of old line.is_guess) fault said) (declared_of old.declared) old new →
     ChecksPart line last (HasText text) from old new
-fault_part line last index text wrong fault from says is e kept =
-    (Fails (LineParse wrong index) ∷ [], (Fault wrong index, says, refl), rw is at e, keeps (rw is at kept))
+fault_part line last index text wrong said fault from says is told e kept =
+    (Fails (LineParse wrong index) ∷ [], (Fault wrong index, says, refl), rw is at e, keeps (rw (is, told) at kept))

@@ -1,5 +1,6 @@
 -- What the code returns for words, and how a run ends.
-use Rattle.std.specs.Prelude.{ℕ, ◌≡◌, ◌≢◌, ◌++◌, Bool, true, false, List, [], map, Option, Some}
+use Rattle.std.specs.Prelude.{ℕ, ◌≡◌, ◌≢◌, ◌+◌, ◌++◌, ◌⊎◌, Bool, true, false, List, [], map}
+use Rattle.std.specs.Prelude.{Option, Some, take}
 use Rattle.std.specs.Prelude.{Result, Ok, Err, if◌then◌else◌}
 use Rattle.std.specs.Prelude.{codes, string_bytes}
 use Rattle.std.specs.Option.{option_map}
@@ -12,24 +13,37 @@ use Rattle.dotenvy_base.specs.Errors.{error_text}
 use Rattle.dotenvy_base.specs.Output.{Sends, most_writes}
 use Rattle.dotenvy_base.specs.Source.{SinkTold}
 use Rattle.dotenvy_checker.specs.declared.failure.Failure.{Failure}
-use Rattle.dotenvy_checker.specs.declared.failure.Failure.TheVariants.{Usage, Write, Memory}
+use Rattle.dotenvy_checker.specs.declared.failure.Failure.TheVariants.{Usage, Value, Write, Memory}
 use Rattle.dotenvy_checker.specs.declared.failure.Stop.{Stop}
 use Rattle.dotenvy_checker.specs.declared.failure.Stop.TheVariants as stop
+use Rattle.dotenvy_checker.specs.declared.mistake.Mistake.{Mistake}
+use Rattle.dotenvy_checker.specs.declared.mistake.Mistake.TheVariants as mistake
 use Rattle.dotenvy_checker.specs.declared.words.Request.{Request}
 use Rattle.dotenvy_checker.specs.declared.words.Request.TheVariants.{Check, Help, Version}
 use Rattle.dotenvy_checker.specs.declared.words.Words.{Words}
-use Rattle.dotenvy_checker.specs.Words.{Asked, FirstRefused, asked_of, checker, printed}
+use Rattle.dotenvy_checker.specs.Words.{AreTaken, Asked, FirstRefused, asked_of, checker}
+use Rattle.dotenvy_checker.specs.Words.{mistake_of}
+use Rattle.dotenvy_reports.specs.OneLine.{on_one_line}
 
 -- words, as bytes
 abbrev pub texts : {A : Type 0} → List (String A) → List Text
 texts words = map string_bytes words
 
--- what the code's words ask for, with files as bytes
+-- what the code's words ask for, with texts as bytes
 abbrev pub asked_by : {A : Type 0} → Words A → Asked
 asked_by words = record {
   dialect = words.dialect;
   strict = words.strict;
   quiet = words.quiet;
+  text = words.text;
+  together = words.together;
+  ignores_environment = words.ignores_environment;
+  allowed = words.allowed.items;
+  denied = words.denied.items;
+  known = texts words.known.items;
+  excluded = texts words.excluded.items;
+  schema = option_map string_bytes words.schema;
+  format = words.format;
   files = texts words.files.items;
 }
 
@@ -45,24 +59,66 @@ abbrev pub IsRefused : Kinds → Bool → Type 0
 IsRefused kinds true = kinds ≢ []
 IsRefused kinds false = kinds ≡ []
 
+-- words are refused up to a place, also with the word there; or they aren't, with it or without it
+abbrev pub StayRefused : List Text → ℕ → Bool → Type 0
+StayRefused words place true =
+    (fault_of checker (take place words) ≢ []) × (fault_of checker (take (place + 1) words) ≢ [])
+StayRefused words place false =
+    (fault_of checker (take place words) ≡ []) ⊎ (fault_of checker (take (place + 1) words) ≡ [])
+
+-- this is the first word that is refused, at this place
+abbrev pub IsFirstRefused : List Text → ℕ → Text → Type 0
+IsFirstRefused words place word = (first : FirstRefused words word) × (first.place ≡ place)
+
+-- this kind is told of words of which these are the first ones, and which this kind refuses: a kind
+-- of mistake in these, or, where what refuses these is no mistake, the given one
+abbrev pub IsToldKind : List Text → ErrorKind → ErrorKind → Type 0
+IsToldKind front kind told =
+    ((is_mistake told ≡ true) × IsAmong told (fault_of checker front))
+    ⊎ ((told ≡ kind)
+    × ((other : ErrorKind) × (is_mistake other ≡ false) × IsAmong other (fault_of checker front)))
+
 -- the request is that of these words: a check of what is found in them, or what they ask for in its
 -- place
 abbrev pub IsRequestOf : {A : Type 0} → List Text → Request A → Type 0
 IsRequestOf words (Check read) =
-    (fault_of checker words ≡ []) × (asked_by read ≡ asked_of (matches_of checker words))
+    AreTaken words × (asked_by read ≡ asked_of (matches_of checker words))
 IsRequestOf words Help = IsAmong kind.DisplayHelp (fault_of checker words)
 IsRequestOf words Version = IsAmong kind.DisplayVersion (fault_of checker words)
 
--- this kind of mistake is in these words, and this is the first word that is refused, as it is
--- printed
+-- this kind of mistake is told of words, of which these are the first ones: it is in these, or, where
+-- what refuses these is no mistake, in all
+abbrev pub IsKindTold : List Text → List Text → ErrorKind → Type 0
+IsKindTold front words kind =
+    (is_mistake kind ≡ true)
+    × (IsAmong kind (fault_of checker front)
+    ⊎ ((other : ErrorKind) × (is_mistake other ≡ false) × IsAmong other (fault_of checker front)
+    × IsAmong kind (fault_of checker words)))
+
+-- a mistake is in these words
+abbrev pub HasMistake : List Text → Type 0
+HasMistake words =
+    (found : ErrorKind) × (is_mistake found ≡ true) × IsAmong found (fault_of checker words)
+
+-- a mistake is in these words, this is the first word that is refused, as it is printed, and this
+-- kind of mistake is told of the words up to it
 abbrev pub IsMistakeOf : List Text → ErrorKind → Text → Type 0
 IsMistakeOf words kind shown =
-    (is_mistake kind ≡ true) × IsAmong kind (fault_of checker words)
-    × ((word : Text) × FirstRefused words word × (shown ≡ printed (chars word)))
+    HasMistake words
+    × ((word : Text) × (first : FirstRefused words word)
+    × IsKindTold (take (first.place + 1) words) words kind × (shown ≡ on_one_line (chars word)))
+
+-- this is wrong with the first value of these words with which something is, as it is printed
+abbrev pub IsValueMistakeOf : List Text → Mistake → Text → Type 0
+IsValueMistakeOf words wrong shown =
+    (fault_of checker words ≡ [])
+    × ((value : Text) × (mistake_of (matches_of checker words) ≡ Some (wrong, value))
+    × (shown ≡ on_one_line (chars value)))
 
 -- the failure is that of these words, or a failed allocation
 abbrev pub IsFailureOf : {A : Type 0} → List Text → Failure A → Type 0
 IsFailureOf words (Usage kind word) = IsMistakeOf words kind (string_bytes word)
+IsFailureOf words (Value wrong value) = IsValueMistakeOf words wrong (string_bytes value)
 IsFailureOf words (Write error) = ⊥
 IsFailureOf words (Memory refused) = Unit {0}
 
@@ -71,26 +127,28 @@ abbrev pub AnswersWords : {A : Type 0} → List Text → Result (Request A) (Fai
 AnswersWords words (Ok request) = IsRequestOf words request
 AnswersWords words (Err failure) = IsFailureOf words failure
 
--- these words are refused, and ask neither for help nor for the version
+-- these words are not taken, and ask neither for help nor for the version
 abbrev pub AreMistaken : List Text → Type 0
 AreMistaken words =
-    (fault_of checker words ≢ []) × ¬ (IsAmong kind.DisplayHelp (fault_of checker words))
+    ¬ (AreTaken words) × ¬ (IsAmong kind.DisplayHelp (fault_of checker words))
     × ¬ (IsAmong kind.DisplayVersion (fault_of checker words))
 
 -- these words ask for a check of which nothing is printed
 abbrev pub AskQuiet : List Text → Type 0
 AskQuiet words =
-    (fault_of checker words ≡ []) × ((asked_of (matches_of checker words)).quiet ≡ true)
+    AreTaken words × ((asked_of (matches_of checker words)).quiet ≡ true)
 
 -- the failure is a mistake in the words
 abbrev pub IsUsage : {A : Type 0} → Failure A → Type 0
 IsUsage (Usage kind word) = Unit {0}
+IsUsage (Value wrong value) = Unit {0}
 IsUsage (Write error) = ⊥
 IsUsage (Memory refused) = ⊥
 
 -- the failure is a failed allocation
 abbrev pub IsMemoryEnd : {A : Type 0} → Failure A → Type 0
 IsMemoryEnd (Usage kind word) = ⊥
+IsMemoryEnd (Value wrong value) = ⊥
 IsMemoryEnd (Write error) = ⊥
 IsMemoryEnd (Memory refused) = Unit {0}
 
@@ -99,6 +157,7 @@ abbrev pub Prints : {A W : Type 0} → (W → SinkTold) → W → W → Text →
 Prints {A = A} told old new text (Ok status) =
     (status ≡ 0) × Sends {A = A} told most_writes old new text (Ok tt)
 Prints told old new text (Err (Usage kind word)) = ⊥
+Prints told old new text (Err (Value wrong value)) = ⊥
 Prints told old new text (Err (Write error)) = Sends told most_writes old new text (Err error)
 Prints told old new text (Err (Memory refused)) = new ≡ old
 
@@ -116,12 +175,23 @@ status_of unread counts = if unread then 2 else if counts then 1 else 0
 -- what is said of a mistake, before the word that has it
 abbrev pub mistake_text : ErrorKind → Text
 mistake_text kind.TooManyValues = codes "unexpected value in"
+mistake_text kind.InvalidValue = codes "no value after"
 mistake_text other = codes "unknown option"
+
+-- what is said of a mistake in a value, before the value
+abbrev pub value_text : Mistake → Text
+value_text mistake.UnknownKind = codes "there is no kind"
+value_text mistake.AllowedError = codes "only a warning can be allowed, not"
+value_text mistake.UnknownFormat = codes "there is no format"
+
+-- what is said of a text with which this is wrong
+abbrev pub refusal_text : Text → Text → Text
+refusal_text wrong shown =
+    codes "error: " ++ (wrong ++ (codes " '" ++ (shown ++ codes "'; try 'dotenvy_check --help'")))
 
 -- what is printed of a failure; nothing is said of an error whose own text is not specified
 abbrev pub end_text : {A : Type 0} → Failure A → Option Text
-end_text (Usage kind word) =
-    Some (codes "error: " ++ (mistake_text kind
-    ++ (codes " '" ++ (string_bytes word ++ codes "'; try 'dotenvy_check --help'"))))
+end_text (Usage kind word) = Some (refusal_text (mistake_text kind) (string_bytes word))
+end_text (Value wrong value) = Some (refusal_text (value_text wrong) (string_bytes value))
 end_text (Write error) = option_map (λ text. codes "error: " ++ text) (error_text error)
 end_text (Memory refused) = Some (codes "error: out of memory")

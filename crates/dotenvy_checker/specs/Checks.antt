@@ -1,6 +1,7 @@
 -- What a check of a file writes and returns.
-use Rattle.std.specs.Prelude.{ℕ, ◌≡◌, ◌+◌, ◌<◌, ◌^◌, false, List, length, Option, Some}
+use Rattle.std.specs.Prelude.{ℕ, ◌≡◌, ◌+◌, ◌<◌, ◌^◌, ◌||◌, Bool, false, List, length, Option, Some}
 use Rattle.std.specs.Prelude.{None, Result, Ok, Err}
+use Rattle.std.specs.HashMap.{get_by_text}
 use Rattle.std.specs.List.{list_any}
 use Rattle.dotenvy_base.specs.Environment.{Texts}
 use Rattle.dotenvy_base.specs.Errors.{IsIoOf}
@@ -18,16 +19,25 @@ use Rattle.dotenvy_lines.specs.Numbered.{FileLine, HasNumbered, DecidesNumbered}
 use Rattle.dotenvy_items.specs.Iter.{IterState}
 use Rattle.dotenvy_items.specs.LoadStops.{unmarked}
 use Rattle.std.specs.FinMap as fin
+use Rattle.dotenvy_checker.specs.declared.check.Checked.{Checked}
+use Rattle.dotenvy_checker.specs.declared.declared.Declared.{Declared as CodeDeclared}
 use Rattle.dotenvy_checker.specs.declared.failure.Stop.{Stop}
 use Rattle.dotenvy_checker.specs.declared.failure.Stop.TheVariants.{Read, Write, Memory}
 use Rattle.dotenvy_checker.specs.declared.report.Found.{Found}
-use Rattle.dotenvy_checker.specs.Findings.{Row, findings, is_error, is_warning, lines_of}
-use Rattle.dotenvy_checker.specs.Findings.{placed, AreRows}
+use Rattle.dotenvy_checker.specs.declared.report.Reporting.{Reporting}
+use Rattle.dotenvy_findings.specs.declared.kind.Kind.{Kind}
+use Rattle.dotenvy_checker.specs.Findings.{Declared, Row, Setting, SoFar, findings_of, is_error}
+use Rattle.dotenvy_checker.specs.Findings.{is_denied, is_warning, lines_of, nothing_yet, placed}
+use Rattle.dotenvy_checker.specs.Findings.{reported, shown, with_rows, AreRows}
 use Rattle.dotenvy_checker.specs.Report.{report}
 
 -- the names that an environment has, by their bytes
 abbrev pub names_in : Texts → Known
 names_in texts name = fin.contains_key texts name
+
+-- the names that the code keeps as declared, each with the first line that declares it
+abbrev pub declared_of : {A : Type 0} → CodeDeclared A → Declared
+declared_of declared name = get_by_text declared.lines name
 
 -- the numbers of the lines that are complete in what is told fit 64 bits
 abbrev pub FewLines : LinesState → Ahead → Type 0
@@ -44,42 +54,76 @@ ReadsLines dialect s a (Some e) lines =
     × IsIoOf (IsReadFault a s.input (λ bytes.
     DecidesNumbered dialect (s.lines_taken + 1) (without_mark bytes) lines) t) e
 
--- these are the findings of what of a is read from s on, up to this fault or the end
-abbrev pub HasFindings : {A : Type 0} → Known → Dialect → LinesState → Ahead → Option (Error A) →
-    List Finding → Type 0
-HasFindings names dialect s a fault found =
-    (rows : List Row) × ReadsLines dialect s a fault (lines_of rows)
-    × AreRows dialect rows
-    × (found ≡ findings (record { names = names; dialect = dialect; is_guess = false }) rows)
-
--- whether errors are among these findings, and whether warnings that count are
-abbrev pub found_in : List Finding → Found
-found_in found = record {
-  faults = list_any is_error found;
-  warnings = list_any is_warning found;
+-- how the lines of a file are checked that is read in this dialect, where these names have a value
+abbrev pub file_setting : Known → Dialect → Bool → Setting
+file_setting names dialect tells_text = record {
+  names = names;
+  dialect = dialect;
+  is_guess = false;
+  tells_text = tells_text;
 }
 
--- the report of these findings is sent to a sink, with this result; each line that is no text has
+-- this is found in what of a is read from s on, up to this fault or the end
+abbrev pub HasFindings : {A : Type 0} → Setting → LinesState → Ahead → Option (Error A) → SoFar →
+    Type 0
+HasFindings setting s a fault all =
+    (rows : List Row) × ReadsLines setting.dialect s a fault (lines_of rows)
+    × AreRows setting.dialect rows × (all ≡ with_rows setting nothing_yet rows)
+
+-- whether there are errors among these findings, and warnings, and warnings of kinds that are
+-- denied
+abbrev pub found_in : List Kind → List Finding → Found
+found_in denied found = record {
+  faults = list_any is_error found;
+  warnings = list_any is_warning found;
+  denied = list_any (is_denied denied) found;
+}
+
+-- the same of one finding
+abbrev pub found_of : List Kind → Finding → Found
+found_of denied finding = record {
+  faults = is_error finding;
+  warnings = is_warning finding;
+  denied = is_denied denied finding;
+}
+
+-- what is found in two files together
+abbrev pub both : Found → Found → Found
+both one other = record {
+  faults = one.faults || other.faults;
+  warnings = one.warnings || other.warnings;
+  denied = one.denied || other.denied;
+}
+
+-- the report of what was found is sent to a sink, with this result; each line that is no text has
 -- the place of a byte that is none
-abbrev pub SendsReport : {A W : Type 0} → (W → SinkTold) → List ℕ → List Finding → W →
+abbrev pub SendsReport : {A W : Type 0} → (W → SinkTold) → Reporting → List ℕ → SoFar → W →
     Result (Unit {0}) (Error A) → W → Type 0
-SendsReport told file all old result new =
-    (bad : List BadByte) × Sends told most_writes old new (report file (placed bad all)) result
+SendsReport told how file all old result new =
+    (bad : List BadByte)
+    × Sends told most_writes old new
+    (report how.format how.is_first file (placed bad (reported how.allowed.now all))) result
+
+-- the result of a check says what was found and is not allowed, and which names the file declares
+pub record Tells {A : Type 0} (how : Reporting) (all : SoFar) (checked : Checked A) : Type 0 where
+  pub found : checked.found ≡ found_in how.denied.now (shown how.allowed.now (findings_of all))
+  pub declares : declared_of checked.declared ≡ all.declared
 
 -- the report of what is found in what is read of a is sent to a sink, and the result is: what is
--- found in all of it; the fault of reading; or that of writing
-abbrev pub Reports : {A W : Type 0} → (W → SinkTold) → List ℕ → Known → IterState → Ahead → W →
-    Result Found (Stop A) → W → Type 0
-Reports {A = A} told file names s a old (Ok found) new =
-    (all : List Finding) × HasFindings {A = A} names s.dialect s.lines a None all
-    × (found ≡ found_in all) × SendsReport {A = A} told file all old (Ok tt) new
-Reports {A = A} told file names s a old (Err (Read e)) new =
-    (all : List Finding) × HasFindings names s.dialect s.lines a (Some e) all
-    × SendsReport {A = A} told file all old (Ok tt) new
-Reports {A = A} told file names s a old (Err (Write e)) new =
-    (fault : Option (Error A)) × (all : List Finding)
-    × HasFindings names s.dialect s.lines a fault all × SendsReport told file all old (Err e) new
-Reports told file names s a old (Err (Memory refused)) new = new ≡ old
+-- found in all of it, and the names; the fault of reading; or that of writing
+abbrev pub Reports : {A W : Type 0} → (W → SinkTold) → Reporting → List ℕ → Known → IterState →
+    Ahead → W → Result (Checked A) (Stop A) → W → Type 0
+Reports {A = A} told how file names s a old (Ok checked) new =
+    (all : SoFar) × HasFindings {A = A} (file_setting names s.dialect how.text) s.lines a None all
+    × Tells how all checked × SendsReport {A = A} told how file all old (Ok tt) new
+Reports {A = A} told how file names s a old (Err (Read e)) new =
+    (all : SoFar) × HasFindings (file_setting names s.dialect how.text) s.lines a (Some e) all
+    × SendsReport {A = A} told how file all old (Ok tt) new
+Reports {A = A} told how file names s a old (Err (Write e)) new =
+    (fault : Option (Error A)) × (all : SoFar)
+    × HasFindings (file_setting names s.dialect how.text) s.lines a fault all
+    × SendsReport told how file all old (Err e) new
+Reports told how file names s a old (Err (Memory refused)) new = new ≡ old
 
 -- the check stops because an allocation failed
 abbrev pub IsMemoryStop : {A : Type 0} → Stop A → Type 0

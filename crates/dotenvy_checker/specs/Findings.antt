@@ -2,12 +2,14 @@
 use Rattle.std.specs.Prelude.{ℕ, ◌≡◌, ◌==◌, Bool, true, false, not, ◌||◌, ◌&&◌, ◌+◌, ◌-◌, List, [], ◌∷◌}
 use Rattle.std.specs.Prelude.{◌++◌, map, min, ◌^◌, nat_le, Option, Some, None, is_some, bytes_eq}
 use Rattle.std.specs.Prelude.{encode_utf8_all, if◌then◌else◌}
-use Rattle.std.specs.List.{slice_split}
+use Rattle.std.specs.List.{filter, slice_split}
 use Rattle.std.specs.Str.{chars, skip_leading_whitespace}
 use Rattle.dotenvy_format.specs.declared.dialect.Dialect.{Dialect}
 use Rattle.dotenvy_format.specs.declared.walk.LineMode.TheVariants.{Outside}
 use Rattle.dotenvy_format.specs.Characters.{begins_with, byte_len, hash, line_feed}
-use Rattle.dotenvy_format.specs.Entries.{Entry, Declares, Fails, Gives}
+use Rattle.dotenvy_base.specs.Errors.{line_parse_text}
+use Rattle.dotenvy_format.specs.Entries.{Entry, Declares, Fails, Failure, Gives}
+use Rattle.dotenvy_format.specs.Entries.{LineParse, Io, Nul, Memory}
 use Rattle.dotenvy_format.specs.LogicalLine.{Logical, Skip, HasText, StaysOpen, Broken}
 use Rattle.dotenvy_format.specs.Outcome.{trimmed}
 use Rattle.dotenvy_format.specs.inside.Walk.{Walk, going, ended, walk}
@@ -20,10 +22,11 @@ use Rattle.dotenvy_findings.specs.declared.kind.Kind.TheVariants as kind
 use Rattle.dotenvy_findings.specs.declared.place.Place.{Place}
 use Rattle.dotenvy_findings.specs.Causes.{skip_white}
 use Rattle.dotenvy_findings.specs.Characters.{begins_declaration}
-use Rattle.dotenvy_findings.specs.Kinds.{is_fault}
+use Rattle.dotenvy_findings.specs.Kinds.{is_fault, kind_number}
 use Rattle.dotenvy_findings.specs.LineTexts.{closed_fault, line_marks, open_line_fault, place_left}
 use Rattle.dotenvy_findings.specs.Opens.{is_inside}
 use Rattle.dotenvy_findings.specs.Readings.{Known, Told}
+use Rattle.dotenvy_reports.specs.OneLine.{on_one_line}
 
 -- names that are declared, by their bytes, each with the first line that declares it
 abbrev pub Declared : Type 0
@@ -39,17 +42,20 @@ with_key key line declared name =
     if is_some (declared key) then declared name else
     if bytes_eq key name then Some line else declared name
 
--- how a line is checked: which names have a value outside the file, the dialect, and whether the
--- line is read as a guess, behind a quote that stays open
+-- how a line is checked: which names have a value outside the file, the dialect, whether the line
+-- is read as a guess, behind a quote that stays open, and whether its text is told
 pub record Setting : Type 0 where
   pub names : Known
   pub dialect : Dialect
   pub is_guess : Bool
+  pub tells_text : Bool
 
--- something that is found, and the name that has no value there, if that is found
+-- something that is found, the name that has no value there, if that is found, and what a load says
+-- of the line, if that is told
 pub record Remark : Type 0 where
   pub finding : Finding
   pub name : List ℕ
+  pub said : List ℕ
 
 -- what was found so far, and the names that are declared so far
 pub record SoFar : Type 0 where
@@ -69,6 +75,7 @@ abbrev pub found : Setting → Kind → Place → ℕ → Remark
 found setting k place other = record {
   finding = record { kind = k; place = place; other = other; is_guess = setting.is_guess };
   name = [];
+  said = [];
 }
 
 -- what is told of a declaration, as a finding
@@ -76,6 +83,7 @@ abbrev pub told_remark : Setting → Told → Remark
 told_remark setting told = record {
   finding = record { kind = told.kind; place = told.place; other = 0; is_guess = setting.is_guess };
   name = told.name;
+  said = [];
 }
 
 -- the place at which a line with this number begins
@@ -98,9 +106,19 @@ declaration_remarks setting declared number text key =
     ++ map (told_remark setting)
     (line_marks (has_value setting.names declared) key setting.dialect (begins_at number) text)
 
--- the fault of a line, as a finding
-abbrev pub fault_remarks : Setting → LineFault → List Remark
-fault_remarks setting fault = found setting fault.kind fault.place 0 ∷ []
+-- what a load says of a line that fails like this, on one line, if that is told
+abbrev pub said_of : Bool → Failure → List ℕ
+said_of false failure = []
+said_of true (LineParse text index) =
+    on_one_line (chars (line_parse_text (encode_utf8_all text) index))
+said_of true (Io kind) = []
+said_of true (Nul key) = []
+said_of true Memory = []
+
+-- the fault of a line, as a finding, of which a load says this
+abbrev pub fault_remarks : Setting → LineFault → List ℕ → List Remark
+fault_remarks setting fault said =
+    record (found setting fault.kind fault.place 0) { said = said } ∷ []
 
 -- what is found in the text of a line with these entries
 abbrev pub text_remarks : Setting → Declared → ℕ → List ℕ → List Entry → List Remark
@@ -109,6 +127,7 @@ text_remarks setting declared number text (Declares key pieces ∷ entries) =
     declaration_remarks setting declared number (trimmed text) (encode_utf8_all key)
 text_remarks setting declared number text (Fails failure ∷ entries) =
     fault_remarks setting (closed_fault setting.dialect (begins_at number) (trimmed text))
+    (said_of setting.tells_text failure)
 
 -- what is found in a logical line with this number, whose last physical line is the last one given,
 -- and which has these entries
@@ -118,6 +137,7 @@ logical_remarks setting declared number last (HasText text) entries =
     text_remarks setting declared number text entries
 logical_remarks setting declared number last (StaysOpen text index) entries =
     fault_remarks setting (open_line_fault (begins_at number) text)
+    (said_of setting.tells_text (LineParse text index))
 logical_remarks setting declared number last Broken entries =
     found setting kind.NotUtf8 (begins_at last) 0 ∷ []
 
@@ -287,6 +307,10 @@ resolved declared remark =
     if is_unknown remark.finding.kind then with_later (declared remark.name) remark.finding
     else remark.finding
 
+-- what is told, where these names are declared in the whole file
+abbrev pub settled : Declared → Remark → Remark
+settled declared remark = record remark { finding = resolved declared remark }
+
 -- the findings of all that was read of a file
 abbrev pub findings_of : SoFar → List Finding
 findings_of so_far = map (resolved so_far.declared) so_far.remarks
@@ -318,11 +342,12 @@ abbrev pub bad_left : List BadByte → Finding → List BadByte
 bad_left [] finding = []
 bad_left (bad ∷ others) finding = if is_broken finding.kind then others else bad ∷ others
 
--- findings, with each line that is no text at its first byte that is none
-abbrev pub placed : List BadByte → List Finding → List Finding
+-- what is told, with each line that is no text at its first byte that is none
+abbrev pub placed : List BadByte → List Remark → List Remark
 placed bad [] = []
-placed bad (finding ∷ findings) =
-    placed_one bad finding ∷ placed (bad_left bad finding) findings
+placed bad (remark ∷ remarks) =
+    record remark { finding = placed_one bad remark.finding }
+    ∷ placed (bad_left bad remark.finding) remarks
 
 -- a finding is an error: a fault, and no guess
 abbrev pub is_error : Finding → Bool
@@ -331,3 +356,26 @@ is_error finding = is_fault finding.kind && not finding.is_guess
 -- a finding is a warning that counts, where warnings do: no fault, and no guess
 abbrev pub is_warning : Finding → Bool
 is_warning finding = not (is_fault finding.kind) && not finding.is_guess
+
+-- the kind is one of these
+abbrev pub is_among : Kind → List Kind → Bool
+is_among k [] = false
+is_among k (first ∷ kinds) = kind_number first == kind_number k || is_among k kinds
+
+-- a finding is a warning of a kind that is denied
+abbrev pub is_denied : List Kind → Finding → Bool
+is_denied denied finding = is_warning finding && is_among finding.kind denied
+
+-- a finding is reported: it is an error, or of no kind that is allowed
+abbrev pub is_shown : List Kind → Finding → Bool
+is_shown allowed finding = is_error finding || not (is_among finding.kind allowed)
+
+-- the findings that are reported, where these kinds are allowed
+abbrev pub shown : List Kind → List Finding → List Finding
+shown allowed found = filter (is_shown allowed) found
+
+-- what is reported of all that was read of a file, where these kinds are allowed
+abbrev pub reported : List Kind → SoFar → List Remark
+reported allowed so_far =
+    filter (λ remark. is_shown allowed remark.finding)
+    (map (settled so_far.declared) so_far.remarks)

@@ -1,7 +1,8 @@
 -- The laws of checks: the lines of a file are there once, no error is found exactly where a load
 -- meets no fault, and what is found is decided by the bytes.
-use Rattle.std.specs.Prelude.{ℕ, ◌≡◌, false, List, Result, Ok, Err}
+use Rattle.std.specs.Prelude.{ℕ, ◌≡◌, false, true, All, List, [], Result, Ok, Err}
 use Rattle.std.specs.List.{list_any}
+use Rattle.clap.specs.Words.{Text}
 use Rattle.dotenvy_base.specs.Environment.{Texts}
 use Rattle.dotenvy_base.specs.Errors.{IsMemoryErr}
 use Rattle.dotenvy_base.specs.Source.{Ahead, SinkTold}
@@ -16,9 +17,16 @@ use Rattle.dotenvy_items.specs.Iter.{IterState}
 use Rattle.dotenvy_items.specs.Iteration.{CanRead}
 use Rattle.dotenvy_items.specs.LoadsRest.{IsAnswer, LoadsRest, Rule}
 use Rattle.dotenvy_lines.specs.Numbered.{FileLine, entries_of, HasNumbered, DecidesNumbered}
+use Rattle.env_layers.specs.declared.missing.Missing.{Missing}
+use Rattle.env_layers.specs.Missing.{absent_names, AnswersRequire}
+use Rattle.dotenvy_checker.specs.declared.check.Checked.{Checked}
 use Rattle.dotenvy_checker.specs.declared.report.Found.{Found}
-use Rattle.dotenvy_checker.specs.Checks.{Reports}
-use Rattle.dotenvy_checker.specs.Findings.{AreRows, Row, Setting, findings, is_error, lines_of}
+use Rattle.dotenvy_checker.specs.declared.report.Reporting.{Reporting}
+use Rattle.dotenvy_checker.specs.Checks.{names_in, Reports}
+use Rattle.dotenvy_checker.specs.Findings.{AreRows, Remark, Row, Setting, findings, is_error}
+use Rattle.dotenvy_checker.specs.Findings.{lines_of, nothing_yet, with_rows}
+use Rattle.dotenvy_checker.specs.Folders.{is_among}
+use Rattle.dotenvy_checker.specs.Schema.{found_between}
 
 -- bytes whose first physical line has this number have one list of lines, and only one, and the
 -- entries of these lines are the entries of the bytes
@@ -69,16 +77,17 @@ FaultsStopLoads =
 abbrev pub SaysOkOrNul : {A : Type 0} → Result (Unit {0}) (Error A) → Type 0
 SaysOkOrNul answer = (said : Result (Unit {0}) Failure) × IsOkOrNul said × IsAnswer said answer
 
--- a check of what a source tells found this; and a load of the same by this rule, in the same
+-- a check of what a source tells told this; and a load of the same by this rule, in the same
 -- dialect and into any environment, that was not refused memory, returned this
 pub record CheckedAndLoaded {A W : Type 0} (rule : Rule) (sink : W → SinkTold) (a : Ahead)
-    (found : Found) (answer : Result (Unit {0}) (Error A)) : Type 0 where
+    (outcome : Checked A) (answer : Result (Unit {0}) (Error A)) : Type 0 where
   pub checked : IterState
+  pub how : Reporting
   pub file : List ℕ
   pub names : Known
   pub before : W
   pub after : W
-  pub reports : Reports {A = A} sink file names checked a before (Ok found) after
+  pub reports : Reports {A = A} sink how file names checked a before (Ok outcome) after
   pub loaded : IterState
   pub can_read : CanRead loaded a
   pub dialect : loaded.dialect ≡ checked.dialect
@@ -91,13 +100,25 @@ pub record CheckedAndLoaded {A W : Type 0} (rule : Rule) (sink : W → SinkTold)
 -- Ok only if the check found no fault
 abbrev pub LoadsChecked : Rule → Type 0 → Type 0 → Type 0
 LoadsChecked rule A W =
-    (sink : W → SinkTold) (a : Ahead) (found : Found) (answer : Result (Unit {0}) (Error A)) →
-    CheckedAndLoaded rule sink a found answer →
-    (found.faults ≡ false → SaysOkOrNul answer) × (answer ≡ Ok tt → found.faults ≡ false)
+    (sink : W → SinkTold) (a : Ahead) (outcome : Checked A)
+    (answer : Result (Unit {0}) (Error A)) →
+    CheckedAndLoaded rule sink a outcome answer →
+    (outcome.found.faults ≡ false → SaysOkOrNul answer)
+    × (answer ≡ Ok tt → outcome.found.faults ≡ false)
 
 -- both loads take what a check found no fault in
 abbrev pub CheckedFilesLoad : Type 0 → Type 0 → Type 0
 CheckedFilesLoad A W = LoadsChecked load_result A W × LoadsChecked override_result A W
+
+-- nothing of a text is told of these remarks
+abbrev pub TellNoText : List Remark → Type 0
+TellNoText remarks = All (λ remark. remark.said ≡ []) remarks
+
+-- where the text of a line is not told, nothing of a text is told of lines and their guesses
+abbrev pub TextIfTold : Type 0
+TextIfTold =
+    (setting : Setting) (rows : List Row) → setting.tells_text ≡ false →
+    TellNoText (with_rows setting nothing_yet rows).remarks
 
 -- these are the findings of bytes whose first physical line has this number
 abbrev pub AreFindings : Setting → ℕ → List ℕ → List Finding → Type 0
@@ -111,3 +132,12 @@ FindingsOnce =
     (setting : Setting) (number : ℕ) (bytes : List ℕ) →
     (found : List Finding) × AreFindings setting number bytes found
     × ((others : List Finding) → AreFindings setting number bytes others → others ≡ found)
+
+-- where a comparison with a schema finds no fault, and an environment has each name of the files, the
+-- names of the schema can be required
+abbrev pub SchemaIsMet : Type 0 → Type 0
+SchemaIsMet A =
+    (schema files : List Text) (env : Texts) (answer : Result (Unit {0}) (Missing A)) →
+    (found_between schema files).faults ≡ false →
+    ((name : Text) → is_among files name ≡ true → names_in env name ≡ true) →
+    AnswersRequire (absent_names env schema) answer → answer ≡ Ok tt

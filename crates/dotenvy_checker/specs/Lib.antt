@@ -3,7 +3,10 @@ pub mod Report
 pub mod Checks
 pub mod Words
 pub mod WorkedWords
+pub mod Folders
 pub mod Help
 pub mod Answers
+pub mod Together
+pub mod Schema
 pub mod Laws
 pub mod inside

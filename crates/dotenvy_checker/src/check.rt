@@ -1,14 +1,16 @@
 //! Checks one file, over any reader and writer.
 
-ghost use Rattle.std.specs.Prelude.{◌≡◌, [], IfOk};
+ghost use Rattle.std.specs.Prelude.{◌≡◌, IfOk};
 ghost use Rattle.dotenvy_base.specs.Source.{Ahead};
 ghost use Rattle.dotenvy_items.specs.Iter.{IsOpen, TellsLeft};
-ghost use Rattle.dotenvy_checker.specs.Checks.{found_in, names_in, FewLines, Reports};
+ghost use Rattle.dotenvy_checker.specs.Checks.{names_in, FewLines, Reports, Tells};
+ghost use Rattle.dotenvy_checker.specs.Findings.{nothing_yet};
 
+pub use crate::declared::Declared;
 use crate::failure::Stop;
 use crate::lines::Checker;
-pub use crate::report::Found;
 use crate::report::report_of;
+pub use crate::report::{Found, Reporting};
 pub use crate::watched::Watched;
 use dotenvy::{Environment, Iter, Sink, Source};
 use dotenvy_base::output::{MOST_WRITES, write_all};
@@ -17,17 +19,34 @@ use dotenvy_items::meaning::Names;
 use std::alloc::Allocator;
 use std::collections::HashMap;
 
+/// What a check of a file tells.
+///
+/// ```
+/// // of a file with the line `A=1`, and of `A`: the line 1
+/// let line = checked.declared.first_line("A"); // Some(1)
+/// ```
+#[derive(Drop)]
+pub struct Checked<A: Allocator> {
+    /// What is reported.
+    pub found: Found,
+    /// The names that the file declares.
+    pub declared: Declared<A>,
+}
+
 /// Checks what is left of a file, and writes a line for each finding: `NAME:LINE:COL: error: MESSAGE [KIND]` or
 /// `NAME:LINE:COL: warning: MESSAGE [KIND]`.
 ///
 /// LINE is a physical line and COL a character of it, both counted from 1: where the hand has to go. A name has a value
 /// if this environment has it, or the file declares it before. Nothing is set, and no byte of a value or of a faulty
 /// text is written. What follows a quote that stays open is told as if the quote had not been opened, as a warning that
-/// counts for nothing.
+/// counts for nothing. Another format than text has its own form, and a warning that is allowed isn't written.
+///
+/// With `how.text` a line follows in the format text, behind the fault of a line that is text: four blanks, and what a
+/// load says of the line, which holds its text or its value.
 ///
 /// ```
 /// let file = Iter::new(alloc, Watched::new(alloc, Bytes::new(b"A=1\nB=two words\nC=$X\n")))?;
-/// let found = check(file, "a.env", &environment, &mut writer)?;
+/// let checked = check(file, "a.env", &environment, &mut Reporting::TEXT, &mut writer)?;
 /// // a.env:2:6: error: a value with a space needs quotes; put it in double quotes [space-in-value]
 /// // a.env:3:3: warning: the name after this dollar has no value; .. [unknown-name]
 /// ```
@@ -35,11 +54,13 @@ pub fn check<R: Source + Drop, W: Sink, A: Allocator + Clone>(
     file: Iter<Watched<R, A>, A>,
     name: &str,
     env: &Environment<A>,
+    how: &mut Reporting<'_>,
     writer: &mut W,
-) -> Result<Found, Stop<A>>
+) -> Result<Checked<A>, Stop<A>>
     ensures reports { IsOpen file → (a : Ahead) → TellsLeft file a → FewLines file.lines a →
-        Reports W.told name.now (names_in env.now.names) file a writer.old result writer.new }
-    ensures shut { ¬ (IsOpen file) → IfOk result (λ found. found ≡ found_in []) }
+        Reports W.told how.old name.now (names_in env.now.names) file a writer.old result writer.new }
+    ensures how { how.new ≡ record how.old { is_first = how.new.is_first } }
+    ensures shut { ¬ (IsOpen file) → IfOk result (Tells how.old nothing_yet) }
 {
     let (mut lines, dialect) = into_lines(file);
     let alloc = lines.allocator().clone()?;
@@ -48,15 +69,21 @@ pub fn check<R: Source + Drop, W: Sink, A: Allocator + Clone>(
         env,
         remembered: &remembered,
     };
-    let mut checker = Checker::new(alloc.clone()?, names, dialect)?;
+    let mut checker = Checker::new(alloc, names, dialect, how.text)?;
     let fault = checker.check_all(&mut lines)?;
     let bad = lines.into_reader().finish()?;
-    let (report, found) = report_of(alloc, name, &checker, bad.found())?;
+    let (report, found) = report_of(name, &checker, bad.found(), *how)?;
+    if !report.is_empty() {
+        how.is_first = false;
+    }
     if let Err(unwritten) = write_all(writer, report.as_bytes(), MOST_WRITES) {
         return Err(Stop::Write(unwritten));
     }
     match fault {
-        None => Ok(found),
+        None => Ok(Checked {
+            found,
+            declared: checker.declared,
+        }),
         Some(fault) => Err(Stop::Read(fault)),
     }
 }

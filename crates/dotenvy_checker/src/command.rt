@@ -2,7 +2,7 @@
 
 ghost use Rattle.std.specs.Prelude.{◌≡◌, IfOk, false, map, string_bytes};
 ghost use Rattle.clap.specs.Words.{FailsBy, app_of, fault_of, found_of, matches_of, rows_of, rule_of};
-ghost use Rattle.dotenvy_checker.specs.Words.{checker, file_rule, flag_rule, named, quiet_rule};
+ghost use Rattle.dotenvy_checker.specs.Words.{checker, file_rule, flag_rule, format_rule, many_rule, named, one_rule, quiet_rule};
 ghost use Rattle.dotenvy_checker.specs.Answers.{texts};
 
 use clap::{Arg, ArgAction, ArgMatches, Command, Error};
@@ -27,6 +27,15 @@ fn command<'a>(global: Global) -> Result<Command<'a>, AllocError>
         .arg(flag(global, "next"))?
         .arg(flag(global, "strict"))?
         .arg(quiet(global))?
+        .arg(flag(global, "text"))?
+        .arg(flag(global, "together"))?
+        .arg(flag(global, "ignore-environment"))?
+        .arg(many(global, "allow"))?
+        .arg(many(global, "deny"))?
+        .arg(many(global, "known"))?
+        .arg(many(global, "exclude"))?
+        .arg(one(global, "schema"))?
+        .arg(format(global))?
         .arg(files(global))
 }
 
@@ -54,6 +63,30 @@ fn quiet<'a>(global: Global) -> Arg<'a>
     ensures local { result.global ≡ false }
 {
     flag(global, "quiet").short('q')
+}
+
+// An option with a value, each of whose uses counts.
+fn many<'a>(global: Global, name: &'a str) -> Arg<'a>
+    ensures rule { rule_of result ≡ many_rule name.now }
+    ensures local { result.global ≡ false }
+{
+    Arg::new(global, name).long(name).action(ArgAction::Append)
+}
+
+// An option with a value, whose last use counts.
+fn one<'a>(global: Global, name: &'a str) -> Arg<'a>
+    ensures rule { rule_of result ≡ one_rule name.now }
+    ensures local { result.global ≡ false }
+{
+    Arg::new(global, name).long(name)
+}
+
+// The option that says how the report is written.
+fn format<'a>(global: Global) -> Arg<'a>
+    ensures rule { rule_of result ≡ format_rule }
+    ensures local { result.global ≡ false }
+{
+    one(global, "format").default_value("text")
 }
 
 // The files.

@@ -1,8 +1,9 @@
 //! Why a check stops before it has checked all files, and what the program prints of it.
 
 ghost use Rattle.std.specs.Prelude.{◌≡◌};
-ghost use Rattle.dotenvy_checker.specs.Answers.{mistake_text};
+ghost use Rattle.dotenvy_checker.specs.Answers.{mistake_text, value_text};
 
+use crate::mistake::Mistake;
 use clap::error::ErrorKind;
 use dotenvy::Error;
 use std::alloc::{AllocError, AllocFailed, Allocator, Global};
@@ -36,6 +37,8 @@ impl<A: Allocator> From<AllocError> for Stop<A> {
 pub enum Failure<A: Allocator = Global> {
     /// The words are refused: why, and the first word that is refused, as it is printed.
     Usage(ErrorKind, String<A>),
+    /// A value of an option is refused: why, and the value, as it is printed.
+    Value(Mistake, String<A>),
     /// The report could not be written.
     Write(Error<A>),
     /// An allocation failed.
@@ -48,7 +51,19 @@ fn mistake_text(kind: ErrorKind) -> &'static str
 {
     match kind {
         ErrorKind::TooManyValues => "unexpected value in",
+        ErrorKind::InvalidValue => "no value after",
         _ => "unknown option",
+    }
+}
+
+// What is said of a mistake in a value, before the value.
+fn value_text(mistake: Mistake) -> &'static str
+    ensures { result.now ≡ value_text mistake }
+{
+    match mistake {
+        Mistake::UnknownKind => "there is no kind",
+        Mistake::AllowedError => "only a warning can be allowed, not",
+        Mistake::UnknownFormat => "there is no format",
     }
 }
 
@@ -62,6 +77,10 @@ impl<A: Allocator> fmt::Display for Failure<A> {
             Failure::Usage(kind, word) => {
                 let mistake = mistake_text(*kind);
                 write!(f, "error: {mistake} '{word}'; try 'dotenvy_check --help'")
+            }
+            Failure::Value(mistake, value) => {
+                let mistake = value_text(*mistake);
+                write!(f, "error: {mistake} '{value}'; try 'dotenvy_check --help'")
             }
             Failure::Write(error) => write!(f, "error: {error}"),
             Failure::Memory(_) => write!(f, "error: out of memory"),

@@ -1,7 +1,8 @@
 //! Laws of checks. A law is the contract of a function that does nothing.
 
 ghost use Rattle.dotenvy_checker.specs.Laws.{CheckedFilesLoad, FaultsStopLoads, FindingsOnce};
-ghost use Rattle.dotenvy_checker.specs.Laws.{HasOneNumberedDecision, HasOneNumbering};
+ghost use Rattle.dotenvy_checker.specs.Laws.{HasOneNumberedDecision, HasOneNumbering, SchemaIsMet};
+ghost use Rattle.dotenvy_checker.specs.Laws.{TextIfTold};
 ghost use Rattle.dotenvy_checker.specs.WorkedWords.{WorkedWords};
 
 use dotenvy::Sink;
@@ -39,10 +40,24 @@ pub fn findings_once()
     ensures { FindingsOnce }
 {}
 
+/// Without the option `--text` nothing of a text is kept for the report.
+pub fn text_if_told()
+    ensures { TextIfTold }
+{}
+
 /// What some command lines ask for, and why others are refused.
 ///
 /// Options may be repeated, and come between files. `-` is a file, and each word after `--` is one. The first word
-/// that is no file and no option refuses all of them, unless `--help` or `--version` comes before it.
+/// that is no file and no option refuses all of them, unless `--help` or `--version` comes before it. A value is the
+/// word after its option, or stands in the same word after `=`. An error can't be allowed.
 pub fn worked_words()
     ensures { WorkedWords }
+{}
+
+/// Where a comparison with a schema finds no fault, `env_layers::Layers::require` returns `Ok` for the names of the
+/// schema.
+///
+/// The layers have each name that the checked files declare, whatever its value.
+pub fn schema_is_met<A: Allocator>()
+    ensures { SchemaIsMet A }
 {}

@@ -1,15 +1,16 @@
 //! Reads the lines of a file, and keeps what is found on each.
 
-ghost use Rattle.std.specs.Prelude.{◌≡◌, ◌≢◌, ◌⊎◌, ◌∷◌, ◌<◌, ◌+◌, [], ℕ, Err, None, Ok, false, true, IfErr, IfOk, OnOk, encode_utf8_all, length, map};
+ghost use Rattle.std.specs.Prelude.{◌≡◌, ◌≢◌, ◌⊎◌, ◌∷◌, ◌<◌, ◌+◌, [], ℕ, Err, None, Ok, false, true, IfErr, IfOk, OnOk, encode_utf8_all, length, map, string_bytes};
 ghost use Rattle.std.specs.Str.{chars};
 ghost use Rattle.dotenvy_base.specs.Errors.{IsMemory, IsMemoryErr};
 ghost use Rattle.dotenvy_format.specs.declared.walk.LineMode.TheVariants.{Outside};
+ghost use Rattle.dotenvy_format.specs.Entries.{LineParse};
 ghost use Rattle.dotenvy_format.specs.LogicalLine.{HasText};
 ghost use Rattle.dotenvy_format.specs.Outcome.{trimmed};
 ghost use Rattle.dotenvy_format.specs.inside.Walk.{walk};
 ghost use Rattle.dotenvy_findings.specs.Readings.{marks_of};
 ghost use Rattle.dotenvy_lines.specs.declared.lines.Stage.TheVariants.{Open, Failed};
-ghost use Rattle.dotenvy_checker.specs.Findings.{begins_at, cut, declaration_remarks, ends_inside, fault_remarks, found, guessed, is_passed, leaves_open, logical_text, open_behind, told_remark, with_key};
+ghost use Rattle.dotenvy_checker.specs.Findings.{begins_at, cut, declaration_remarks, ends_inside, fault_remarks, found, guessed, is_passed, leaves_open, logical_text, open_behind, said_of, told_remark, with_key};
 ghost use Rattle.dotenvy_checker.specs.inside.CheckedLines.{declared_of, failed_as, left_len, logical_of, pieces, setting_of, ChecksGuess, ChecksGuesses, ChecksOutcome, ChecksPart, ChecksRead, ChecksUpTo, ChecksWhole, GuessIs, IsNew, KeepsMore, WhereFew};
 
 use crate::declared::{Declared, KnownNames};
@@ -28,13 +29,16 @@ use dotenvy_format::walk::{LineMode, Walked, walk_text};
 use dotenvy_items::meaning::Names;
 use dotenvy_items::parse::scan_line;
 use dotenvy_lines::lines::Splitter;
+use dotenvy_reports::one_line::one_line;
 use std::alloc::{AllocError, Allocator};
 
-/// Something that is found, and the name that has no value there, if that is found.
+/// Something that is found, the name that has no value there, if that is found, and what a load says of the line, if
+/// that is told.
 #[derive(Drop)]
 pub(crate) struct Pending<A: Allocator> {
     pub(crate) finding: Finding,
     pub(crate) name: String<A>,
+    pub(crate) said: String<A>,
 }
 
 // A line that is checked: its number, and whether it is read as a guess.
@@ -109,7 +113,9 @@ pub(crate) struct Checker<'a, A: Allocator> {
     // The names that the file declared so far.
     pub(crate) declared: Declared<A>,
     dialect: Dialect,
-    alloc: A,
+    // Whether what a load says of a line is told.
+    tells_text: bool,
+    pub(crate) alloc: A,
     pub(crate) pending: Vec<Pending<A>, A>,
 }
 
@@ -173,13 +179,15 @@ impl<'a, A: Allocator + Clone> Checker<'a, A> {
         alloc: A,
         names: Names<'a, A>,
         dialect: Dialect,
+        tells_text: bool,
     ) -> std::result::Result<Checker<'a, A>, AllocError>
-        ensures { IfOk result (IsNew names.entry.env.now dialect) }
+        ensures { IfOk result (IsNew names.entry.env.now dialect tells_text) }
     {
         Ok(Checker {
             names,
             declared: Declared::new(alloc.clone()?),
             dialect,
+            tells_text,
             pending: Vec::new(alloc.clone()?),
             alloc,
         })
@@ -287,10 +295,12 @@ impl<'a, A: Allocator + Clone> Checker<'a, A> {
     {
         match part {
             Part::Text(text) => self.check_text(line, text),
-            Part::Open(text) => {
-                let characters = characters_of(self.alloc.clone()?, text)?;
+            Part::Open(_) => {
+                let open = part.text();
+                let characters = characters_of(self.alloc.clone()?, open)?;
                 let fault = line.text(self.dialect, characters.as_slice()).open_fault();
-                self.keep_fault(line, fault)
+                let said = self.said(open, open.len())?;
+                self.keep_fault(line, fault, said)
             }
         }
     }
@@ -310,10 +320,11 @@ impl<'a, A: Allocator + Clone> Checker<'a, A> {
                 self.check_declaration(line, text, declaration.key)?;
                 Ok(None)
             }
-            Err(_) => {
+            Err(wrong) => {
                 let characters = trimmed_characters(self.alloc.clone()?, text)?;
                 let fault = line.text(self.dialect, characters.as_slice()).fault();
-                self.keep_fault(line, fault)
+                let said = self.said(wrong.text, wrong.index)?;
+                self.keep_fault(line, fault, said)
             }
         }
     }
@@ -360,22 +371,42 @@ impl<'a, A: Allocator + Clone> Checker<'a, A> {
             self.pending.push(Pending {
                 finding: line.finding(kind, place, 0),
                 name,
+                said: String::new(self.alloc.clone()?),
             })?;
         }
         Ok(())
     }
 
-    // Keeps the fault of a line, and returns the physical line from which on the rest of it is to be guessed.
+    // What a load says of a line with this fault, on one line, if that is told.
+    fn said(&self, text: &str, index: usize) -> std::result::Result<String<A>, AllocError>
+        ensures { IfOk result (λ said. string_bytes said
+            ≡ said_of self.now.tells_text (LineParse (chars text.now) index)) }
+    {
+        if !self.tells_text {
+            return Ok(String::new(self.alloc.clone()?));
+        }
+        let error = Error::LineParse(String::from_str(self.alloc.clone()?, text)?, index);
+        let printed = error.to_string(self.alloc.clone()?)?;
+        one_line(self.alloc.clone()?, printed.as_str())
+    }
+
+    // Keeps the fault of a line, of which a load says this, and returns the physical line from which on the rest of it
+    // is to be guessed.
     fn keep_fault(
         &mut self,
         line: Numbered,
         fault: LineFault,
+        said: String<A>,
     ) -> std::result::Result<Option<u64>, AllocError>
         ensures { IfOk result (λ from. (from ≡ fault.behind) × KeepsMore
-            (fault_remarks (setting_of self.old line.is_guess) fault)
+            (fault_remarks (setting_of self.old line.is_guess) fault (string_bytes said))
             (declared_of self.old.declared) self.old self.new) }
     {
-        self.keep(line, (fault.kind, fault.place), 0)?;
+        self.pending.push(Pending {
+            finding: line.finding(fault.kind, fault.place, 0),
+            name: String::new(self.alloc.clone()?),
+            said,
+        })?;
         Ok(fault.behind)
     }
 
@@ -390,10 +421,10 @@ impl<'a, A: Allocator + Clone> Checker<'a, A> {
             (found (setting_of self.old line.is_guess) told.0 told.1 other ∷ [])
             (declared_of self.old.declared) self.old self.new) }
     {
-        let name = String::new(self.alloc.clone()?);
         self.pending.push(Pending {
             finding: line.finding(told.0, told.1, other),
-            name,
+            name: String::new(self.alloc.clone()?),
+            said: String::new(self.alloc.clone()?),
         })?;
         Ok(())
     }

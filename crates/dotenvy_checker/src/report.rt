@@ -1,9 +1,10 @@
 //! The report of a file: a line for each finding.
 
-ghost use Rattle.std.specs.Prelude.{◌≡◌, ◌||◌, ◌&&◌, IfOk, string_bytes};
-ghost use Rattle.dotenvy_checker.specs.Checks.{found_in};
-ghost use Rattle.dotenvy_checker.specs.Findings.{bad_left, findings_of, is_error, is_warning, placed, placed_one, resolved};
-ghost use Rattle.dotenvy_checker.specs.Report.{report};
+ghost use Rattle.std.specs.Prelude.{◌≡◌, ◌||◌, ◌&&◌, ◌++◌, [], if◌then◌else◌, IfOk, OnOk, string_bytes};
+ghost use Rattle.dotenvy_checker.specs.Checks.{both, found_in, found_of};
+ghost use Rattle.dotenvy_checker.specs.Findings.{bad_left, findings_of, is_among, is_shown, placed, placed_one, reported, resolved, shown};
+ghost use Rattle.dotenvy_checker.specs.Report.{report, said_line, said_text};
+ghost use Rattle.dotenvy_reports.specs.Formats.{separator};
 ghost use Rattle.dotenvy_checker.specs.inside.CheckedLines.{declared_of, remark_of, so_far};
 
 use crate::declared::Declared;
@@ -16,52 +17,144 @@ use dotenvy_reports::format::Format;
 use dotenvy_reports::reports::{push_finding, push_unread};
 use std::alloc::{AllocError, Allocator};
 
-/// Whether a file has faults, and whether it has warnings.
+/// How a file is reported.
+#[derive(Clone, Copy)]
+pub struct Reporting<'a> {
+    /// The form of the report.
+    pub format: Format,
+    /// The kinds of warnings that are not reported.
+    pub allowed: &'a [Kind],
+    /// The kinds of warnings that count as faults.
+    pub denied: &'a [Kind],
+    /// Whether what a load says of a line with a fault is printed behind the fault, where the form is text.
+    pub text: bool,
+    /// Whether nothing was reported before.
+    pub is_first: bool,
+}
+
+impl<'a> Reporting<'a> {
+    /// Lines of text, with all findings.
+    pub const TEXT: Reporting<'static> = Reporting {
+        format: Format::Text,
+        allowed: &[],
+        denied: &[],
+        text: false,
+        is_first: true,
+    };
+}
+
+/// What is reported of a file.
 #[derive(Clone, Copy, Debug, PartialEq, Eq)]
 pub struct Found {
     /// Whether there is a fault.
     pub faults: bool,
     /// Whether there is a warning that is no guess.
     pub warnings: bool,
+    /// Whether there is such a warning of a kind that is denied.
+    pub denied: bool,
+}
+
+// Whether the kind is one of these.
+fn is_among(kind: Kind, kinds: &[Kind]) -> bool
+    ensures { result ≡ is_among kind kinds.now }
+{
+    let mut rest = kinds;
+    'kinds: while let Some((first, after)) = rest.split_first() {
+        if first.number() == kind.number() {
+            return true;
+        }
+        rest = after;
+    }
+    false
 }
 
 impl Found {
-    /// Neither faults nor warnings.
+    /// Nothing.
     pub const NOTHING: Found = Found {
         faults: false,
         warnings: false,
+        denied: false,
     };
 
     /// What is found in two files together.
     pub fn and(self, other: Found) -> Found
-        ensures { result ≡ record {
-          faults = self.faults || other.faults;
-          warnings = self.warnings || other.warnings;
-        } }
+        ensures { result ≡ both self other }
     {
         Found {
             faults: self.faults || other.faults,
             warnings: self.warnings || other.warnings,
+            denied: self.denied || other.denied,
         }
     }
 
-    /// Whether this counts as a fault: there is one, or a warning if that counts, too.
+    /// Whether this counts: there is a fault, or a denied warning, or a warning if all count.
     pub fn is_bad(self, is_strict: bool) -> bool
-        ensures { result ≡ (self.faults || (is_strict && self.warnings)) }
+        ensures { result ≡ (self.faults || self.denied || (is_strict && self.warnings)) }
     {
-        self.faults || is_strict && self.warnings
+        self.faults || self.denied || is_strict && self.warnings
     }
 
-    // Whether a finding is a fault or a warning. A guess is neither.
-    fn of(finding: Finding) -> Found
-        ensures { result ≡ record { faults = is_error finding; warnings = is_warning finding } }
+    // What a finding is, where warnings of these kinds are denied. A guess is neither a fault nor a warning.
+    fn of(finding: Finding, denied: &[Kind]) -> Found
+        ensures { result ≡ found_of denied.now finding }
     {
         let is_fault = finding.kind.is_fault();
+        let is_warning = !is_fault && !finding.is_guess;
         Found {
             faults: is_fault && !finding.is_guess,
-            warnings: !is_fault && !finding.is_guess,
+            warnings: is_warning,
+            denied: is_warning && is_among(finding.kind, denied),
         }
     }
+}
+
+// Whether a finding is reported: it is an error, or of no kind that is allowed.
+fn is_shown(finding: Finding, allowed: &[Kind]) -> bool
+    ensures { result ≡ is_shown allowed.now finding }
+{
+    finding.kind.is_fault() && !finding.is_guess || !is_among(finding.kind, allowed)
+}
+
+// Appends what separates two findings, unless this is the first.
+fn push_separator<A: Allocator>(
+    text: &mut String<A>,
+    format: Format,
+    is_first: bool,
+) -> Result<(), AllocError>
+    ensures { OnOk result (string_bytes text.new
+        ≡ string_bytes text.old ++ (if is_first then [] else separator format)) }
+{
+    if is_first {
+        return Ok(());
+    }
+    text.push_str(format.separator())
+}
+
+// Appends what a load says of a line, if that is told and the form is text.
+fn push_said<A: Allocator>(
+    text: &mut String<A>,
+    format: Format,
+    said: &str,
+) -> Result<(), AllocError>
+    ensures { OnOk result (string_bytes text.new
+        ≡ string_bytes text.old ++ said_text format said.now) }
+{
+    match format {
+        Format::Text => push_said_line(text, said),
+        Format::Github | Format::Sarif | Format::Json => Ok(()),
+    }
+}
+
+// Appends what a load says of a line, as a line of its own, if that is told.
+fn push_said_line<A: Allocator>(text: &mut String<A>, said: &str) -> Result<(), AllocError>
+    ensures { OnOk result (string_bytes text.new ≡ string_bytes text.old ++ said_line said.now) }
+{
+    if said.is_empty() {
+        return Ok(());
+    }
+    text.push_str("    ")?;
+    text.push_str(said)?;
+    text.push('\n')
 }
 
 // What is found, where these names are declared in the whole file.
@@ -105,42 +198,52 @@ fn placed(finding: Finding, bad: &[BadByte]) -> (Finding, &[BadByte])
     }
 }
 
-/// The report of what was found in the file with this name, where these bytes are no text, and whether there are faults
-/// and warnings.
+/// What is reported of what was found in the file with this name, where these bytes are no text, and what it comes to.
 pub(crate) fn report_of<A: Allocator + Clone>(
-    alloc: A,
     file: &str,
     checker: &Checker<'_, A>,
     bad: &[BadByte],
+    how: Reporting<'_>,
 ) -> Result<(String<A>, Found), AllocError>
     ensures text { IfOk result (λ given. string_bytes given.0
-        ≡ report file.now (placed bad.now (findings_of (so_far checker.now)))) }
+        ≡ report how.entry.format how.entry.is_first file.now
+        (placed bad.now (reported how.entry.allowed.now (so_far checker.now)))) }
     ensures found { IfOk result (λ given. given.1
-        ≡ found_in (findings_of (so_far checker.now))) }
+        ≡ found_in how.entry.denied.now
+        (shown how.entry.allowed.now (findings_of (so_far checker.now)))) }
 {
-    let mut text = String::new(alloc);
+    let mut text = String::new(checker.alloc.clone()?);
     let mut found = Found::NOTHING;
+    let mut is_first = how.is_first;
     let mut rest = checker.pending.as_slice();
     let mut bad = bad;
     'findings: while let Some((first, after)) = rest.split_first() {
         let finding = resolved(&checker.declared, first);
-        let (shown, others) = placed(finding, bad);
-        push_finding(&mut text, Format::Text, file, shown)?;
-        found = found.and(Found::of(finding));
-        bad = others;
         rest = after;
+        if !is_shown(finding, how.allowed) {
+            continue 'findings;
+        }
+        let (placed, others) = placed(finding, bad);
+        push_separator(&mut text, how.format, is_first)?;
+        push_finding(&mut text, how.format, file, placed)?;
+        push_said(&mut text, how.format, first.said.as_str())?;
+        found = found.and(Found::of(finding, how.denied));
+        is_first = false;
+        bad = others;
     }
     Ok((text, found))
 }
 
-/// The line that is printed of a file that could not be opened or read: its name, and the error.
+/// What is reported of a file that could not be opened or read: its name, and the error.
 pub(crate) fn unread_line<A: Allocator + Clone>(
     alloc: &A,
     file: &str,
     error: &Error<A>,
+    how: Reporting<'_>,
 ) -> Result<String<A>, AllocError> {
     let mut line = String::new(alloc.clone()?);
     let said = format!(in alloc.clone()?; "{error}")?;
-    push_unread(&mut line, Format::Text, file, said.as_str())?;
+    push_separator(&mut line, how.format, how.is_first)?;
+    push_unread(&mut line, how.format, file, said.as_str())?;
     Ok(line)
 }

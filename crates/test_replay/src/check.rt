@@ -6,7 +6,7 @@ use crate::refused::MOST_REQUESTS;
 use crate::row::refuse_count;
 use anyhow::{Result, bail};
 use dotenvy::{Bytes, Dialect, Error, Iter, Plain, Source};
-use dotenvy_checker::check::{Found, Watched, check};
+use dotenvy_checker::check::{Found, Reporting, Watched, check};
 use dotenvy_checker::failure::Stop;
 use std::alloc::{Allocator, Global};
 use test_comparison::Comparison;
@@ -47,8 +47,11 @@ impl Checked {
             Ok(alloc) => Watched::new(alloc, reader),
             Err(refused) => return Ok(Err(Stop::Memory(refused))),
         };
+        let mut how = Reporting::TEXT;
         match Iter::with_dialect(alloc, watched, self.dialect) {
-            Ok(file) => Ok(check(file, self.name.as_str(), &environment, writer)),
+            Ok(file) => Ok(check(file, self.name.as_str(), &environment, &mut how, writer).map(
+                |checked| checked.found,
+            )),
             Err(Error::Memory(refused)) => Ok(Err(Stop::Memory(refused))),
             Err(error) => Ok(Err(Stop::Read(error))),
         }

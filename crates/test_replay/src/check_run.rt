@@ -51,7 +51,8 @@ fn play_with(
     let input = reader::steps(alloc, input)?;
     let mut reader = PlayedReader::new(&input, Cut::Whole);
     let mut writer = Plain::new(PlayedWriter::new(alloc, writer::steps(alloc, output)?));
-    let answered = run(&scene.system, alloc, &words, &mut reader, &mut writer);
+    let system = &scene.system;
+    let answered = run(&system, alloc, &words, &mut reader, &mut writer);
     let got = told(alloc, &answered, writer.into_inner().into_taken())?;
     let wanted = scene.placed(wanted)?;
     push_answer(answers, "run", "answered", wanted.as_str(), got)?;

@@ -9,7 +9,7 @@ use crate::system_fault::SystemFault;
 use std::alloc::{Alloc, Allocator, Global};
 use std::cell::RefCell;
 use std::env::{Env, FillError};
-use std::fs::{File, Files, Metadata, OpenOptions};
+use std::fs::{Files, Metadata, OpenOptions};
 use std::io::ErrorKind;
 use std::process::{Child, Command, Processes, Stdio};
 use std::{io, mem};
@@ -167,7 +167,7 @@ fn fill(bytes: &[u8], buf: &mut [u8]) -> Result<usize, FillError>
 impl Files for PlayedSystem {
     type File = PlayedFile;
 
-    type Dir = File;
+    type Dir = <HostRuntime as Files>::Dir;
 
     fn open_file(&self, how: &OpenOptions, path: &str) -> io::Result<PlayedFile> {
         note(&self.notes, String::from_str(self.rt.alloc(), path)?)?;
@@ -193,12 +193,12 @@ impl Files for PlayedSystem {
         }
     }
 
-    fn symlink_metadata(&self, _path: &str) -> io::Result<Metadata> {
-        unsupported()
+    fn symlink_metadata(&self, path: &str) -> io::Result<Metadata> {
+        self.rt.symlink_metadata(path)
     }
 
-    fn open_dir(&self, _path: &str) -> io::Result<File> {
-        unsupported()
+    fn open_dir(&self, path: &str) -> io::Result<<HostRuntime as Files>::Dir> {
+        self.rt.open_dir(path)
     }
 
     fn copy(&self, _from: &str, _to: &str) -> io::Result<u64> {

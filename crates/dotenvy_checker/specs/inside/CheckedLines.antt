@@ -2,7 +2,6 @@
 use Rattle.std.specs.Prelude.{ℕ, ◌≡◌, ◌≢◌, ◌⊎◌, Bool, true, false, List, [], ◌++◌, map, Option, Some, None}
 use Rattle.std.specs.Prelude.{Result, Ok, Err, string_bytes, length, ◌+◌}
 use denote.Ref.{Bor}
-use Rattle.std.specs.HashMap.{get_by_text}
 use Rattle.std.specs.Str.{chars}
 use Rattle.dotenvy_base.specs.declared.errors.Error.{Error}
 use Rattle.dotenvy_base.specs.declared.errors.Error.TheVariants as error
@@ -18,7 +17,6 @@ use Rattle.dotenvy_lines.specs.Lines.{LinesState, WhereOpen}
 use Rattle.dotenvy_lines.specs.Numbered.{FileLine}
 use Rattle.dotenvy_lines.specs.inside.Splitter.{SplitterState, last_lines}
 use Rattle.dotenvy_findings.specs.Readings.{Known}
-use Rattle.dotenvy_checker.specs.declared.declared.Declared.{Declared as CodeDeclared}
 use Rattle.dotenvy_checker.specs.declared.declared.KnownNames.{KnownNames}
 use Rattle.dotenvy_checker.specs.declared.lines.Checker.{Checker}
 use Rattle.dotenvy_checker.specs.declared.lines.Numbered.{Numbered}
@@ -30,10 +28,7 @@ use Rattle.dotenvy_checker.specs.Findings.{lines_of}
 use Rattle.dotenvy_checker.specs.Findings.{logical_text, nothing_yet, with_lines, with_logical, with_rows}
 use Rattle.dotenvy_checker.specs.Findings.{AreGuesses, AreRows, GuessesFrom, IsGuess}
 use Rattle.dotenvy_checker.specs.Checks.{names_in, FewLines, ReadsLines}
-
--- the names that a file declared so far, each with its first line
-abbrev pub declared_of : {A : Type 0} → CodeDeclared A → Declared
-declared_of declared name = get_by_text declared.lines name
+pub use Rattle.dotenvy_checker.specs.Checks.{declared_of}
 
 -- the names that have a value
 abbrev pub known_names : {A : Type 0} → KnownNames A → Known
@@ -41,7 +36,11 @@ known_names names = has_value (names_in names.env.now.names) (declared_of names.
 
 -- what the code keeps of a finding
 abbrev pub remark_of : {A : Type 0} → Pending A → Remark
-remark_of pending = record { finding = pending.finding; name = string_bytes pending.name }
+remark_of pending = record {
+  finding = pending.finding;
+  name = string_bytes pending.name;
+  said = string_bytes pending.said;
+}
 
 -- what was found so far
 abbrev pub so_far : {A : Type 0} → Checker A → SoFar
@@ -56,12 +55,16 @@ setting_of checker is_guess = record {
   names = names_in checker.names.env.now.names;
   dialect = checker.dialect;
   is_guess = is_guess;
+  tells_text = checker.tells_text;
 }
 
--- a checker under this environment and in this dialect, of a file of which nothing was read
-pub record IsNew {A : Type 0} (env : Env) (dialect : Dialect) (checker : Checker A) : Type 0 where
+-- a checker under this environment and in this dialect, of a file of which nothing was read, and of
+-- which the text is told or not
+pub record IsNew {A : Type 0} (env : Env) (dialect : Dialect) (tells_text : Bool)
+    (checker : Checker A) : Type 0 where
   pub environment : checker.names.env.now ≡ env
   pub in_dialect : checker.dialect ≡ dialect
+  pub tells : checker.tells_text ≡ tells_text
   pub nothing : so_far checker ≡ nothing_yet
 
 -- these are found, and these names are declared then; nothing else changes
@@ -71,12 +74,14 @@ pub record KeepsMore {A : Type 0} (remarks : List Remark) (declared : Declared)
   pub declares : declared_of new.declared ≡ declared
   pub names : new.names ≡ old.names
   pub dialect : new.dialect ≡ old.dialect
+  pub tells : new.tells_text ≡ old.tells_text
 
 -- the checker came so far, and nothing else changes
 pub record ComesTo {A : Type 0} (to : SoFar) (old new : Checker A) : Type 0 where
   pub comes : so_far new ≡ to
   pub names : new.names ≡ old.names
   pub dialect : new.dialect ≡ old.dialect
+  pub tells : new.tells_text ≡ old.tells_text
 
 -- the logical line that is a part
 abbrev pub logical_of : Part → Logical

@@ -1,16 +1,16 @@
-use Rattle.std.proofs.Common.{◌<◌, arith, length, refl, string_bytes}
-use Rattle.std.proofs.lemmas.List.{take-map, take_all, length-map}
+use Rattle.std.proofs.Common.{◌<◌, arith, inl, length, refl, string_bytes}
+use Rattle.std.proofs.lemmas.List.{length-map}
 use Rattle.std.proofs.lemmas.Option.{slice_get-map, slice_get_read}
 use Rattle.dotenvy_checker.specs.Answers.{texts}
-use Rattle.dotenvy_checker.proofs.Refusals.{none_refused, first_at}
+use Rattle.dotenvy_checker.proofs.Refusals.{none_refused, first_at, stays_at_end}
 use Rattle.dotenvy_checker.proofs.words.first_refused.Goals as goal
 
 pub halves-init : goal.halves-init
 halves-init g c = record {
   order = omega arith;
   inside = omega arith;
-  taken = none_refused;
-  refused = λ given. rw (take_all (length c.args.words.now) (texts c.args.words.now) (grind (arith, length-map))) given;
+  taken = inl none_refused;
+  refused = stays_at_end (texts c.args.words.now) (length c.args.words.now) (grind (arith, length-map));
 }
 
 pub halves-preserved-then-branch : goal.halves-preserved-then-branch
@@ -19,8 +19,7 @@ halves-preserved-then-branch g c =
       order = omega (arith, invariant.order);
       inside = omega (arith, invariant.order, invariant.inside);
       taken = invariant.taken;
-      refused = λ given.
-          rw (take-map string_bytes _ c.args.words.now) (rw c.if-branch.true at c.in_ok-is_refused.ensures);
+      refused = λ given. rw c.if-branch.true at c.in_ok-stay_refused.ensures;
     }
 
 pub halves-preserved : goal.halves-preserved
@@ -28,7 +27,7 @@ halves-preserved g c =
     let invariant = c.halves.invariant in record {
       order = omega (arith, invariant.order);
       inside = invariant.inside;
-      taken = rw (take-map string_bytes _ c.args.words.now) (rw c.if-branch.false at c.in_ok-is_refused.ensures);
+      taken = rw c.if-branch.false at c.in_ok-stay_refused.ensures;
       refused = invariant.refused;
     }
 

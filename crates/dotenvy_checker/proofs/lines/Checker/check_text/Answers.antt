@@ -1,4 +1,4 @@
-use Rattle.std.proofs.Common.{refl}
+use Rattle.std.proofs.Common.{refl, string_bytes}
 use Rattle.std.specs.Str.{chars}
 use Rattle.dotenvy_base.proofs.Basics.{ok-weaker}
 use Rattle.dotenvy_items.specs.Meaning.{look_up_of}
@@ -18,8 +18,8 @@ returns-in_ok-check_declaration-in-Ok-Some g c = λ last.
     (says_declared c.args.self.now.dialect (look_up_of c.args.self.now.names) (chars c.args.text.now) key
     c.in-Ok-Some.declaration declared refl) c.in_ok-check_declaration-in-Ok-Some.ensures
 
-pub returns-in_ok-characters-in-Err : goal.returns-in_ok-characters-in-Err
-returns-in_ok-characters-in-Err g c = λ last.
+pub returns-in_ok-said-in-Err : goal.returns-in_ok-said-in-Err
+returns-in_ok-said-in-Err g c = λ last.
     let fault = rw (
       c.text.ensures.dialect,
       c.text.ensures.text,
@@ -29,5 +29,7 @@ returns-in_ok-characters-in-Err g c = λ last.
     ) at c.fault-fault.ensures in
     ok-weaker _ _ c.keep_fault.result
     (λ from kept.
-    fault_part c.args.line last c.in-Err.field-0.index (chars c.args.text.now) (chars c.in-Err.field-0.text.now)
-    c.fault-fault.result from c.in-Err.ensures fault kept.0 kept.1) c.keep_fault.ensures
+    fault_part c.args.line last c.in-Err.wrong.index (chars c.args.text.now) (chars c.in-Err.wrong.text.now)
+    (string_bytes c.in_ok-said-in-Err.said) c.fault-fault.result from c.in-Err.ensures fault
+    c.in_ok-said-in-Err.ensures kept.0 kept.1)
+    c.keep_fault.ensures

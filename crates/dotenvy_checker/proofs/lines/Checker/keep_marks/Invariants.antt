@@ -12,4 +12,5 @@ invariant-marks g l = let told = told_remark (setting_of l.fn.self l.line.is_gue
   declares : declared_of l.self.declared ≡ declared_of l.fn.self.declared;
   names : l.self.names ≡ l.fn.self.names;
   dialect : l.self.dialect ≡ l.fn.self.dialect;
+  tells : l.self.tells_text ≡ l.fn.self.tells_text;
 }

@@ -1,0 +1,17 @@
+use Rattle.std.proofs.Common.{rules}
+use Rattle.std.specs.Prelude.{codes}
+use Rattle.clap.specs.Words.{found_of}
+use Rattle.dotenvy_checker.proofs.Refusals.{first_by}
+use Rattle.dotenvy_checker.proofs.options.format_of.Goals as goal
+
+pub returns-in-Some-from_name : goal.returns-in-Some-from_name
+returns-in-Some-from_name c =
+    rw (first_by (found_of c.args.found.now) (codes "format") _ (rw c.in-Some.is at c.get_str.ensures)) (search rules)
+
+pub returns-in-None-from_name : goal.returns-in-None-from_name
+returns-in-None-from_name c =
+    rw (first_by (found_of c.args.found.now) (codes "format") _ (rw c.in-Some.is at c.get_str.ensures)) (search rules)
+
+pub returns-in-None : goal.returns-in-None
+returns-in-None c =
+    rw (first_by (found_of c.args.found.now) (codes "format") _ (rw c.in-None.is at c.get_str.ensures)) (search rules)
