@@ -11,5 +11,6 @@ pub mod Names
 pub mod Opens
 pub mod Places
 pub mod Readings
+pub mod Runs
 pub mod States
 pub mod Worked

@@ -3,6 +3,7 @@
 ghost use Rattle.std.specs.Prelude.{◌≡◌};
 ghost use Rattle.dotenvy_format.specs.Characters.{begins_passing};
 ghost use Rattle.dotenvy_findings.specs.Characters.{begins_declaration, goes_on_to_value, is_letter, is_odd_space, is_of_value, is_typographic, skip_export, skip_spaces};
+ghost use Rattle.dotenvy_findings.specs.Runs.{is_plain, is_plain_or_space};
 
 use dotenvy_format::classes::{begins_key, continues_key, is_name_character};
 use dotenvy_format::dialect::Dialect;
@@ -35,6 +36,20 @@ pub(crate) fn is_odd_space(c: char) -> bool
             | '\u{3000}'
             | '\u{feff}'
     )
+}
+
+/// Whether the character is of ASCII and can be seen, but is no quote, backslash or dollar.
+pub(crate) fn is_plain(c: char) -> bool
+    ensures { result ≡ is_plain c }
+{
+    matches!(c, '!'..='~') && !matches!(c, '\'' | '"' | '\\' | '$')
+}
+
+/// Whether the character is such a one, or a space.
+pub(crate) fn is_plain_or_space(c: char) -> bool
+    ensures { result ≡ is_plain_or_space c }
+{
+    is_plain(c) || c == ' '
 }
 
 /// Whether there is a character, and it is a letter or a number.

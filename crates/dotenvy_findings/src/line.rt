@@ -11,7 +11,7 @@ use crate::cause::{after_equals, line_kind, skip_white, statement_fault, value_o
 use crate::finding::LineFault;
 use crate::kind::Kind;
 use crate::names::Names;
-use crate::open::{OpenCursor, fault_alone};
+use crate::open::{OpenCursor, Suspect, fault_alone};
 use crate::place::Place;
 use crate::reading::{Mark, Value, has_kind, value_marks};
 use dotenvy_format::dialect::Dialect;
@@ -171,6 +171,17 @@ impl<'a> LineText<'a> {
         cursor
     }
 
+    // The first quote that has a declaration on a later line. A single line has none, and isn't walked over.
+    fn suspect(self) -> Option<Suspect>
+        ensures { result ≡ (walked_line self.entry.start self.entry.text.now).suspect }
+    {
+        if self.text.contains(&'\n') {
+            self.walk().suspect
+        } else {
+            None
+        }
+    }
+
     /// Why it is no declaration, if it is none and no part of it stays open. A quote that has a declaration on a later
     /// line is the cause of a fault that is told there or later.
     pub fn fault(self) -> LineFault
@@ -178,7 +189,7 @@ impl<'a> LineText<'a> {
             ≡ closed_fault self.entry.dialect self.entry.start self.entry.text.now }
     {
         let (kind, place) = self.first_fault();
-        match self.walk().suspect {
+        match self.suspect() {
             Some(suspect) if suspect.line <= place.line => suspect.fault(),
             _ => fault_alone(kind, place),
         }
@@ -198,7 +209,7 @@ impl<'a> LineText<'a> {
     fn suspect_kind(self) -> Option<(Kind, Place)>
         ensures { result ≡ suspect_told (walked_line self.entry.start self.entry.text.now).suspect }
     {
-        let suspect = self.walk().suspect?;
+        let suspect = self.suspect()?;
         match suspect.kind {
             Kind::OpenQuoteInComment => Some((Kind::QuoteInComment, suspect.place)),
             _ => Some((Kind::QuoteClosedLater, suspect.place)),

@@ -2,8 +2,9 @@
 
 ghost use Rattle.std.specs.Prelude.{◌≡◌};
 ghost use Rattle.dotenvy_findings.specs.Opens.{fault_alone, has_hash_after, is_inside, later_line, mode_after, open_after, open_begun, open_fault, opened_fault, opened_kind, suspect_after, suspect_fault};
+ghost use Rattle.dotenvy_findings.specs.Runs.{walks_on};
 
-use crate::characters::{begins_declaration, is_letter};
+use crate::characters::{begins_declaration, is_letter, is_plain, is_plain_or_space};
 use crate::finding::LineFault;
 use crate::kind::Kind;
 use crate::place::Place;
@@ -97,6 +98,17 @@ fn mode_after(mode: LineMode, c: char) -> LineMode
     }
 }
 
+// Whether a walk stays in this mode over a character, which is no line feed and begins no comment.
+fn walks_on(mode: LineMode, c: char) -> bool
+    ensures { result ≡ walks_on mode c }
+{
+    match mode {
+        LineMode::Outside => is_plain(c) && c != '#',
+        LineMode::Inside(quote) => is_plain_or_space(c) && c != quote,
+        _ => false,
+    }
+}
+
 impl OpenCursor {
     /// A cursor before a text that begins at this place; the value begins with a single quote at this one, if it does.
     pub(crate) fn new(start: Place, single: Option<Place>) -> OpenCursor
@@ -166,6 +178,13 @@ impl OpenCursor {
     pub(crate) fn after(self, c: char, rest: &[char]) -> OpenCursor
         ensures { result ≡ open_after self c rest.now }
     {
+        if walks_on(self.mode, c) {
+            let mut moved = self;
+            moved.place = self.place.after(c);
+            moved.last = self.place;
+            moved.before = Some(c);
+            return moved;
+        }
         let next = mode_after(self.mode, c);
         let opened = if is_inside(next) && !is_inside(self.mode) {
             self.opened_kind(c)

@@ -10,7 +10,7 @@ use crate::kind::Kind;
 use crate::marks::character_kind;
 use crate::names::{Names, unknown_kind, written_kind};
 use crate::place::Place;
-use crate::state::{Before, State, ends_name};
+use crate::state::{Before, State, ends_name, stays};
 use dotenvy_format::dialect::Dialect;
 use dotenvy_format::text::Quoting;
 use std::alloc::{AllocError, Allocator};
@@ -209,6 +209,11 @@ impl<'a, N: Names, A: Allocator + Clone> Reading<'a, N, A> {
             ≡ with_step (asked_of N.has_value self.old) c left.now rest.now (reading_of self.old)) }
         ensures same { OnOk result (IsSame self.old self.new) }
     {
+        if stays(self.cursor.state, self.cursor.before, c) {
+            self.cursor.place = self.cursor.place.after(c);
+            self.cursor.before = Some(c);
+            return Ok(());
+        }
         self.tell_ended(c)?;
         self.tell_character(c, rest)?;
         let after = self.cursor.after(c, self.value, left);

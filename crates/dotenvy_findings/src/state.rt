@@ -1,8 +1,10 @@
 //! Reads a value character by character, and tells what looks like a mistake in it.
 
 ghost use Rattle.std.specs.Prelude.{◌≡◌, ◌==◌};
+ghost use Rattle.dotenvy_findings.specs.Runs.{stays};
 ghost use Rattle.dotenvy_findings.specs.States.{after_double, after_escape, after_name, after_outside, after_part, ends_name, escape_kind, inside, next_state};
 
+use crate::characters::{is_plain, is_plain_or_space};
 use crate::kind::Kind;
 use dotenvy_format::classes::is_name_character;
 use dotenvy_format::dialect::Dialect;
@@ -186,6 +188,19 @@ pub(crate) fn ends_name(dialect: Dialect, state: State, c: char) -> bool
         State::Dollar(_) => c != '{' && !is_name_character(dialect, c),
         State::Bare(_) => !is_name_character(dialect, c),
         State::Braced(_) => c == '}',
+        _ => false,
+    }
+}
+
+/// Whether a reading in this state and behind this character stays in the state over one more character, of which
+/// nothing is told.
+pub(crate) fn stays(state: State, before: Option<char>, c: char) -> bool
+    ensures { result ≡ stays state before c }
+{
+    match (state, before) {
+        (State::Outside(Before::Text), Some('\r')) => false,
+        (State::Outside(Before::Text), _) => is_plain(c),
+        (State::Single | State::Double | State::Comment, _) => is_plain_or_space(c),
         _ => false,
     }
 }
