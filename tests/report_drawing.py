@@ -37,6 +37,11 @@ BLANKS = [""] * 12 + [" ", " ", "\t", "  ", "\u00a0", "\r"]
 PREFIXES = [""] * 30 + [
     "export ", "export ", "export ", "export\t", " ", "\t", "export  ", "set ", "export export ", "export -n ", "let ",
 ]
+# What comments allow.
+ALLOWED = [
+    "unknown-name", "later-name", "own-name", "declared-twice", "dropped-quotes", "unknown-braced-name", "lone-dollar",
+    "tilde", "default", "odd-space", "space-in-value", "x", "quote-in-comment", "bare-name-in-quotes",
+]
 ENDS = ["\n"] * 12 + ["\r\n", "\r\n", "\r", "\n\n", " \n", ""]
 OTHER_LINES = [
     "", "# c", "# it's", "  # \"", "A", "export A", "export", "A: 1", "A : 1", "A-B=1", "1A=2", "=1", "[s]", "[it's]",
@@ -49,6 +54,9 @@ MISTAKES = [
     "GREETING='It's fine'", "TITLE=Tom's shop", "A=1  # don't", "A='C:\\dir\\'", "A=\"x", "A='x",
     "A={\"a\":1,\"b\":\"x y\"}", "A='it'\\''s'", "A=\"$HOST:$K\"", "A=\"x$\"", "A=\u201cx y\u201d", "A=x\\",
     "A=$B'x y'", "A=$B\"x\"", "A='a'b'c'd e", "A=\"x\"#c",
+    "# dotenvy_check: allow own-name\nA=$A:/bin", "# dotenvy_check: allow tilde open-apostrophe\nA=~'s x",
+    "A='x # dotenvy_check: allow unknown-name\n\t# dotenvy_check: allow unknown-name' \nB=$D",
+    "A='x\n# dotenvy_check: allow unknown-name later-name\nB=$D\nC=$C",
     "KEY=\"-----BEGIN X-----\nMIIEPAIBAAKCAQEAX0QG\n-----END X-----", "A='\\'x\r\ny$\\'z'", "A='\\'x\nB=1 $\\'z'",
     "A=<<EOF", "A=-----BEGIN X-----\nMIIEPAIBAAKCAQEAX0QG=\n-----END X-----", "A=$A:/bin", "A=  # 'x\nB=1'", "A=#x",
     "A=(a b)", "A=\"a\\tb\"", "A='\\'x\"y' $K", "A='\\'\"$' K", "A='\\'x\n B=1'",
@@ -102,10 +110,20 @@ def value(draw):
     return "".join(part(draw, False) for _ in range(draw.choice([1, 1, 2, 2, 3, 5])))
 
 
+def comment(draw):
+    """A comment that allows kinds, or nearly."""
+    odd = ["#\tdotenvy_check:  allow", " # dotenvy_check: deny", "#allow"]
+    tool = draw.choice(["# dotenvy_check: allow"] * 8 + odd)
+    kinds = [draw.choice(ALLOWED) for _ in range(draw.choice([0, 1, 2, 4, 8]))]
+    return draw.choice([" ", " ", " ", "\t", "  ", ", "]).join([tool] + kinds)
+
+
 def line(draw):
     """A line, or several that quotes join."""
     kind = draw.random()
-    if kind < 0.12:
+    if kind < 0.06:
+        text = comment(draw)
+    elif kind < 0.12:
         text = draw.choice(OTHER_LINES)
     elif kind < 0.22:
         text = draw.choice(MISTAKES)

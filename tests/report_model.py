@@ -712,19 +712,24 @@ def outside_warning(machine, index, character):
 
 class Report:
     """The report of a file while it is read: the findings so far, the name that each is about, or the empty text, and
-    the line of the first declaration of each name."""
+    what the comment above allows; the line of the first declaration of each name; and the number of the last line that
+    was skipped, and what the comments allow, by the number of their line."""
 
     def __init__(self, dialect, names):
         self.dialect, self.names = dialect, set(names)
         self.findings, self.first_lines = [], {}
+        self.skipped, self.allowed, self.first_line = 0, {}, 0
 
     def tell(self, place, kind, is_guess, other_line=0, name=""):
         """Adds a finding."""
-        self.findings.append((Finding(*place, kind, kind in FAULTS, other_line, is_guess), name))
+        above = self.allowed.get(self.skipped, ()) if self.skipped == self.first_line - 1 else ()
+        self.findings.append((Finding(*place, kind, kind in FAULTS, other_line, is_guess), name, above))
 
     def read(self, data):
         """Reads the bytes of the file."""
+        self.allowed = dict(enumerate(map(kinds_of_comment, data.split(b"\n")), 1))
         for line in logical_lines(data):
+            self.first_line = line.first_line
             if line.what == "broken":
                 kind, place = line.bad
                 self.tell(place, kind, False)
@@ -740,7 +745,7 @@ class Report:
             if number < first_guess or (is_open and not DECLARATION.match(piece)):
                 continue
             alone = alone_line(number, piece)
-            is_open = alone.what == "open"
+            is_open, self.first_line = alone.what == "open", number
             self.read_line(alone, True)
 
     def read_line(self, line, is_guess):
@@ -749,6 +754,7 @@ class Report:
         # White space at the end of a line means something where the line stays open.
         text = line.text if is_open else line.text.rstrip(SPACE)
         if line.what == "skipped" or text == "":
+            self.skipped = line.first_line
             return None
         statement, fault = (None, open_fault(text, line.mode)) if is_open else read_statement(text, self.dialect)
         if fault is None:
@@ -771,11 +777,22 @@ class Report:
     def whole(self):
         """The findings, where the names that are declared later are known too."""
         findings = []
-        for finding, name in self.findings:
+        for finding, name, allowed in self.findings:
             if finding.kind in ("unknown-name", "unknown-braced-name") and name in self.first_lines:
                 finding = finding._replace(kind="later-name", other_line=self.first_lines[name])
-            findings.append(finding)
+            if finding.kind not in allowed or (finding.is_error and not finding.is_guess):
+                findings.append(finding)
         return findings
+
+
+def kinds_of_comment(line):
+    """The words that may be kinds which the physical line allows, if it is a comment that allows any."""
+    try:
+        text = line.decode("utf-8").lstrip(" \t\r")
+    except UnicodeDecodeError:
+        return ()
+    words = re.split("[ \t\r]+", text[1:].strip(" \t\r"))
+    return words[2:] if text.startswith("#") and words[:2] == ["dotenvy_check:", "allow"] else ()
 
 
 def alone_line(number, piece):

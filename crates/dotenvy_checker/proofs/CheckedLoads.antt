@@ -1,10 +1,10 @@
 -- A file that was checked, and a load of it.
 use Rattle.std.proofs.Common.{◌≡◌, ℕ, ◌+◌, List, [], ◌∷◌, ◌∙◌, ap, append-nil, inl, inr, false, Result, Ok, Err, refl}
-use Rattle.std.proofs.Common.{sym}
+use Rattle.std.proofs.Common.{map, sym, ◌||◌}
 use Rattle.std.proofs.lemmas.Bool.{cases_Bool}
 use Rattle.dotenvy_base.specs.declared.errors.Error.{Error}
 use Rattle.std.specs.List.{list_any}
-use Rattle.dotenvy_findings.specs.declared.finding.Finding.{Finding}
+use Rattle.dotenvy_findings.specs.Comments.{Allow}
 use Rattle.dotenvy_findings.specs.declared.kind.Kind.{Kind}
 use Rattle.dotenvy_format.specs.Entries.{Failure}
 use Rattle.dotenvy_format.specs.Loads.{load_result, override_result}
@@ -17,8 +17,9 @@ use Rattle.dotenvy_items.specs.Meaning.{values_of, recalled_of}
 use Rattle.dotenvy_items.proofs.WholeLoads.{load_takes_all, override_takes_all}
 use Rattle.dotenvy_checker.specs.declared.report.Found.{Found}
 use Rattle.dotenvy_checker.specs.Checks.{file_setting}
-use Rattle.dotenvy_checker.specs.Findings.{Row, Setting, SoFar, findings, findings_of, is_among, is_error}
-use Rattle.dotenvy_checker.specs.Findings.{lines_of, shown}
+use Rattle.dotenvy_checker.specs.Findings.{Declared, Remark, Row, Setting, SoFar, comments_from, findings, findings_of}
+use Rattle.dotenvy_checker.specs.Findings.{is_allowed_on, is_among, is_error, lines_of, reported, resolved, settled}
+use Rattle.dotenvy_checker.specs.Findings.{shown, told_of}
 use Rattle.dotenvy_checker.specs.Laws.{CheckedFilesLoad, LoadsChecked, LoadsIfNoError}
 use Rattle.dotenvy_checker.proofs.FoundFaults.{faults_stop_loads}
 use Rattle.dotenvy_checker.proofs.NumberedLines.{numbered_entries}
@@ -30,19 +31,34 @@ ok_said (Ok done) answer is e = refl
 ok_said (Err failure) (Ok done) is e = absurd is
 ok_said (Err failure) (Err error) is e = cc
 
--- what is reported has an error exactly where what is found has one
-errors_shown : (allowed : List Kind) (found : List Finding) →
-    list_any is_error (shown allowed found) ≡ list_any is_error found
-errors_shown allowed [] = refl
-errors_shown allowed (finding ∷ found) =
+-- what is told has an error exactly where what is found has one
+errors_told : (allowed : List Kind) (comments : List Allow) (remarks : List Remark) →
+    list_any is_error (shown (told_of allowed comments remarks)) ≡ list_any is_error (shown remarks)
+errors_told allowed comments [] = refl
+errors_told allowed comments (remark ∷ remarks) =
+    let left = comments_from remark.above comments in
+    let finding = remark.finding in
     elim (cases_Bool (is_error finding)) [
       | inl is ↦ rw (is, is) refl
       | inr passes ↦
-          elim (cases_Bool (is_among finding.kind allowed)) [
-            | inl among ↦ rw (passes, among) (errors_shown allowed found)
-            | inr other ↦ rw (passes, other, passes) (errors_shown allowed found)
+          elim (cases_Bool (is_among finding.kind allowed || is_allowed_on remark.above finding.kind left)) [
+            | inl hidden ↦ rw (passes, hidden) (errors_told allowed left remarks)
+            | inr other ↦ rw (passes, other, passes) (errors_told allowed left remarks)
           ]
     ]
+
+-- the findings of what is settled
+settled_shown : (declared : Declared) (remarks : List Remark) →
+    shown (map (settled declared) remarks) ≡ map (resolved declared) remarks
+settled_shown declared [] = refl
+settled_shown declared (remark ∷ remarks) = rw (settled_shown declared remarks) refl
+
+-- what is reported has an error exactly where what is found has one
+errors_reported : (allowed : List Kind) (comments : List Allow) (all : SoFar) →
+    list_any is_error (shown (reported allowed comments all)) ≡ list_any is_error (findings_of all)
+errors_reported allowed comments all =
+    errors_told allowed comments (map (settled all.declared) all.remarks)
+    ∙ ap (list_any is_error) (settled_shown all.declared all.remarks)
 
 -- a rule loads the lines of a file exactly where no error is found
 abbrev StopsAtErrors : Rule → Type 0
@@ -53,7 +69,7 @@ StopsAtErrors rule =
 -- a rule that loads all that is left, and entries exactly where no error is found, loads what was checked
 loads_checked : {A W : Type 0} (rule : Rule) → LoadsAllLeft rule A → StopsAtErrors rule → LoadsChecked rule A W
 loads_checked {A = A} rule takes_all if_no_error sink a outcome answer k =
-    let (all, (rows, (no_fault, has), are_rows, is_all), tells, sends) = k.reports in
+    let (all, (rows, (no_fault, has), are_rows, is_all), (comments, tells, sends)) = k.reports in
     let setting = file_setting k.names k.checked.dialect k.how.text in
     let number = k.checked.lines.lines_taken + 1 in
     let entries = entries_of (lines_of rows) in
@@ -66,7 +82,7 @@ loads_checked {A = A} rule takes_all if_no_error sink a outcome answer k =
     if_no_error setting number (without_mark a.bytes) rows refl has (values_of k.old) (recalled_of k.loaded.remembered)
     in
     let errors : outcome.found.faults ≡ list_any is_error (findings setting rows) =
-    ap (λ (found : Found). found.faults) tells.found ∙ errors_shown k.how.allowed.now (findings_of all)
+    ap (λ (found : Found). found.faults) tells.found ∙ errors_reported k.how.allowed.now comments all
     ∙ ap (λ (all : SoFar). list_any is_error (findings_of all)) is_all in (
       λ none. (loaded.answer, loads.1 (sym errors ∙ none), said),
       λ ok. errors ∙ loads.0 (ok_said loaded.answer answer said ok),

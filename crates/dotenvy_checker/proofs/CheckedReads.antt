@@ -1,7 +1,7 @@
 -- The lines that a checker reads, one after another, and how its reading ends.
 use Rattle.std.proofs.Common.{◌≡◌, ◌≢◌, ℕ, ◌+◌, ◌-◌, ◌<◌, ◌≤◌, ◌⊎◌, inl, inr, List, [], ◌∷◌, ◌++◌, length, Option, Some, None}
 use Rattle.std.proofs.Common.{Result, Ok, Err, refl, sym, ap, ◌∙◌, string_bytes, Bool, true, false, arith}
-use Rattle.std.specs.Prelude.{◌^◌}
+use Rattle.std.specs.Prelude.{◌^◌, IsErrAnd}
 use Rattle.std.specs.Str.{chars}
 use Rattle.std.specs.declared.io.ErrorKind.TheVariants.{InvalidData}
 use Rattle.std.proofs.Math.Nat.{lt_of_not-le}
@@ -11,7 +11,7 @@ use Rattle.dotenvy_base.specs.declared.errors.Error.{Error}
 use Rattle.dotenvy_base.specs.declared.errors.Error.TheVariants as error
 use Rattle.dotenvy_base.specs.Errors.{IsMemory}
 use Rattle.dotenvy_base.specs.Environment.{Env}
-use Rattle.dotenvy_base.specs.Source.{Ahead}
+use Rattle.dotenvy_base.specs.Source.{Ahead, SinkTold}
 use Rattle.dotenvy_format.specs.declared.dialect.Dialect.{Dialect}
 use Rattle.dotenvy_format.specs.Marks.{without_mark}
 use Rattle.dotenvy_format.specs.Entries.{Entry, Fails, LineParse, Io, outcome_entries}
@@ -30,10 +30,16 @@ use Rattle.dotenvy_lines.proofs.DroppedMarks.{Unmarks, unmarks, mark_decides, ma
 use Rattle.dotenvy_lines.proofs.LineEntries.{no_lines}
 use Rattle.dotenvy_lines.proofs.LinesRead.{Read, TakesLine, Answers, file_line, read_none, read_more}
 use Rattle.dotenvy_lines.proofs.LinesRead.{next_outcome, read_end, read_final}
+use Rattle.dotenvy_findings.specs.Readings.{Known}
+use Rattle.dotenvy_items.specs.Iter.{IterState}
 use Rattle.dotenvy_items.specs.LoadStops.{unmarked}
 use Rattle.dotenvy_items.proofs.NextItems.{goes_on_lines}
 use Rattle.dotenvy_checker.specs.declared.lines.Checker.{Checker}
-use Rattle.dotenvy_checker.specs.Checks.{file_setting, names_in, FewLines, HasFindings}
+use Rattle.dotenvy_checker.specs.declared.check.Checked.{Checked}
+use Rattle.dotenvy_checker.specs.declared.failure.Stop.{Stop}
+use Rattle.dotenvy_checker.specs.declared.failure.Stop.TheVariants as stop
+use Rattle.dotenvy_checker.specs.declared.report.Reporting.{Reporting}
+use Rattle.dotenvy_checker.specs.Checks.{file_setting, names_in, FewLines, HasFindings, IsMemoryStop, Reports}
 use Rattle.dotenvy_checker.specs.Findings.{Row, Setting, SoFar, behind, last_of, lines_of, logical_text}
 use Rattle.dotenvy_checker.specs.Findings.{nothing_yet, with_lines, with_logical, with_rows}
 use Rattle.dotenvy_checker.specs.Findings.{AreRows, GuessesFrom}
@@ -329,3 +335,12 @@ is_read {env = env} {dialect} {given} {tells} {s} {t} {fault} {is} {old} new mad
 pub nothing_found : {A : Type 0} {env : Env} {dialect : Dialect} {tells : Bool} {old new : Checker A} →
     IsNew env dialect tells old → new ≡ old → so_far new ≡ nothing_yet
 nothing_found made same = ap so_far same ∙ made.nothing
+
+-- a check that stops because an allocation failed writes nothing
+pub memory_writes_nothing : {A W : Type 0} (told : W → SinkTold) (how : Reporting) (file : List ℕ) (names : Known)
+    (s : IterState) (a : Ahead) (old : W) (result : Result (Checked A) (Stop A)) → IsErrAnd result IsMemoryStop →
+    Reports {A = A} told how file names s a old result old
+memory_writes_nothing told how file names s a old (Ok checked) stops = absurd stops
+memory_writes_nothing told how file names s a old (Err (stop.Read e)) stops = absurd stops
+memory_writes_nothing told how file names s a old (Err (stop.Write e)) stops = absurd stops
+memory_writes_nothing told how file names s a old (Err (stop.Memory refused)) stops = refl

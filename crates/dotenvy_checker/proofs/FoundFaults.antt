@@ -27,7 +27,7 @@ use Rattle.dotenvy_lines.specs.Numbered.{FileLine, entries_of, AreNumbered}
 use Rattle.dotenvy_checker.specs.Findings.{Declared, Remark, Row, Setting, SoFar, begins_at, declaration_remarks}
 use Rattle.dotenvy_checker.specs.Findings.{findings, first_place, guessing, has_value, is_error, is_unknown, last_of}
 use Rattle.dotenvy_checker.specs.Findings.{lines_of, logical_remarks, nothing_yet, resolved, text_remarks, told_remark}
-use Rattle.dotenvy_checker.specs.Findings.{twice, with_later, with_line, with_lines, with_row, with_rows}
+use Rattle.dotenvy_checker.specs.Findings.{twice, under, with_later, with_line, with_lines, with_row, with_rows}
 use Rattle.dotenvy_checker.specs.Laws.{IsOkOrNul, LoadsIfNoError, FaultsStopLoads}
 
 -- an entry is a fault
@@ -122,7 +122,7 @@ guesses_warn setting so_far [] = refl
 guesses_warn setting so_far (line ∷ lines) =
     guesses_warn setting (with_line (guessing setting) so_far line) lines
     ∙ list_any-append remarks_error so_far.remarks _
-    ∙ rw (guessed_warns setting so_far.declared line.number (last_of line) line.logical line.entries)
+    ∙ rw (guessed_warns (under so_far setting) so_far.declared line.number (last_of line) line.logical line.entries)
     (or-false (list_any remarks_error so_far.remarks))
 
 -- an error is found in a text exactly where it is no statement
@@ -161,10 +161,11 @@ rows_errors setting e dialect number count physical so_far (row ∷ rows) (some,
     let before = list_any remarks_error so_far.remarks in
     let own_fails = list_any is_failure line.entries in
     let fail = list_any is_failure (entries_of (lines_of rows)) in
-    let remarks = logical_remarks setting so_far.declared line.number (last_of line) line.logical line.entries in
+    let here = under so_far setting in
+    let remarks = logical_remarks here so_far.declared line.number (last_of line) line.logical line.entries in
     let with_own : list_any remarks_error (with_line setting so_far line).remarks ≡ (before || own_fails) =
     list_any-append remarks_error so_far.remarks remarks
-    ∙ rw (line_errors setting e dialect so_far.declared line.number (last_of line) line.logical line.entries gives) refl
+    ∙ rw (line_errors here e dialect so_far.declared line.number (last_of line) line.logical line.entries gives) refl
     in
     let rest =
     rows_errors setting e dialect (number + line.count) later (drop line.count physical) (with_row setting so_far row)

@@ -4,7 +4,7 @@ use Rattle.std.specs.Prelude.{not, nat_le, ◌==◌, length}
 use Rattle.std.specs.List.{position_or_len, slice_split}
 use Rattle.dotenvy_format.specs.Characters.{line_feed}
 use Rattle.dotenvy_findings.specs.Characters.{begins_declaration}
-use Rattle.std.proofs.Common.{refl, sym, append_assoc}
+use Rattle.std.proofs.Common.{refl, append_assoc}
 use Rattle.std.specs.Str.{chars}
 use Rattle.std.proofs.lemmas.List.{append-nil}
 use Rattle.dotenvy_lines.specs.Numbered.{FileLine}
@@ -14,7 +14,7 @@ use Rattle.dotenvy_checker.specs.declared.lines.Numbered.{Numbered}
 use Rattle.dotenvy_checker.specs.Findings.{cut, guessed, is_passed, next_number, open_behind, with_lines, AreGuesses}
 use Rattle.dotenvy_checker.specs.inside.CheckedLines.{setting_of, so_far, ComesTo, ChecksGuess, ChecksGuesses}
 use Rattle.dotenvy_checker.specs.inside.CheckedLines.{ChecksPart}
-use Rattle.dotenvy_checker.proofs.KeptLines.{comes_none, comes_on, none_more, same_setting, with_lines-append}
+use Rattle.dotenvy_checker.proofs.KeptLines.{comes_bare, comes_none, comes_on, same_setting, with_lines-append}
 
 -- a physical line from the first guessed one on is passed by behind an open quote, unless it begins a declaration
 pub passed_open : (from number : ℕ) (is_open begins : Bool) (text : List ℕ) → from ≤ number →
@@ -47,11 +47,11 @@ guess_one {logical = logical} line text not_passed is guess (entries, gives, beh
 
 -- a comment that is read as a guess is one
 pub guess_comment : {A : Type 0} {passed : Bool} {old : Checker A} (number : ℕ) (text : List ℕ) → passed ≡ false →
-    guessed text ≡ Skip → ChecksGuess passed number text old old
+    guessed text ≡ Skip → ChecksGuess passed number text old (record old { above = number })
 guess_comment {old = old} number text not_passed is = rw not_passed (
   record { number = number; count = 1; logical = guessed text; entries = [] } ∷ [],
   ([], rw is refl, refl),
-  rw is (record { comes = sym (none_more (so_far old)); names = refl; dialect = refl; tells = refl }),
+  rw is (comes_bare number old),
 )
 
 -- one more was guessed

@@ -1,5 +1,5 @@
 -- What is found in a logical line by what it is.
-use Rattle.std.proofs.Common.{◌≡◌, ℕ, true, false, List, [], ◌∷◌, ◌++◌, Option, None, refl, sym}
+use Rattle.std.proofs.Common.{◌≡◌, ℕ, true, false, List, [], ◌∷◌, Option, None, refl}
 use Rattle.std.specs.Str.{skip_leading_whitespace}
 use Rattle.dotenvy_format.specs.Characters.{begins_with, byte_len, hash}
 use Rattle.std.specs.Prelude.{encode_utf8_all}
@@ -15,8 +15,8 @@ use Rattle.dotenvy_checker.specs.declared.lines.Checker.{Checker}
 use Rattle.dotenvy_checker.specs.declared.lines.Numbered.{Numbered}
 use Rattle.dotenvy_checker.specs.Findings.{begins_at, declaration_remarks, ends_inside, fault_remarks, guessed}
 use Rattle.dotenvy_checker.specs.Findings.{said_of, with_key}
-use Rattle.dotenvy_checker.specs.inside.CheckedLines.{declared_of, setting_of, so_far, ChecksPart, ComesTo, KeepsMore}
-use Rattle.dotenvy_checker.proofs.KeptLines.{keeps, none_more}
+use Rattle.dotenvy_checker.specs.inside.CheckedLines.{declared_of, setting_at, ChecksPart, KeepsMore}
+use Rattle.dotenvy_checker.proofs.KeptLines.{comes_bare, keeps}
 
 -- a comment, read alone, is skipped
 pub guessed_comment : (text : List ℕ) → begins_with hash (skip_leading_whitespace text) ≡ true → guessed text ≡ Skip
@@ -36,25 +36,24 @@ guessed_text text other is = rw (other, is) refl
 pub open_part : {A : Type 0} (line : Numbered) (last index : ℕ) (text said : List ℕ) (fault : LineFault)
     (from : Option ℕ) {old new : Checker A} → fault ≡ open_line_fault (begins_at line.number) text →
     said ≡ said_of old.tells_text (LineParse text index) → from ≡ fault.behind →
-    KeepsMore (fault_remarks (setting_of old line.is_guess) fault said) (declared_of old.declared) old new →
+    KeepsMore (fault_remarks (setting_at old line.is_guess) fault said) (declared_of old.declared) 0 old new →
     ChecksPart line last (StaysOpen text index) from old new
 open_part line last index text said fault from is says e kept =
     (Fails (LineParse text index) ∷ [], refl, rw is at e, keeps (rw (is, says) at kept))
 
 -- nothing is found in a text that says nothing
 pub nothing_part : {A : Type 0} (line : Numbered) (last : ℕ) (text : List ℕ) {old : Checker A} →
-    Says old.dialect text Nothing → ChecksPart line last (HasText text) None old old
+    Says old.dialect text Nothing →
+    ChecksPart line last (HasText text) None old (record old { above = line.number })
 nothing_part line last text {old} says =
-    let stays : ComesTo (record { remarks = (so_far old).remarks ++ []; declared = declared_of old.declared }) old old =
-    record { comes = sym (none_more (so_far old)); names = refl; dialect = refl; tells = refl } in
-    ([], (Nothing, says, refl), refl, stays)
+    ([], (Nothing, says, refl), refl, comes_bare line.number old)
 
 -- what is found in a declaration is found in its text
 pub pair_part : {A : Type 0} (line : Numbered) (last : ℕ) (text key : List ℕ) (pieces : List Piece)
     {old new : Checker A} → Says old.dialect text (Pair key pieces) →
     KeepsMore
-    (declaration_remarks (setting_of old line.is_guess) (declared_of old.declared) line.number (trimmed text)
-    (encode_utf8_all key)) (with_key (encode_utf8_all key) line.number (declared_of old.declared)) old new →
+    (declaration_remarks (setting_at old line.is_guess) (declared_of old.declared) line.number (trimmed text)
+    (encode_utf8_all key)) (with_key (encode_utf8_all key) line.number (declared_of old.declared)) 0 old new →
     ChecksPart line last (HasText text) None old new
 pair_part line last text key pieces says kept =
     (Declares key pieces ∷ [], (Pair key pieces, says, refl), refl, keeps kept)
@@ -64,7 +63,7 @@ pub fault_part : {A : Type 0} (line : Numbered) (last index : ℕ) (text wrong s
     (from : Option ℕ) {old new : Checker A} → Says old.dialect text (Fault wrong index) →
     fault ≡ closed_fault old.dialect (begins_at line.number) (trimmed text) →
     said ≡ said_of old.tells_text (LineParse wrong index) → from ≡ fault.behind →
-    KeepsMore (fault_remarks (setting_of old line.is_guess) fault said) (declared_of old.declared) old new →
+    KeepsMore (fault_remarks (setting_at old line.is_guess) fault said) (declared_of old.declared) 0 old new →
     ChecksPart line last (HasText text) from old new
 fault_part line last index text wrong said fault from says is told e kept =
     (Fails (LineParse wrong index) ∷ [], (Fault wrong index, says, refl), rw is at e, keeps (rw (is, told) at kept))

@@ -1,9 +1,10 @@
 -- Findings that are reported and counted one after another.
 use Rattle.std.proofs.Common.{◌≡◌, ℕ, Bool, true, false, List, [], ◌∷◌, ◌++◌, ◌∙◌, map, refl, sym}
 use Rattle.std.specs.Prelude.{◌||◌, if◌then◌else◌}
-use Rattle.std.specs.List.{filter, list_any}
+use Rattle.std.specs.List.{list_any}
 use Rattle.std.proofs.Math.Bool.{or-false, or_assoc}
 use Rattle.std.proofs.lemmas.List.{append-nil, append_assoc}
+use Rattle.dotenvy_findings.specs.Comments.{Allow}
 use Rattle.dotenvy_findings.specs.declared.bytes.BadByte.{BadByte}
 use Rattle.dotenvy_findings.specs.declared.finding.Finding.{Finding}
 use Rattle.dotenvy_findings.specs.declared.kind.Kind.{Kind}
@@ -12,52 +13,38 @@ use Rattle.dotenvy_reports.specs.Formats.{separator}
 use Rattle.dotenvy_checker.specs.declared.lines.Pending.{Pending}
 use Rattle.dotenvy_checker.specs.declared.report.Found.{Found}
 use Rattle.dotenvy_checker.specs.Checks.{both, found_in, found_of}
-use Rattle.dotenvy_checker.specs.Findings.{Declared, Remark, bad_left, is_denied, is_error, is_shown, is_warning}
-use Rattle.dotenvy_checker.specs.Findings.{placed, placed_one, resolved, settled, shown}
+use Rattle.dotenvy_checker.specs.Findings.{Declared, Remark, bad_left, comments_from, is_denied, is_error, is_told}
+use Rattle.dotenvy_checker.specs.Findings.{is_warning, placed, placed_one, resolved, settled, told_of}
 use Rattle.dotenvy_checker.specs.Report.{finding_text, remark_text, said_text, separated}
 use Rattle.dotenvy_checker.specs.inside.CheckedLines.{remark_of}
 
--- what is found of what is left, and is not allowed
-abbrev pub left_shown : {A : Type 0} → List Kind → Declared → List (Pending A) → List Finding
-left_shown allowed declared rest = shown allowed (map (resolved declared) (map remark_of rest))
-
--- what is told of what is left, and is not allowed
-abbrev pub left_told : {A : Type 0} → List Kind → Declared → List (Pending A) → List Remark
-left_told allowed declared rest =
-    filter (λ remark. is_shown allowed remark.finding) (map (settled declared) (map remark_of rest))
+-- what is told of what is left, where these kinds are allowed, and others by these comments
+abbrev pub left_told : {A : Type 0} → List Kind → Declared → List Allow → List (Pending A) → List Remark
+left_told allowed declared comments rest =
+    told_of allowed comments (map (settled declared) (map remark_of rest))
 
 -- what is printed of what is told
 abbrev pub left_text : Format → Bool → List ℕ → List BadByte → List Remark → List ℕ
 left_text format is_first file bad told =
     separated format is_first (map (remark_text format file) (placed bad told))
 
--- a finding that is not reported leaves the others
-pub hidden_left : {A : Type 0} {rest after : List (Pending A)} {first : Pending A} {finding : Finding}
-    (allowed : List Kind) (declared : Declared) → rest ≡ first ∷ after →
-    finding ≡ resolved declared (remark_of first) → is_shown allowed finding ≡ false →
-    left_shown allowed declared rest ≡ left_shown allowed declared after
-hidden_left allowed declared is found hidden = let passed = rw found at hidden in rw (is, passed) refl
-
--- the same of what is told
+-- a finding that is not told leaves the others
 pub hidden_told : {A : Type 0} {rest after : List (Pending A)} {first : Pending A} {finding : Finding}
-    (allowed : List Kind) (declared : Declared) → rest ≡ first ∷ after →
-    finding ≡ resolved declared (remark_of first) → is_shown allowed finding ≡ false →
-    left_told allowed declared rest ≡ left_told allowed declared after
-hidden_told allowed declared is found hidden = let passed = rw found at hidden in rw (is, passed) refl
+    {left : List Allow} (allowed : List Kind) (declared : Declared) (comments : List Allow) → rest ≡ first ∷ after →
+    finding ≡ resolved declared (remark_of first) → left ≡ comments_from first.above comments →
+    is_told allowed left first.above finding ≡ false →
+    left_told allowed declared comments rest ≡ left_told allowed declared left after
+hidden_told allowed declared comments is found from hidden = let passed = rw (found, from) at hidden in rw (is, passed, from) refl
 
--- a finding that is reported is followed by the others
-pub shown_left : {A : Type 0} {rest after : List (Pending A)} {first : Pending A} {finding : Finding}
-    (allowed : List Kind) (declared : Declared) → rest ≡ first ∷ after →
-    finding ≡ resolved declared (remark_of first) → is_shown allowed finding ≡ true →
-    left_shown allowed declared rest ≡ finding ∷ left_shown allowed declared after
-shown_left allowed declared is found seen = let told = rw found at seen in rw (is, told, found) refl
-
--- the same of what is told
+-- a finding that is told is followed by the others
 pub shown_told : {A : Type 0} {rest after : List (Pending A)} {first : Pending A} {finding : Finding}
-    (allowed : List Kind) (declared : Declared) → rest ≡ first ∷ after →
-    finding ≡ resolved declared (remark_of first) → is_shown allowed finding ≡ true →
-    left_told allowed declared rest ≡ record (remark_of first) { finding = finding } ∷ left_told allowed declared after
-shown_told allowed declared is found seen = let told = rw found at seen in rw (is, told, found) refl
+    {left : List Allow} (allowed : List Kind) (declared : Declared) (comments : List Allow) → rest ≡ first ∷ after →
+    finding ≡ resolved declared (remark_of first) → left ≡ comments_from first.above comments →
+    is_told allowed left first.above finding ≡ true →
+    left_told allowed declared comments rest
+    ≡ record (remark_of first) { finding = finding } ∷ left_told allowed declared left after
+shown_told allowed declared comments is found from seen =
+    let told = rw (found, from) at seen in rw (is, told, found, from) refl
 
 -- texts that are appended one after another
 appended : (old sign own said others : List ℕ) →

@@ -1,8 +1,8 @@
 -- What is kept of lines of which the text is not told.
-use Rattle.std.proofs.Common.{◌≡◌, ℕ, Bool, true, false, List, [], ◌∷◌, ◌++◌, ap, map, refl}
-use Rattle.std.specs.Prelude.{All, Option, Some, None, encode_utf8_all}
-use Rattle.std.proofs.lemmas.List.Elements.{All-append, All-cons, All-map, All-nil}
-use Rattle.dotenvy_format.specs.Entries.{Declares, Entry, Fails, Failure, Io, LineParse, Memory, Nul}
+use Rattle.std.proofs.Common.{◌≡◌, ℕ, Bool, false, List, [], ◌∷◌, ap, map, refl}
+use Rattle.std.specs.Prelude.{Option, Some, None, encode_utf8_all}
+use Rattle.std.proofs.lemmas.List.Elements.{All-append, All-cons, All-nil}
+use Rattle.dotenvy_format.specs.Entries.{Declares, Entry, Fails, Failure, LineParse}
 use Rattle.dotenvy_format.specs.LogicalLine.{Broken, HasText, Logical, Skip, StaysOpen}
 use Rattle.dotenvy_format.specs.Outcome.{trimmed}
 use Rattle.dotenvy_findings.specs.declared.finding.LineFault.{LineFault}
@@ -14,7 +14,7 @@ use Rattle.dotenvy_lines.specs.Numbered.{FileLine}
 use Rattle.dotenvy_checker.specs.Findings.{Declared, Remark, Row, Setting, SoFar, begins_at, declaration_remarks}
 use Rattle.dotenvy_checker.specs.Findings.{fault_remarks, first_place, found, guessing, has_value, last_of}
 use Rattle.dotenvy_checker.specs.Findings.{logical_remarks, nothing_yet, said_of, text_remarks, told_remark, twice}
-use Rattle.dotenvy_checker.specs.Findings.{with_line, with_lines, with_row, with_rows}
+use Rattle.dotenvy_checker.specs.Findings.{under, with_line, with_lines, with_row, with_rows}
 use Rattle.dotenvy_checker.specs.Laws.{TellNoText, TextIfTold}
 
 -- no text is told of this remark
@@ -77,8 +77,8 @@ untold_line : (setting : Setting) → setting.tells_text ≡ false → (so_far :
     TellNoText so_far.remarks → TellNoText (with_line setting so_far line).remarks
 untold_line setting e so_far line none =
     All-append IsUntold so_far.remarks
-    (logical_remarks setting so_far.declared line.number (last_of line) line.logical line.entries) none
-    (untold_logical setting e so_far.declared line.number (last_of line) line.logical line.entries)
+    (logical_remarks (under so_far setting) so_far.declared line.number (last_of line) line.logical line.entries) none
+    (untold_logical (under so_far setting) e so_far.declared line.number (last_of line) line.logical line.entries)
 
 -- with more lines no text is told
 untold_lines : (setting : Setting) → setting.tells_text ≡ false → (so_far : SoFar) (lines : List FileLine) →

@@ -11,9 +11,9 @@ use Rattle.dotenvy_findings.specs.declared.kind.Kind.TheVariants.{NotUtf8}
 use Rattle.dotenvy_checker.specs.declared.lines.Checker.{Checker}
 use Rattle.dotenvy_checker.specs.declared.lines.Numbered.{Numbered}
 use Rattle.dotenvy_checker.specs.Findings.{begins_at, cut, found, logical_text}
-use Rattle.dotenvy_checker.specs.inside.CheckedLines.{declared_of, failed_as, setting_of, ChecksGuesses}
+use Rattle.dotenvy_checker.specs.inside.CheckedLines.{declared_of, failed_as, setting_at, ChecksGuesses}
 use Rattle.dotenvy_checker.specs.inside.CheckedLines.{ChecksPart, ChecksWhole, KeepsMore}
-use Rattle.dotenvy_checker.proofs.KeptLines.{comes_on, keeps, same_setting}
+use Rattle.dotenvy_checker.proofs.KeptLines.{comes_on, keeps, keeps_last, same_setting}
 
 -- a line behind which nothing is guessed
 pub whole_alone : {A : Type 0} (logical : Logical) {old new : Checker A} (line : Numbered) (last : ℕ) →
@@ -36,11 +36,11 @@ whole_guessed logical line last from text no_guess is (entries, gives, behind, c
 
 -- a line that is no text
 pub whole_broken : {A : Type 0} {old new : Checker A} (line : Numbered) (last : ℕ) → line.is_guess ≡ false →
-    KeepsMore (found (setting_of old line.is_guess) NotUtf8 (begins_at last) 0 ∷ []) (declared_of old.declared) old
-    new →
-    ChecksWhole line.number last Broken old new
+    KeepsMore (found (setting_at old line.is_guess) NotUtf8 (begins_at last) 0 ∷ []) (declared_of old.declared)
+    old.above old new →
+    ChecksWhole line.number last Broken old (record new { above = 0 })
 whole_broken line last no_guess kept =
-    (Fails (Io InvalidData) ∷ [], [], refl, refl, keeps (rw no_guess at kept))
+    (Fails (Io InvalidData) ∷ [], [], refl, refl, keeps (keeps_last 0 (rw no_guess at kept)))
 
 -- a fault that is no line that stays open is a line that is no text
 pub failed_broken : {A : Type 0} (e : Error A) →

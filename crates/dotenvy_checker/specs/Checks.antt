@@ -8,6 +8,7 @@ use Rattle.dotenvy_base.specs.Errors.{IsIoOf}
 use Rattle.dotenvy_base.specs.Output.{Sends, most_writes}
 use Rattle.dotenvy_base.specs.Source.{Ahead, SinkTold}
 use Rattle.dotenvy_base.specs.declared.errors.Error.{Error}
+use Rattle.dotenvy_findings.specs.Comments.{Allow}
 use Rattle.dotenvy_findings.specs.declared.bytes.BadByte.{BadByte}
 use Rattle.dotenvy_findings.specs.declared.finding.Finding.{Finding}
 use Rattle.dotenvy_findings.specs.Readings.{Known}
@@ -26,7 +27,7 @@ use Rattle.dotenvy_checker.specs.declared.failure.Stop.TheVariants.{Read, Write,
 use Rattle.dotenvy_checker.specs.declared.report.Found.{Found}
 use Rattle.dotenvy_checker.specs.declared.report.Reporting.{Reporting}
 use Rattle.dotenvy_findings.specs.declared.kind.Kind.{Kind}
-use Rattle.dotenvy_checker.specs.Findings.{Declared, Row, Setting, SoFar, findings_of, is_error}
+use Rattle.dotenvy_checker.specs.Findings.{Declared, Remark, Row, Setting, SoFar, is_error}
 use Rattle.dotenvy_checker.specs.Findings.{is_denied, is_warning, lines_of, nothing_yet, placed}
 use Rattle.dotenvy_checker.specs.Findings.{reported, shown, with_rows, AreRows}
 use Rattle.dotenvy_checker.specs.Report.{report}
@@ -61,6 +62,7 @@ file_setting names dialect tells_text = record {
   dialect = dialect;
   is_guess = false;
   tells_text = tells_text;
+  above = 0;
 }
 
 -- this is found in what of a is read from s on, up to this fault or the end
@@ -95,34 +97,39 @@ both one other = record {
   denied = one.denied || other.denied;
 }
 
--- the report of what was found is sent to a sink, with this result; each line that is no text has
--- the place of a byte that is none
-abbrev pub SendsReport : {A W : Type 0} → (W → SinkTold) → Reporting → List ℕ → SoFar → W →
+-- the report of what is told is sent to a sink, with this result; each line that is no text has the
+-- place of a byte that is none
+abbrev pub SendsReport : {A W : Type 0} → (W → SinkTold) → Reporting → List ℕ → List Remark → W →
     Result (Unit {0}) (Error A) → W → Type 0
-SendsReport told how file all old result new =
+SendsReport told how file remarks old result new =
     (bad : List BadByte)
-    × Sends told most_writes old new
-    (report how.format how.is_first file (placed bad (reported how.allowed.now all))) result
+    × Sends told most_writes old new (report how.format how.is_first file (placed bad remarks))
+    result
 
--- the result of a check says what was found and is not allowed, and which names the file declares
-pub record Tells {A : Type 0} (how : Reporting) (all : SoFar) (checked : Checked A) : Type 0 where
-  pub found : checked.found ≡ found_in how.denied.now (shown how.allowed.now (findings_of all))
+-- the result of a check says what is told, and which names the file declares
+pub record Tells {A : Type 0} (how : Reporting) (told : List Remark) (all : SoFar)
+    (checked : Checked A) : Type 0 where
+  pub found : checked.found ≡ found_in how.denied.now (shown told)
   pub declares : declared_of checked.declared ≡ all.declared
 
--- the report of what is found in what is read of a is sent to a sink, and the result is: what is
--- found in all of it, and the names; the fault of reading; or that of writing
+-- the report of what is found in what is read of a, but for what comments allow, is sent to a sink,
+-- and the result is: what is told of all of it, and the names; the fault of reading; or that of
+-- writing
 abbrev pub Reports : {A W : Type 0} → (W → SinkTold) → Reporting → List ℕ → Known → IterState →
     Ahead → W → Result (Checked A) (Stop A) → W → Type 0
 Reports {A = A} told how file names s a old (Ok checked) new =
     (all : SoFar) × HasFindings {A = A} (file_setting names s.dialect how.text) s.lines a None all
-    × Tells how all checked × SendsReport {A = A} told how file all old (Ok tt) new
+    × ((comments : List Allow) × Tells how (reported how.allowed.now comments all) all checked
+    × SendsReport {A = A} told how file (reported how.allowed.now comments all) old (Ok tt) new)
 Reports {A = A} told how file names s a old (Err (Read e)) new =
     (all : SoFar) × HasFindings (file_setting names s.dialect how.text) s.lines a (Some e) all
-    × SendsReport {A = A} told how file all old (Ok tt) new
+    × ((comments : List Allow)
+    × SendsReport {A = A} told how file (reported how.allowed.now comments all) old (Ok tt) new)
 Reports {A = A} told how file names s a old (Err (Write e)) new =
     (fault : Option (Error A)) × (all : SoFar)
     × HasFindings (file_setting names s.dialect how.text) s.lines a fault all
-    × SendsReport told how file all old (Err e) new
+    × ((comments : List Allow)
+    × SendsReport told how file (reported how.allowed.now comments all) old (Err e) new)
 Reports told how file names s a old (Err (Memory refused)) new = new ≡ old
 
 -- the check stops because an allocation failed

@@ -1,8 +1,8 @@
 -- What is found in a file: its faults, and what looks like a mistake.
 use Rattle.std.specs.Prelude.{ℕ, ◌≡◌, ◌==◌, Bool, true, false, not, ◌||◌, ◌&&◌, ◌+◌, ◌-◌, List, [], ◌∷◌}
-use Rattle.std.specs.Prelude.{◌++◌, map, min, ◌^◌, nat_le, Option, Some, None, is_some, bytes_eq}
+use Rattle.std.specs.Prelude.{◌++◌, map, min, ◌^◌, nat_le, nat_lt, Option, Some, None, is_some, bytes_eq}
 use Rattle.std.specs.Prelude.{encode_utf8_all, if◌then◌else◌}
-use Rattle.std.specs.List.{filter, slice_split}
+use Rattle.std.specs.List.{slice_split}
 use Rattle.std.specs.Str.{chars, skip_leading_whitespace}
 use Rattle.dotenvy_format.specs.declared.dialect.Dialect.{Dialect}
 use Rattle.dotenvy_format.specs.declared.walk.LineMode.TheVariants.{Outside}
@@ -22,6 +22,7 @@ use Rattle.dotenvy_findings.specs.declared.kind.Kind.TheVariants as kind
 use Rattle.dotenvy_findings.specs.declared.place.Place.{Place}
 use Rattle.dotenvy_findings.specs.Causes.{skip_white}
 use Rattle.dotenvy_findings.specs.Characters.{begins_declaration}
+use Rattle.dotenvy_findings.specs.Comments.{Allow}
 use Rattle.dotenvy_findings.specs.Kinds.{is_fault, kind_number}
 use Rattle.dotenvy_findings.specs.LineTexts.{closed_fault, line_marks, open_line_fault, place_left}
 use Rattle.dotenvy_findings.specs.Opens.{is_inside}
@@ -43,28 +44,37 @@ with_key key line declared name =
     if bytes_eq key name then Some line else declared name
 
 -- how a line is checked: which names have a value outside the file, the dialect, whether the line
--- is read as a guess, behind a quote that stays open, and whether its text is told
+-- is read as a guess, behind a quote that stays open, whether its text is told, and the number of
+-- the line above it, if that may be a comment, or 0
 pub record Setting : Type 0 where
   pub names : Known
   pub dialect : Dialect
   pub is_guess : Bool
   pub tells_text : Bool
+  pub above : ℕ
 
--- something that is found, the name that has no value there, if that is found, and what a load says
--- of the line, if that is told
+-- something that is found, the name that has no value there, if that is found, what a load says of
+-- the line, if that is told, and the number of the line above it, if that may be a comment, or 0
 pub record Remark : Type 0 where
   pub finding : Finding
   pub name : List ℕ
   pub said : List ℕ
+  pub above : ℕ
 
--- what was found so far, and the names that are declared so far
+-- what was found so far, the names that are declared so far, and the number of the last line, if it
+-- may be a comment, or 0
 pub record SoFar : Type 0 where
   pub remarks : List Remark
   pub declared : Declared
+  pub above : ℕ
 
 -- nothing was found yet
 abbrev pub nothing_yet : SoFar
-nothing_yet = record { remarks = []; declared = none_declared }
+nothing_yet = record { remarks = []; declared = none_declared; above = 0 }
+
+-- how the next line is checked: the line above it is the last one
+abbrev pub under : SoFar → Setting → Setting
+under so_far setting = record setting { above = so_far.above }
 
 -- the names that have a value: outside the file, or since an earlier line declares them
 abbrev pub has_value : Known → Declared → Known
@@ -76,6 +86,7 @@ found setting k place other = record {
   finding = record { kind = k; place = place; other = other; is_guess = setting.is_guess };
   name = [];
   said = [];
+  above = setting.above;
 }
 
 -- what is told of a declaration, as a finding
@@ -84,6 +95,7 @@ told_remark setting told = record {
   finding = record { kind = told.kind; place = told.place; other = 0; is_guess = setting.is_guess };
   name = told.name;
   said = [];
+  above = setting.above;
 }
 
 -- the place at which a line with this number begins
@@ -152,13 +164,20 @@ declared_by number (Declares key pieces ∷ entries) declared =
     declared_by number entries (with_key (encode_utf8_all key) number declared)
 declared_by number (Fails failure ∷ entries) declared = declared_by number entries declared
 
+-- the number of a line with these entries, if it may be a comment, or 0
+abbrev pub bare_line : ℕ → List Entry → ℕ
+bare_line number [] = number
+bare_line number (entry ∷ entries) = 0
+
 -- what was found so far, with what is found in a logical line with this number, whose last physical
 -- line is the last one given, and which has these entries
 abbrev pub with_logical : Setting → SoFar → ℕ → ℕ → Logical → List Entry → SoFar
 with_logical setting so_far number last logical entries = record {
   remarks =
-      so_far.remarks ++ logical_remarks setting so_far.declared number last logical entries;
+      so_far.remarks
+      ++ logical_remarks (under so_far setting) so_far.declared number last logical entries;
   declared = declared_by number entries so_far.declared;
+  above = bare_line number entries;
 }
 
 -- what was found so far, with what is found in one more line
@@ -366,16 +385,38 @@ is_among k (first ∷ kinds) = kind_number first == kind_number k || is_among k 
 abbrev pub is_denied : List Kind → Finding → Bool
 is_denied denied finding = is_warning finding && is_among finding.kind denied
 
--- a finding is reported: it is an error, or of no kind that is allowed
-abbrev pub is_shown : List Kind → Finding → Bool
-is_shown allowed finding = is_error finding || not (is_among finding.kind allowed)
+-- the comments that stand on this line or behind it
+abbrev pub comments_from : ℕ → List Allow → List Allow
+comments_from line [] = []
+comments_from line (comment ∷ comments) =
+    if nat_lt comment.line line then comments_from line comments else comment ∷ comments
 
--- the findings that are reported, where these kinds are allowed
-abbrev pub shown : List Kind → List Finding → List Finding
-shown allowed found = filter (is_shown allowed) found
+-- the first of these comments stands on this line, and allows the kind
+abbrev pub is_allowed_on : ℕ → Kind → List Allow → Bool
+is_allowed_on line k [] = false
+is_allowed_on line k (comment ∷ comments) = comment.line == line && is_among k comment.kinds
 
--- what is reported of all that was read of a file, where these kinds are allowed
-abbrev pub reported : List Kind → SoFar → List Remark
-reported allowed so_far =
-    filter (λ remark. is_shown allowed remark.finding)
-    (map (settled so_far.declared) so_far.remarks)
+-- a finding is told, above whose line this one is: it is an error, or of no kind that is allowed, and
+-- the comment on the line above, if that is the first of these, does not allow it
+abbrev pub is_told : List Kind → List Allow → ℕ → Finding → Bool
+is_told allowed comments above finding =
+    is_error finding
+    || not (is_among finding.kind allowed || is_allowed_on above finding.kind comments)
+
+-- what is told of these, where these kinds are allowed, and others by these comments
+abbrev pub told_of : List Kind → List Allow → List Remark → List Remark
+told_of allowed comments [] = []
+told_of allowed comments (remark ∷ remarks) =
+    let left = comments_from remark.above comments in
+    let others = told_of allowed left remarks in
+    if is_told allowed left remark.above remark.finding then remark ∷ others else others
+
+-- what is reported of all that was read of a file, where these kinds are allowed, and others by these
+-- comments
+abbrev pub reported : List Kind → List Allow → SoFar → List Remark
+reported allowed comments so_far =
+    told_of allowed comments (map (settled so_far.declared) so_far.remarks)
+
+-- the findings that are told
+abbrev pub shown : List Remark → List Finding
+shown told = map (λ remark. remark.finding) told

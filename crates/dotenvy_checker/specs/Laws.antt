@@ -20,7 +20,6 @@ use Rattle.dotenvy_lines.specs.Numbered.{FileLine, entries_of, HasNumbered, Deci
 use Rattle.env_layers.specs.declared.missing.Missing.{Missing}
 use Rattle.env_layers.specs.Missing.{absent_names, AnswersRequire}
 use Rattle.dotenvy_checker.specs.declared.check.Checked.{Checked}
-use Rattle.dotenvy_checker.specs.declared.report.Found.{Found}
 use Rattle.dotenvy_checker.specs.declared.report.Reporting.{Reporting}
 use Rattle.dotenvy_checker.specs.Checks.{names_in, Reports}
 use Rattle.dotenvy_checker.specs.Findings.{AreRows, Remark, Row, Setting, findings, is_error}

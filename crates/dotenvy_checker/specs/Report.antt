@@ -1,5 +1,5 @@
 -- What is printed of findings. The text is bytes.
-use Rattle.std.specs.Prelude.{ℕ, ◌==◌, Bool, true, false, List, [], ◌∷◌, ◌++◌, codes, length, map}
+use Rattle.std.specs.Prelude.{ℕ, ◌==◌, Bool, false, List, [], ◌∷◌, ◌++◌, codes, length, map}
 use Rattle.std.specs.Prelude.{if◌then◌else◌}
 use Rattle.dotenvy_findings.specs.declared.finding.Finding.{Finding}
 use Rattle.dotenvy_reports.specs.declared.format.Format.{Format}

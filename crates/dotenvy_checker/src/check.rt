@@ -1,6 +1,6 @@
 //! Checks one file, over any reader and writer.
 
-ghost use Rattle.std.specs.Prelude.{◌≡◌, IfOk};
+ghost use Rattle.std.specs.Prelude.{◌≡◌, [], IfOk};
 ghost use Rattle.dotenvy_base.specs.Source.{Ahead};
 ghost use Rattle.dotenvy_items.specs.Iter.{IsOpen, TellsLeft};
 ghost use Rattle.dotenvy_checker.specs.Checks.{names_in, FewLines, Reports, Tells};
@@ -39,13 +39,14 @@ pub struct Checked<A: Allocator> {
 /// LINE is a physical line and COL a character of it, both counted from 1: where the hand has to go. A name has a value
 /// if this environment has it, or the file declares it before. Nothing is set, and no byte of a value or of a faulty
 /// text is written. What follows a quote that stays open is told as if the quote had not been opened, as a warning that
-/// counts for nothing. Another format than text has its own form, and a warning that is allowed isn't written.
+/// counts for nothing. Another format than text has its own form. A warning that is allowed isn't written: by `how`, or
+/// by a comment `# dotenvy_check: allow KIND` on the line above.
 ///
 /// With `how.text` a line follows in the format text, behind the fault of a line that is text: four blanks, and what a
 /// load says of the line, which holds its text or its value.
 ///
 /// ```
-/// let file = Iter::new(alloc, Watched::new(alloc, Bytes::new(b"A=1\nB=two words\nC=$X\n")))?;
+/// let file = Iter::new(alloc, Watched::new(alloc, Bytes::new(b"A=1\nB=two words\nC=$X\n"))?)?;
 /// let checked = check(file, "a.env", &environment, &mut Reporting::TEXT, &mut writer)?;
 /// // a.env:2:6: error: a value with a space needs quotes; put it in double quotes [space-in-value]
 /// // a.env:3:3: warning: the name after this dollar has no value; .. [unknown-name]
@@ -60,7 +61,7 @@ pub fn check<R: Source + Drop, W: Sink, A: Allocator + Clone>(
     ensures reports { IsOpen file → (a : Ahead) → TellsLeft file a → FewLines file.lines a →
         Reports W.told how.old name.now (names_in env.now.names) file a writer.old result writer.new }
     ensures how { how.new ≡ record how.old { is_first = how.new.is_first } }
-    ensures shut { ¬ (IsOpen file) → IfOk result (Tells how.old nothing_yet) }
+    ensures shut { ¬ (IsOpen file) → IfOk result (Tells how.old [] nothing_yet) }
 {
     let (mut lines, dialect) = into_lines(file);
     let alloc = lines.allocator().clone()?;
@@ -71,11 +72,9 @@ pub fn check<R: Source + Drop, W: Sink, A: Allocator + Clone>(
     };
     let mut checker = Checker::new(alloc, names, dialect, how.text)?;
     let fault = checker.check_all(&mut lines)?;
-    let bad = lines.into_reader().finish()?;
-    let (report, found) = report_of(name, &checker, bad.found(), *how)?;
-    if !report.is_empty() {
-        how.is_first = false;
-    }
+    let seen = lines.into_reader().finish()?;
+    let (report, found) = report_of(name, &checker, &seen, *how)?;
+    how.is_first = how.is_first && report.is_empty();
     if let Err(unwritten) = write_all(writer, report.as_bytes(), MOST_WRITES) {
         return Err(Stop::Write(unwritten));
     }

@@ -11,7 +11,7 @@ ghost use Rattle.dotenvy_format.specs.inside.Walk.{walk};
 ghost use Rattle.dotenvy_findings.specs.Readings.{marks_of};
 ghost use Rattle.dotenvy_lines.specs.declared.lines.Stage.TheVariants.{Open, Failed};
 ghost use Rattle.dotenvy_checker.specs.Findings.{begins_at, cut, declaration_remarks, ends_inside, fault_remarks, found, guessed, is_passed, leaves_open, logical_text, open_behind, said_of, told_remark, with_key};
-ghost use Rattle.dotenvy_checker.specs.inside.CheckedLines.{declared_of, failed_as, left_len, logical_of, pieces, setting_of, ChecksGuess, ChecksGuesses, ChecksOutcome, ChecksPart, ChecksRead, ChecksUpTo, ChecksWhole, GuessIs, IsNew, KeepsMore, WhereFew};
+ghost use Rattle.dotenvy_checker.specs.inside.CheckedLines.{declared_of, failed_as, left_len, logical_of, pieces, setting_at, ChecksGuess, ChecksGuesses, ChecksOutcome, ChecksPart, ChecksRead, ChecksUpTo, ChecksWhole, GuessIs, IsNew, KeepsMore, WhereFew};
 
 use crate::declared::{Declared, KnownNames};
 use dotenvy_base::environment::Environment;
@@ -32,13 +32,14 @@ use dotenvy_lines::lines::Splitter;
 use dotenvy_reports::one_line::one_line;
 use std::alloc::{AllocError, Allocator};
 
-/// Something that is found, the name that has no value there, if that is found, and what a load says of the line, if
-/// that is told.
+/// Something that is found, the name that has no value there, if that is found, what a load says of the line, if that
+/// is told, and the number of the line above it, if that may be a comment, or 0.
 #[derive(Drop)]
 pub(crate) struct Pending<A: Allocator> {
     pub(crate) finding: Finding,
     pub(crate) name: String<A>,
     pub(crate) said: String<A>,
+    pub(crate) above: u64,
 }
 
 // A line that is checked: its number, and whether it is read as a guess.
@@ -115,6 +116,8 @@ pub(crate) struct Checker<'a, A: Allocator> {
     dialect: Dialect,
     // Whether what a load says of a line is told.
     tells_text: bool,
+    // The number of the last line, if it may be a comment, or 0.
+    above: u64,
     pub(crate) alloc: A,
     pub(crate) pending: Vec<Pending<A>, A>,
 }
@@ -188,6 +191,7 @@ impl<'a, A: Allocator + Clone> Checker<'a, A> {
             declared: Declared::new(alloc.clone()?),
             dialect,
             tells_text,
+            above: 0,
             pending: Vec::new(alloc.clone()?),
             alloc,
         })
@@ -264,7 +268,9 @@ impl<'a, A: Allocator + Clone> Checker<'a, A> {
                     number,
                     is_guess: false,
                 };
-                self.keep(line, (Kind::NotUtf8, begins_at(last)), 0)
+                self.keep(line, (Kind::NotUtf8, begins_at(last)), 0)?;
+                self.above = 0;
+                Ok(())
             }
         }
     }
@@ -315,7 +321,10 @@ impl<'a, A: Allocator + Clone> Checker<'a, A> {
             (λ from. ChecksPart line last (HasText (chars text.now)) from self.old self.new) }
     {
         match scan_line(text, &self.names, self.dialect) {
-            Ok(None) => Ok(None),
+            Ok(None) => {
+                self.above = line.number;
+                Ok(None)
+            }
             Ok(Some(declaration)) => {
                 self.check_declaration(line, text, declaration.key)?;
                 Ok(None)
@@ -337,10 +346,10 @@ impl<'a, A: Allocator + Clone> Checker<'a, A> {
         key: &str,
     ) -> std::result::Result<(), AllocError>
         ensures { OnOk result (KeepsMore
-            (declaration_remarks (setting_of self.old line.is_guess) (declared_of self.old.declared)
+            (declaration_remarks (setting_at self.old line.is_guess) (declared_of self.old.declared)
             line.number (trimmed (chars text.now)) (encode_utf8_all (chars key.now)))
             (with_key (encode_utf8_all (chars key.now)) line.number
-            (declared_of self.old.declared)) self.old self.new) }
+            (declared_of self.old.declared)) 0 self.old self.new) }
     {
         let characters = trimmed_characters(self.alloc.clone()?, text)?;
         let trimmed = line.text(self.dialect, characters.as_slice());
@@ -353,7 +362,10 @@ impl<'a, A: Allocator + Clone> Checker<'a, A> {
         };
         let marks = trimmed.marks(self.alloc.clone()?, &names, key)?;
         self.keep_marks(line, marks)?;
-        self.declared.declare(self.alloc.clone()?, key, line.number)
+        self.declared
+            .declare(self.alloc.clone()?, key, line.number)?;
+        self.above = 0;
+        Ok(())
     }
 
     // Keeps what is told of a declaration.
@@ -363,8 +375,8 @@ impl<'a, A: Allocator + Clone> Checker<'a, A> {
         marks: Vec<Mark<A>, A>,
     ) -> std::result::Result<(), AllocError>
         ensures { OnOk result (KeepsMore
-            (map (told_remark (setting_of self.old line.is_guess)) (marks_of marks.items))
-            (declared_of self.old.declared) self.old self.new) }
+            (map (told_remark (setting_at self.old line.is_guess)) (marks_of marks.items))
+            (declared_of self.old.declared) self.old.above self.old self.new) }
     {
         'marks: for mark in marks {
             let Mark { kind, place, name } = mark;
@@ -372,6 +384,7 @@ impl<'a, A: Allocator + Clone> Checker<'a, A> {
                 finding: line.finding(kind, place, 0),
                 name,
                 said: String::new(self.alloc.clone()?),
+                above: self.above,
             })?;
         }
         Ok(())
@@ -399,14 +412,16 @@ impl<'a, A: Allocator + Clone> Checker<'a, A> {
         said: String<A>,
     ) -> std::result::Result<Option<u64>, AllocError>
         ensures { IfOk result (λ from. (from ≡ fault.behind) × KeepsMore
-            (fault_remarks (setting_of self.old line.is_guess) fault (string_bytes said))
-            (declared_of self.old.declared) self.old self.new) }
+            (fault_remarks (setting_at self.old line.is_guess) fault (string_bytes said))
+            (declared_of self.old.declared) 0 self.old self.new) }
     {
         self.pending.push(Pending {
             finding: line.finding(fault.kind, fault.place, 0),
             name: String::new(self.alloc.clone()?),
             said,
+            above: self.above,
         })?;
+        self.above = 0;
         Ok(fault.behind)
     }
 
@@ -418,13 +433,14 @@ impl<'a, A: Allocator + Clone> Checker<'a, A> {
         other: u64,
     ) -> std::result::Result<(), AllocError>
         ensures { OnOk result (KeepsMore
-            (found (setting_of self.old line.is_guess) told.0 told.1 other ∷ [])
-            (declared_of self.old.declared) self.old self.new) }
+            (found (setting_at self.old line.is_guess) told.0 told.1 other ∷ [])
+            (declared_of self.old.declared) self.old.above self.old self.new) }
     {
         self.pending.push(Pending {
             finding: line.finding(told.0, told.1, other),
             name: String::new(self.alloc.clone()?),
             said: String::new(self.alloc.clone()?),
+            above: self.above,
         })?;
         Ok(())
     }
@@ -476,7 +492,10 @@ impl<'a, A: Allocator + Clone> Checker<'a, A> {
                 self.check_part(line, part)?;
                 Ok(part.is_open())
             }
-            None => Ok(false),
+            None => {
+                self.above = line.number;
+                Ok(false)
+            }
         }
     }
 

@@ -1,16 +1,19 @@
 //! The report of a file: a line for each finding.
 
-ghost use Rattle.std.specs.Prelude.{◌≡◌, ◌||◌, ◌&&◌, ◌++◌, [], if◌then◌else◌, IfOk, OnOk, string_bytes};
+ghost use Rattle.std.specs.Prelude.{◌≡◌, ◌||◌, ◌&&◌, ◌++◌, [], if◌then◌else◌, IfOk, OnOk, map, string_bytes};
 ghost use Rattle.dotenvy_checker.specs.Checks.{both, found_in, found_of};
-ghost use Rattle.dotenvy_checker.specs.Findings.{bad_left, findings_of, is_among, is_shown, placed, placed_one, reported, resolved, shown};
+ghost use Rattle.dotenvy_checker.specs.Findings.{bad_left, comments_from, is_allowed_on, is_among, is_told, placed, placed_one, reported, resolved, shown};
+ghost use Rattle.dotenvy_findings.specs.Comments.{allow_of};
 ghost use Rattle.dotenvy_checker.specs.Report.{report, said_line, said_text};
 ghost use Rattle.dotenvy_reports.specs.Formats.{separator};
-ghost use Rattle.dotenvy_checker.specs.inside.CheckedLines.{declared_of, remark_of, so_far};
+ghost use Rattle.dotenvy_checker.specs.inside.CheckedLines.{allow_comments, bad_bytes, declared_of, remark_of, so_far};
 
 use crate::declared::Declared;
 use crate::lines::{Checker, Pending};
+use crate::watched::Seen;
 use dotenvy::Error;
 use dotenvy_findings::bytes::BadByte;
+use dotenvy_findings::comments::AllowComment;
 use dotenvy_findings::finding::Finding;
 use dotenvy_findings::kind::Kind;
 use dotenvy_reports::format::Format;
@@ -108,11 +111,42 @@ impl Found {
     }
 }
 
-// Whether a finding is reported: it is an error, or of no kind that is allowed.
-fn is_shown(finding: Finding, allowed: &[Kind]) -> bool
-    ensures { result ≡ is_shown allowed.now finding }
+// The comments that stand on this line or behind it.
+fn comments_from<A: Allocator>(line: u64, comments: &[AllowComment<A>]) -> &[AllowComment<A>]
+    ensures { map allow_of result.now ≡ comments_from line (map allow_of comments.now) }
 {
-    finding.kind.is_fault() && !finding.is_guess || !is_among(finding.kind, allowed)
+    let mut rest = comments;
+    'comments: while let Some((first, after)) = rest.split_first() {
+        if first.line >= line {
+            return rest;
+        }
+        rest = after;
+    }
+    rest
+}
+
+// Whether the first of these comments stands on this line, and allows the kind.
+fn is_allowed_on<A: Allocator>(line: u64, kind: Kind, comments: &[AllowComment<A>]) -> bool
+    ensures { result ≡ is_allowed_on line kind (map allow_of comments.now) }
+{
+    match comments.split_first() {
+        Some((first, _)) => first.line == line && is_among(kind, first.kinds.as_slice()),
+        None => false,
+    }
+}
+
+// Whether a finding is told, above whose line this one is: it is an error, or of no kind that is allowed, and the
+// comment on the line above, if that is the first of these, does not allow it.
+fn is_told<A: Allocator>(
+    finding: Finding,
+    above: u64,
+    allowed: &[Kind],
+    comments: &[AllowComment<A>],
+) -> bool
+    ensures { result ≡ is_told allowed.now (map allow_of comments.now) above finding }
+{
+    finding.kind.is_fault() && !finding.is_guess
+        || !(is_among(finding.kind, allowed) || is_allowed_on(above, finding.kind, comments))
 }
 
 // Appends what separates two findings, unless this is the first.
@@ -198,29 +232,32 @@ fn placed(finding: Finding, bad: &[BadByte]) -> (Finding, &[BadByte])
     }
 }
 
-/// What is reported of what was found in the file with this name, where these bytes are no text, and what it comes to.
+/// What is reported of what was found in the file with this name, in whose bytes this was seen, and what it comes to.
 pub(crate) fn report_of<A: Allocator + Clone>(
     file: &str,
     checker: &Checker<'_, A>,
-    bad: &[BadByte],
+    seen: &Seen<A>,
     how: Reporting<'_>,
 ) -> Result<(String<A>, Found), AllocError>
     ensures text { IfOk result (λ given. string_bytes given.0
         ≡ report how.entry.format how.entry.is_first file.now
-        (placed bad.now (reported how.entry.allowed.now (so_far checker.now)))) }
+        (placed (bad_bytes seen.now)
+        (reported how.entry.allowed.now (allow_comments seen.now) (so_far checker.now)))) }
     ensures found { IfOk result (λ given. given.1
         ≡ found_in how.entry.denied.now
-        (shown how.entry.allowed.now (findings_of (so_far checker.now)))) }
+        (shown (reported how.entry.allowed.now (allow_comments seen.now) (so_far checker.now)))) }
 {
     let mut text = String::new(checker.alloc.clone()?);
     let mut found = Found::NOTHING;
     let mut is_first = how.is_first;
     let mut rest = checker.pending.as_slice();
-    let mut bad = bad;
+    let mut bad = seen.bad.found();
+    let mut comments = seen.comments.found();
     'findings: while let Some((first, after)) = rest.split_first() {
         let finding = resolved(&checker.declared, first);
         rest = after;
-        if !is_shown(finding, how.allowed) {
+        comments = comments_from(first.above, comments);
+        if !is_told(finding, first.above, how.allowed, comments) {
             continue 'findings;
         }
         let (placed, others) = placed(finding, bad);

@@ -131,7 +131,7 @@ fn check_files<
     }
     'files: for name in &words.files {
         if name.as_str() == "-" {
-            let watched = Watched::new(rt.alloc(), &mut *reader);
+            let watched = Watched::new(rt.alloc(), &mut *reader)?;
             let opened = Iter::with_dialect(rt.alloc(), watched, words.dialect);
             files.check("<stdin>", opened)?;
         } else if is_folder(rt, name.as_str()) {
@@ -178,7 +178,7 @@ fn open<A: Allocator + Clone, R: Files + Alloc<A = A>>(
     ensures fault { IfErr result IsFileFault }
 {
     let reader = into_reader(from_path_iter(rt, path)?);
-    Iter::with_dialect(rt.alloc(), Watched::new(rt.alloc(), reader), dialect)
+    Iter::with_dialect(rt.alloc(), Watched::new(rt.alloc(), reader)?, dialect)
 }
 
 // The files that were checked: what was found in them, and where it is written.

@@ -1,62 +1,122 @@
-//! A source that is watched for bytes that are no text.
+//! A source that is watched for bytes that are no text, and for comments that allow kinds of findings.
 
-ghost use Rattle.std.specs.Prelude.{◌≡◌};
+ghost use Rattle.std.specs.Prelude.{◌≡◌, ◌≤◌, None, IfOk, OnOk, length, take};
+ghost use Rattle.dotenvy_base.specs.Calls.{TellsCall, call_of};
+ghost use Rattle.dotenvy_base.specs.Source.{ReadsAhead};
+ghost use Rattle.dotenvy_findings.specs.Bytes as no_text;
+ghost use Rattle.dotenvy_findings.specs.Comments as allowing;
 
 use dotenvy::Source;
 use dotenvy_findings::bytes::BadBytes;
+use dotenvy_findings::comments::AllowComments;
 use std::alloc::{AllocError, Allocator};
 use std::io;
 
-/// A source whose bytes are watched for those that are no text, as they are read.
+/// What was seen in the bytes of a file.
+#[derive(Drop)]
+pub(crate) struct Seen<A: Allocator> {
+    /// The bytes that are no text.
+    pub(crate) bad: BadBytes<A>,
+    /// The comments that allow kinds of findings.
+    pub(crate) comments: AllowComments<A>,
+}
+
+/// A source whose bytes are watched, as they are read, for those that are no text, and for comments that allow kinds
+/// of findings.
 ///
 /// ```text
-/// let file = Iter::new(alloc, Watched::new(alloc, reader))?;
+/// let file = Iter::new(alloc, Watched::new(alloc, reader)?)?;
 /// ```
 #[derive(Drop)]
 pub struct Watched<R, A: Allocator> {
     inner: R,
-    bad: BadBytes<A>,
-    // Whether memory for a bad byte was refused.
+    seen: Seen<A>,
+    // Whether memory for what was seen was refused.
     refused: Option<AllocError>,
 }
 
-impl<R: Source, A: Allocator> Watched<R, A> {
-    /// Watches this source, of which nothing is read yet.
-    pub fn new(alloc: A, inner: R) -> Watched<R, A>
-        ensures { R.told result.inner ≡ R.told inner }
+impl<A: Allocator + Clone> Seen<A> {
+    // Watches the next bytes of the file.
+    fn watch(&mut self, bytes: &[u8]) -> Result<(), AllocError>
+        ensures bad { OnOk result (no_text.watch_of self.new.bad
+            ≡ no_text.watched (no_text.watch_of self.old.bad) bytes.now) }
+        ensures comments { OnOk result (allowing.watch_of self.new.comments
+            ≡ allowing.watched (allowing.watch_of self.old.comments) bytes.now) }
     {
-        Watched {
-            inner,
-            bad: BadBytes::new(alloc),
-            refused: None,
-        }
+        self.bad.watch(bytes)?;
+        self.comments.watch(bytes)
     }
 
-    /// The bytes that are no text, of all that was read.
-    pub(crate) fn finish(self) -> Result<BadBytes<A>, AllocError>
+    // Ends the watch with the file.
+    fn finish(&mut self) -> Result<(), AllocError>
+        ensures bad { OnOk result
+            (no_text.watch_of self.new.bad ≡ no_text.with_end (no_text.watch_of self.old.bad)) }
+        ensures comments { OnOk result (allowing.watch_of self.new.comments
+            ≡ allowing.with_end (allowing.watch_of self.old.comments)) }
+    {
+        self.bad.finish()?;
+        self.comments.finish()
+    }
+}
+
+impl<R: Source, A: Allocator + Clone> Watched<R, A> {
+    /// Watches this source, of which nothing is read yet.
+    pub fn new(alloc: A, inner: R) -> Result<Watched<R, A>, AllocError>
+    where
+        R: Drop,
+        ensures { IfOk result (λ watched. R.told watched.inner ≡ R.told inner) }
+    {
+        let seen = Seen {
+            bad: BadBytes::new(alloc.clone()?),
+            comments: AllowComments::new(alloc),
+        };
+        Ok(Watched {
+            inner,
+            seen,
+            refused: None,
+        })
+    }
+
+    /// What was seen in all that was read.
+    pub(crate) fn finish(self) -> Result<Seen<A>, AllocError>
     where
         R: Drop,
     {
         let Watched {
             inner: _,
-            mut bad,
+            mut seen,
             refused,
         } = self;
         if let Some(refused) = refused {
             return Err(refused);
         }
-        bad.finish()?;
-        Ok(bad)
+        seen.finish()?;
+        Ok(seen)
     }
 }
 
-impl<R: Source, A: Allocator> Source for Watched<R, A> {
+impl<R: Source, A: Allocator + Clone> Source for Watched<R, A> {
     ghost told = { λ s. R.told s.inner };
 
-    fn read_some(&mut self, buf: &mut [u8]) -> io::Result<usize> {
+    fn read_some(&mut self, buf: &mut [u8]) -> io::Result<usize>
+        ensures bound { IfOk result (λ n. n ≤ length buf.new) }
+        ensures bytes { ReadsAhead (R.told self.old.inner).ahead (R.told self.new.inner).ahead
+            result buf.new }
+        ensures calls { TellsCall (R.told self.old.inner).calls (R.told self.new.inner).calls
+            (call_of (length buf.old) result) }
+        ensures same { (R.told self.new.inner).references ≡ (R.told self.old.inner).references }
+
+        // What is read is watched, unless memory was refused.
+        ensures bad { IfOk result (λ n. self.new.refused ≡ None →
+            no_text.watch_of self.new.seen.bad
+            ≡ no_text.watched (no_text.watch_of self.old.seen.bad) (take n buf.new)) }
+        ensures comments { IfOk result (λ n. self.new.refused ≡ None →
+            allowing.watch_of self.new.seen.comments
+            ≡ allowing.watched (allowing.watch_of self.old.seen.comments) (take n buf.new)) }
+    {
         let n = self.inner.read_some(buf)?;
         if let Some(bytes) = buf.get(..n) {
-            if let Err(refused) = self.bad.watch(bytes) {
+            if let Err(refused) = self.seen.watch(bytes) {
                 self.refused = Some(refused);
             }
         }

@@ -1,5 +1,7 @@
 mod CharacterBytes
 mod CleanWatches
+mod CommentWatches
+mod CommentWords
 pub mod FaultKinds
 mod LineWalks
 pub mod MarkKinds

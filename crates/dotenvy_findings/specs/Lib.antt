@@ -1,6 +1,7 @@
 pub mod Bytes
 pub mod Causes
 pub mod Characters
+pub mod Comments
 pub mod Cursors
 pub mod Kinds
 pub mod Laws

@@ -7,6 +7,7 @@
 pub mod bytes;
 pub mod cause;
 pub mod characters;
+pub mod comments;
 mod cursor;
 pub mod finding;
 pub mod kind;

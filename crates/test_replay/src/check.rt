@@ -43,8 +43,8 @@ impl Checked {
         writer: &mut Plain<PlayedWriter>,
     ) -> Result<std::result::Result<Found, Stop<A>>> {
         let environment = environment_of(plenty, &self.names)?;
-        let watched = match alloc.clone() {
-            Ok(alloc) => Watched::new(alloc, reader),
+        let watched = match alloc.clone().and_then(|alloc| Watched::new(alloc, reader)) {
+            Ok(watched) => watched,
             Err(refused) => return Ok(Err(Stop::Memory(refused))),
         };
         let mut how = Reporting::TEXT;

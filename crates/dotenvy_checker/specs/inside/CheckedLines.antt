@@ -16,6 +16,10 @@ use Rattle.dotenvy_lines.specs.declared.lines.Stage.TheVariants.{Failed}
 use Rattle.dotenvy_lines.specs.Lines.{LinesState, WhereOpen}
 use Rattle.dotenvy_lines.specs.Numbered.{FileLine}
 use Rattle.dotenvy_lines.specs.inside.Splitter.{SplitterState, last_lines}
+use Rattle.dotenvy_findings.specs.declared.bytes.BadByte.{BadByte}
+use Rattle.dotenvy_findings.specs.Bytes as bytes
+use Rattle.dotenvy_findings.specs.Comments as comments
+use Rattle.dotenvy_findings.specs.Comments.{Allow}
 use Rattle.dotenvy_findings.specs.Readings.{Known}
 use Rattle.dotenvy_checker.specs.declared.declared.KnownNames.{KnownNames}
 use Rattle.dotenvy_checker.specs.declared.lines.Checker.{Checker}
@@ -23,8 +27,9 @@ use Rattle.dotenvy_checker.specs.declared.lines.Numbered.{Numbered}
 use Rattle.dotenvy_checker.specs.declared.lines.Part.{Part}
 use Rattle.dotenvy_checker.specs.declared.lines.Part.TheVariants.{Text, Open}
 use Rattle.dotenvy_checker.specs.declared.lines.Pending.{Pending}
+use Rattle.dotenvy_checker.specs.declared.watched.Seen.{Seen}
 use Rattle.dotenvy_checker.specs.Findings.{Declared, Remark, Row, Setting, SoFar, behind, cut, has_value}
-use Rattle.dotenvy_checker.specs.Findings.{lines_of}
+use Rattle.dotenvy_checker.specs.Findings.{lines_of, under}
 use Rattle.dotenvy_checker.specs.Findings.{logical_text, nothing_yet, with_lines, with_logical, with_rows}
 use Rattle.dotenvy_checker.specs.Findings.{AreGuesses, AreRows, GuessesFrom, IsGuess}
 use Rattle.dotenvy_checker.specs.Checks.{names_in, FewLines, ReadsLines}
@@ -40,6 +45,7 @@ remark_of pending = record {
   finding = pending.finding;
   name = string_bytes pending.name;
   said = string_bytes pending.said;
+  above = pending.above;
 }
 
 -- what was found so far
@@ -47,7 +53,16 @@ abbrev pub so_far : {A : Type 0} → Checker A → SoFar
 so_far checker = record {
   remarks = map remark_of checker.pending.items;
   declared = declared_of checker.declared;
+  above = checker.above;
 }
+
+-- the bytes that are no text, of those that were seen
+abbrev pub bad_bytes : {A : Type 0} → Seen A → List BadByte
+bad_bytes seen = (bytes.watch_of seen.bad).found
+
+-- the comments that allow kinds, among the bytes that were seen
+abbrev pub allow_comments : {A : Type 0} → Seen A → List Allow
+allow_comments seen = (comments.watch_of seen.comments).found
 
 -- how lines are checked: as lines of the file, or as guesses
 abbrev pub setting_of : {A : Type 0} → Checker A → Bool → Setting
@@ -56,7 +71,12 @@ setting_of checker is_guess = record {
   dialect = checker.dialect;
   is_guess = is_guess;
   tells_text = checker.tells_text;
+  above = 0;
 }
+
+-- how the next line is checked
+abbrev pub setting_at : {A : Type 0} → Checker A → Bool → Setting
+setting_at checker is_guess = under (so_far checker) (setting_of checker is_guess)
 
 -- a checker under this environment and in this dialect, of a file of which nothing was read, and of
 -- which the text is told or not
@@ -67,11 +87,13 @@ pub record IsNew {A : Type 0} (env : Env) (dialect : Dialect) (tells_text : Bool
   pub tells : checker.tells_text ≡ tells_text
   pub nothing : so_far checker ≡ nothing_yet
 
--- these are found, and these names are declared then; nothing else changes
-pub record KeepsMore {A : Type 0} (remarks : List Remark) (declared : Declared)
+-- these are found, these names are declared then, and the last line is this one, if it may be a
+-- comment, or 0; nothing else changes
+pub record KeepsMore {A : Type 0} (remarks : List Remark) (declared : Declared) (above : ℕ)
     (old new : Checker A) : Type 0 where
   pub found : (so_far new).remarks ≡ (so_far old).remarks ++ remarks
   pub declares : declared_of new.declared ≡ declared
+  pub stands : new.above ≡ above
   pub names : new.names ≡ old.names
   pub dialect : new.dialect ≡ old.dialect
   pub tells : new.tells_text ≡ old.tells_text
