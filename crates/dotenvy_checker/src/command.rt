@@ -1,6 +1,6 @@
 //! The command line of the program, as `clap` reads it.
 
-ghost use Rattle.std.specs.Prelude.{◌≡◌, IfOk, false, map, string_bytes};
+ghost use Rattle.std.specs.Prelude.{◌≡◌, IfOk, false};
 ghost use Rattle.clap.specs.Words.{FailsBy, app_of, fault_of, found_of, matches_of, rows_of, rule_of};
 ghost use Rattle.dotenvy_checker.specs.Words.{checker, file_rule, flag_rule, format_rule, many_rule, named, one_rule, quiet_rule};
 ghost use Rattle.dotenvy_checker.specs.Answers.{texts};

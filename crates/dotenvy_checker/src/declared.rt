@@ -1,6 +1,6 @@
 //! The names that a file declares, and which names have a value.
 
-ghost use Rattle.std.specs.Prelude.{◌≡◌, ℕ, IfOk, List, OnOk, bytes_eq, is_some, string_bytes};
+ghost use Rattle.std.specs.Prelude.{◌≡◌, ℕ, List, OnOk, bytes_eq, is_some, string_bytes};
 ghost use Rattle.std.specs.FinMap as fin;
 ghost use Rattle.dotenvy_checker.specs.Checks.{names_in};
 ghost use Rattle.dotenvy_checker.specs.Answers.{texts};

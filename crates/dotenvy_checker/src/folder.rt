@@ -1,9 +1,8 @@
 //! The environment files of a folder.
 
 ghost use Rattle.std.specs.Prelude.{◌≡◌, IfOk, string_bytes};
-ghost use Rattle.std.specs.List.{filter, list_any};
+ghost use Rattle.std.specs.List.{filter};
 ghost use Rattle.std.specs.List.Sorted.{IsPermutation, IsSorted};
-ghost use Rattle.std.specs.Str.{bytes_eq};
 ghost use Rattle.std.specs.String.{string_cmp};
 ghost use Rattle.dotenvy_checker.specs.Answers.{texts};
 ghost use Rattle.dotenvy_checker.specs.Folders.{is_among, is_chosen, is_environment_name, path_in, paths_in};

@@ -1,7 +1,7 @@
 -- Comments that allow kinds of findings: `# dotenvy_check: allow KIND KIND`.
 use Rattle.std.specs.Prelude.{ℕ, ◌≡◌, Bool, true, false, ◌&&◌, ◌||◌, ◌==◌, List, [], ◌∷◌, ◌++◌}
 use Rattle.std.specs.Prelude.{Option, Some, None, if◌then◌else◌, map, filter, codes}
-use Rattle.std.specs.List.{filter_map, list_any, slice_split}
+use Rattle.std.specs.List.{filter_map, slice_split}
 use Rattle.std.specs.Str.{bytes_eq, is_utf8}
 use Rattle.std.specs.Borrow.{Bor}
 use Rattle.dotenvy_format.specs.Characters.{carriage_return, hash, is_space_or_tab, line_feed}
@@ -12,7 +12,6 @@ use Rattle.dotenvy_findings.specs.declared.comments.LinePart.{LinePart}
 use Rattle.dotenvy_findings.specs.declared.comments.LinePart.TheVariants as code
 use Rattle.dotenvy_findings.specs.declared.kind.Kind.{Kind}
 use Rattle.dotenvy_findings.specs.declared.kind.Kind.TheVariants as kind
-use Rattle.dotenvy_findings.specs.Kinds.{kind_number}
 use Rattle.dotenvy_findings.specs.Named.{kind_named}
 use Rattle.dotenvy_findings.specs.Places.{one_more}
 
@@ -86,15 +85,6 @@ lines bytes = slice_split (λ byte. byte == line_feed) bytes
 -- the comments of a file that allow kinds, in its order
 abbrev pub allow_comments : List ℕ → List Allow
 allow_comments file = allows_from 1 (lines (without_mark file))
-
--- this kind is among these
-abbrev pub has_kind : Kind → List Kind → Bool
-has_kind kind kinds = list_any (λ each. kind_number each == kind_number kind) kinds
-
--- a comment on this line names this kind
-abbrev pub allows : ℕ → Kind → List Allow → Bool
-allows line kind comments =
-    list_any (λ comment. comment.line == line && has_kind kind comment.kinds) comments
 
 -- what was read of a line: nothing of the file, one or two bytes of a byte order mark, white space
 -- alone, a `#` and these bytes behind it, or something else

@@ -2,7 +2,7 @@
 
 ghost use Rattle.std.specs.Prelude.{◌≡◌, ◌<◌, length, map, true, IfOk, IfSome, OnOk};
 ghost use Rattle.std.specs.List.{position_from, position_or_len};
-ghost use Rattle.dotenvy_findings.specs.Comments.{CommentPartsJoin, FindsComments, HaveComments, allow_of, allowed, allows, begun, comment_kinds, fresh, has_kind, is_open, is_order, is_white, named, named_in, part_after, part_kinds, part_of, watch_of, watched, with_end, with_line, with_rest, without_white, words, words_of};
+ghost use Rattle.dotenvy_findings.specs.Comments.{CommentPartsJoin, FindsComments, HaveComments, allow_of, allowed, begun, comment_kinds, fresh, is_open, is_order, is_white, named, named_in, part_after, part_kinds, part_of, watch_of, watched, with_end, with_line, with_rest, without_white, words, words_of};
 ghost use Rattle.dotenvy_findings.specs.Named.{kind_named};
 ghost use Rattle.dotenvy_format.specs.PhysicalLines.{no_line_feed};
 
@@ -125,20 +125,6 @@ fn comment_kinds<A: Allocator>(alloc: A, text: &[u8]) -> Result<Vec<Kind, A>, Al
         Ok(_) => named_kinds(alloc, names),
         Err(_) => Ok(Vec::new(alloc)),
     }
-}
-
-// Whether the kind is among these.
-fn has_kind(kinds: &[Kind], kind: Kind) -> bool
-    ensures { result ≡ has_kind kind kinds.now }
-{
-    let mut rest = kinds;
-    'kinds: while let Some((first, after)) = rest.split_first() {
-        if first.number() == kind.number() {
-            return true;
-        }
-        rest = after;
-    }
-    false
 }
 
 // What was read of a line.
@@ -301,22 +287,6 @@ impl<A: Allocator + Clone> AllowComments<A> {
         ensures { map allow_of result.now ≡ (watch_of self.now).found }
     {
         self.found.as_slice()
-    }
-
-    /// Whether a comment on this line names this kind. It looks at one comment after the other.
-    ///
-    /// In a file that begins with `# dotenvy_check: allow tilde`, `allows(1, Kind::Tilde)` is true.
-    pub fn allows(&self, line: u64, kind: Kind) -> bool
-        ensures { result ≡ allows line kind (watch_of self.now).found }
-    {
-        let mut rest = self.found.as_slice();
-        'comments: while let Some((first, after)) = rest.split_first() {
-            if first.line == line && has_kind(first.kinds.as_slice(), kind) {
-                return true;
-            }
-            rest = after;
-        }
-        false
     }
 }
 

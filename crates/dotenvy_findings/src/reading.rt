@@ -1,6 +1,6 @@
 //! Reads a value, and keeps what is told of it.
 
-ghost use Rattle.std.specs.Prelude.{◌≡◌, ◌++◌, [], IfOk, OnOk, encode_utf8_all, string_bytes};
+ghost use Rattle.std.specs.Prelude.{◌≡◌, IfOk, OnOk, encode_utf8_all, string_bytes};
 ghost use Rattle.dotenvy_format.specs.Characters.{begins_passing, is_quote};
 ghost use Rattle.dotenvy_findings.specs.Readings.{asked_of, begun, fault_of, has_kind, is_braced, kind_place, marks_of, name_after, name_place, reading_of, text_behind, told_character, told_kind, value_marks, with_end, with_ended, with_mark, with_name, with_step, IsSame};
 

@@ -1,6 +1,6 @@
 //! A text on one line.
 
-ghost use Rattle.std.specs.Prelude.{◌≡◌, ◌++◌, ◌||◌, ◌&&◌, ◌≤◌, chars, encode_utf8_all, IfOk, OnOk, string_bytes};
+ghost use Rattle.std.specs.Prelude.{◌≡◌, ◌++◌, ◌||◌, chars, encode_utf8_all, IfOk, OnOk, string_bytes};
 ghost use Rattle.std.specs.Char.Escape.{escape_default};
 ghost use Rattle.dotenvy_reports.specs.OneLine.{breaks_line, on_one_line, shown_character};
 

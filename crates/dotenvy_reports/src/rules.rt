@@ -1,6 +1,5 @@
 //! The rules of SARIF: one for each kind of findings.
 
-ghost use Rattle.std.specs.Prelude.{◌≡◌, ◌++◌, OnOk};
 ghost use Rattle.std.specs.List.{flat_map};
 ghost use Rattle.dotenvy_reports.specs.Sarif.{kind_rule, rule, rules, text_object};
 ghost use Rattle.dotenvy_reports.specs.inside.Writing.{Adds};
