@@ -796,11 +796,11 @@ def kinds_of_comment(line):
 
 
 def alone_line(number, piece):
-    """A physical line by itself, without its line feed, as a logical line. A comment at its end is part of its text."""
+    """A physical line by itself, without its line feed and the comment at its end, as a logical line."""
     if piece.lstrip(SPACE).startswith("#"):
         return LogicalLine(number, "skipped")
-    mode, _ = walk(piece, "outside")
-    return LogicalLine(number, "open" if mode.startswith("inside") else "text", piece, mode)
+    mode, end = walk(piece, "outside")
+    return LogicalLine(number, "open" if mode.startswith("inside") else "text", piece[:end], mode)
 
 
 def read_statement(text, dialect):

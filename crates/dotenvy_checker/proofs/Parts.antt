@@ -1,19 +1,23 @@
 -- What is found in a logical line by what it is.
-use Rattle.std.proofs.Common.{◌≡◌, ℕ, true, false, List, [], ◌∷◌, Option, None, refl}
-use Rattle.std.specs.Str.{skip_leading_whitespace}
-use Rattle.dotenvy_format.specs.Characters.{begins_with, byte_len, hash}
+use Rattle.std.proofs.Common.{◌≡◌, ◌<◌, ◌+◌, ◌-◌, ℕ, true, false, List, [], ◌∷◌, ◌++◌, Option, None, refl, sym, ap, ◌∙◌}
+use Rattle.std.proofs.Common.{arith, get_or, length, length-append, lit<, subst, take}
+use Rattle.std.proofs.Math.Seq.{get_or-append_seam, take-append_seam}
+use Rattle.std.proofs.lemmas.Str.{IsCharBoundary-before_ascii, IsUtf8-take}
+use Rattle.std.specs.Str.{IsUtf8, chars, skip_leading_whitespace}
+use Rattle.dotenvy_format.specs.Characters.{begins_with, hash}
 use Rattle.std.specs.Prelude.{encode_utf8_all}
 use Rattle.dotenvy_format.specs.Entries.{Declares, Fails, LineParse}
 use Rattle.dotenvy_format.specs.Outcome.{Nothing, Pair, Fault, Says, trimmed}
 use Rattle.dotenvy_format.specs.Value.{Piece}
 use Rattle.dotenvy_format.specs.declared.walk.LineMode.TheVariants.{Outside}
-use Rattle.dotenvy_format.specs.inside.Walk.{walk}
-use Rattle.dotenvy_format.specs.LogicalLine.{Skip, HasText, StaysOpen}
+use Rattle.dotenvy_format.specs.inside.Walk.{Walk, walk}
+use Rattle.dotenvy_format.specs.LogicalLine.{Skip, HasText, StaysOpen, without_carriage_return}
+use Rattle.dotenvy_format.proofs.lines.LineTexts.{chars_popped}
 use Rattle.dotenvy_findings.specs.LineTexts.{closed_fault, open_line_fault}
 use Rattle.dotenvy_findings.specs.declared.finding.LineFault.{LineFault}
 use Rattle.dotenvy_checker.specs.declared.lines.Checker.{Checker}
 use Rattle.dotenvy_checker.specs.declared.lines.Numbered.{Numbered}
-use Rattle.dotenvy_checker.specs.Findings.{begins_at, declaration_remarks, ends_inside, fault_remarks, guessed}
+use Rattle.dotenvy_checker.specs.Findings.{begins_at, declaration_remarks, fault_remarks, guessed, walked_alone}
 use Rattle.dotenvy_checker.specs.Findings.{said_of, with_key}
 use Rattle.dotenvy_checker.specs.inside.CheckedLines.{declared_of, setting_at, ChecksPart, KeepsMore}
 use Rattle.dotenvy_checker.proofs.KeptLines.{comes_bare, keeps}
@@ -22,15 +26,23 @@ use Rattle.dotenvy_checker.proofs.KeptLines.{comes_bare, keeps}
 pub guessed_comment : (text : List ℕ) → begins_with hash (skip_leading_whitespace text) ≡ true → guessed text ≡ Skip
 guessed_comment text is = rw is refl
 
--- a text in which a quote stays open, read alone, is such a text
-pub guessed_open : (text : List ℕ) → begins_with hash (skip_leading_whitespace text) ≡ false →
-    ends_inside (walk Outside [] text) ≡ true → guessed text ≡ StaysOpen text (byte_len text)
-guessed_open text other is = rw (other, is) refl
+-- any other physical line, read alone, is what a walk makes of it
+pub guessed_walk : {walked : Walk} (text : List ℕ) → begins_with hash (skip_leading_whitespace text) ≡ false →
+    walk Outside [] text ≡ walked → guessed text ≡ walked_alone text walked
+guessed_walk text other is = rw (other, is) refl
 
--- any other text, read alone, is a text
-pub guessed_text : (text : List ℕ) → begins_with hash (skip_leading_whitespace text) ≡ false →
-    ends_inside (walk Outside [] text) ≡ false → guessed text ≡ HasText text
-guessed_text text other is = rw (other, is) refl
+-- a carriage return at the end of a text goes
+pub return_dropped : (text kept : List ℕ) → IsUtf8 text → text ≡ kept ++ 13 ∷ [] →
+    chars kept ≡ without_carriage_return (chars text)
+return_dropped text kept u e =
+    let lengths : length text ≡ length kept + 1 = ap length e ∙ length-append kept (13 ∷ []) in
+    let len : length text - 1 ≡ length kept = omega (arith, lengths) in
+    let last : get_or text (length text - 1) 0 ≡ 13 = rw (len, e) (get_or-append_seam kept 13 [] 0) in
+    let front : kept ≡ take (length text - 1) text = rw (len, e) (sym (take-append_seam kept (13 ∷ []))) in
+    let cut = IsCharBoundary-before_ascii text (length text - 1) (omega (arith, lengths)) (rw last (lit< tt)) in
+    chars_popped text text kept (length text) true refl refl refl (rw last refl)
+    (e ∙ ap (λ first. first ++ 13 ∷ []) front) (λ some ascii. front)
+    (subst IsUtf8 (sym front) (IsUtf8-take text (length text - 1) u cut))
 
 -- the fault of a text in which a quote stays open is what is found in it
 pub open_part : {A : Type 0} (line : Numbered) (last index : ℕ) (text said : List ℕ) (fault : LineFault)

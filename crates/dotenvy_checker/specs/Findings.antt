@@ -217,16 +217,17 @@ logical_text Broken = []
 abbrev pub next_number : ℕ → ℕ
 next_number number = min (number + 1) (2 ^ 64 - 1)
 
--- a quote stays open at the end of a walk
-abbrev pub ends_inside : Walk → Bool
-ends_inside (going mode) = is_inside mode
-ends_inside (ended kept) = false
+-- what a walk makes of a text: a text up to its comment, or a text in which a quote stays open
+abbrev pub walked_alone : List ℕ → Walk → Logical
+walked_alone text (going mode) =
+    if is_inside mode then StaysOpen text (byte_len text) else HasText text
+walked_alone text (ended kept) = HasText kept
 
--- a physical line, read alone: a comment, a text, or a text in which a quote stays open
+-- a physical line, read alone: a comment, or what a walk makes of it
 abbrev pub guessed : List ℕ → Logical
 guessed text =
     if begins_with hash (skip_leading_whitespace text) then Skip else
-    if ends_inside (walk Outside [] text) then StaysOpen text (byte_len text) else HasText text
+    walked_alone text (walk Outside [] text)
 
 -- a physical line is passed by: it stands before this number, or a guess left a quote open, and it
 -- begins no declaration

@@ -7,10 +7,10 @@ ghost use Rattle.dotenvy_format.specs.declared.walk.LineMode.TheVariants.{Outsid
 ghost use Rattle.dotenvy_format.specs.Entries.{LineParse};
 ghost use Rattle.dotenvy_format.specs.LogicalLine.{HasText};
 ghost use Rattle.dotenvy_format.specs.Outcome.{trimmed};
-ghost use Rattle.dotenvy_format.specs.inside.Walk.{walk};
+ghost use Rattle.dotenvy_format.specs.inside.Walk.{kept_before};
 ghost use Rattle.dotenvy_findings.specs.Readings.{marks_of};
 ghost use Rattle.dotenvy_lines.specs.declared.lines.Stage.TheVariants.{Open, Failed};
-ghost use Rattle.dotenvy_checker.specs.Findings.{begins_at, cut, declaration_remarks, ends_inside, fault_remarks, found, guessed, is_passed, leaves_open, logical_text, open_behind, said_of, told_remark, with_key};
+ghost use Rattle.dotenvy_checker.specs.Findings.{begins_at, cut, declaration_remarks, fault_remarks, found, guessed, is_passed, leaves_open, logical_text, open_behind, said_of, told_remark, with_key};
 ghost use Rattle.dotenvy_checker.specs.inside.CheckedLines.{declared_of, failed_as, left_len, logical_of, pieces, setting_at, ChecksGuess, ChecksGuesses, ChecksOutcome, ChecksPart, ChecksRead, ChecksUpTo, ChecksWhole, GuessIs, IsNew, KeepsMore, WhereFew};
 
 use crate::declared::{Declared, KnownNames};
@@ -153,26 +153,35 @@ fn split_line(text: &str) -> (&str, Option<&str>)
     }
 }
 
-// Whether a quote stays open at the end of a physical line that is read alone.
-fn stays_open(text: &str) -> bool
-    ensures { result ≡ ends_inside (walk Outside [] (chars text.now)) }
+// The text before the character that ends a line, as far as it is kept.
+fn kept_before(text: &str, end: char) -> &str
+    ensures { chars result.now ≡ kept_before end (chars text.now) }
 {
-    match walk_text(text, LineMode::Outside) {
-        Walked::Going(mode) => is_inside(mode),
-        Walked::EndedAt(_, _) => false,
+    if end != '\n' {
+        return text;
+    }
+    match text.strip_suffix('\r') {
+        Some(kept) => kept,
+        None => text,
     }
 }
 
-// A physical line, read alone: a text, or a text in which a quote stays open; a comment is none.
+// A physical line, read alone: a text up to its comment, or a text in which a quote stays open; a comment is none.
 fn guess_of(text: &str) -> Option<Part<'_>>
     ensures { GuessIs (guessed (chars text.now)) result }
 {
     if text.trim_start().starts_with('#') {
-        None
-    } else if stays_open(text) {
-        Some(Part::Open(text))
-    } else {
-        Some(Part::Text(text))
+        return None;
+    }
+    match walk_text(text, LineMode::Outside) {
+        Walked::Going(mode) => {
+            if is_inside(mode) {
+                Some(Part::Open(text))
+            } else {
+                Some(Part::Text(text))
+            }
+        }
+        Walked::EndedAt(at, end) => Some(Part::Text(kept_before(&text[..at], end))),
     }
 }
 
