@@ -1,5 +1,5 @@
 //! Loads and iterators of files, by their path or by a name that is searched for.
-ghost use Rattle.std.specs.Prelude.{◌≡◌, IfErr, IfOk, None, codes};
+ghost use Rattle.std.specs.Prelude.{◌≡◌, IfErr, IfOk, codes};
 ghost use Rattle.std.specs.Path.{path_bytes, path_buf_bytes};
 ghost use Rattle.dotenvy_base.specs.Errors.{IsFileFault};
 ghost use Rattle.dotenvy_base.specs.Find.{IsPathOf};

@@ -1,5 +1,5 @@
 //! A file found in the current directory or above it, opened.
-ghost use Rattle.std.specs.Prelude.{◌≡◌, Err, IfErr, IfOk, IsOk, None, OnOk};
+ghost use Rattle.std.specs.Prelude.{◌≡◌, Err, IfErr, IfOk, IsOk, OnOk};
 ghost use Rattle.std.specs.Fs.{file_type, IsFile};
 ghost use Rattle.std.specs.Path.{path_bytes, path_buf_bytes};
 ghost use Rattle.dotenvy_base.specs.Errors.{IsFileFault, or_memory};

@@ -1,11 +1,9 @@
 //! Environments: the names of a process with their values, kept apart from the process itself.
 
-ghost use Rattle.std.specs.BTreeMap.{get, insert_entry};
-ghost use Rattle.std.specs.String.{string_cmp};
-ghost use Rattle.std.specs.Prelude.{◌≡◌, not, is_some, unwrap_or, None, Ok, IsTrue, filter, true, false, option_copied, string_bytes, IfOk, OnOk, OnErr, IfErr, IfSome, MatchResult, ◌==◌};
+ghost use Rattle.std.specs.BTreeMap.{get};
+ghost use Rattle.std.specs.Prelude.{◌≡◌, None, Ok, IsTrue, filter, true, false, option_copied, string_bytes, IfOk, OnOk, OnErr, IfErr, IfSome, MatchResult, ◌==◌};
 ghost use Rattle.std.specs.FinMap as fin;
 ghost use Rattle.std.specs.Iterator.{YieldsFirstBy, item_count};
-ghost use Rattle.std.specs.Str.{chars};
 ghost use Rattle.dotenvy_base.specs.Environment.{name_ok, value_ok, pair_ok, text_entries, IsEnvironment, AreTexts};
 ghost use Rattle.dotenvy_base.specs.Errors.{IsMemory, IsNulOf};
 

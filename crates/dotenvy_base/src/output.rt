@@ -1,6 +1,5 @@
 //! Writes all bytes of a text to a sink, in as many writes as it takes.
 
-ghost use Rattle.std.specs.Prelude.{◌≡◌};
 ghost use Rattle.dotenvy_base.specs.Output.{Sends};
 
 use crate::errors::{Error, Result};

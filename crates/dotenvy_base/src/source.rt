@@ -3,7 +3,7 @@
 ghost use Rattle.std.specs.Prelude.{◌≡◌, ◌≤◌, ℕ, List, [], Option, None, Some, IfOk, length};
 ghost use Rattle.std.specs.declared.io.ErrorKind.{ErrorKind};
 ghost use Rattle.std.specs.Io.KnownBytes.{ReadConsumes};
-ghost use Rattle.dotenvy_base.specs.Calls.{Call, TellsCall, call_of};
+ghost use Rattle.dotenvy_base.specs.Calls.{TellsCall, call_of};
 ghost use Rattle.dotenvy_base.specs.Source.{SinkTold, Told, ReadsAhead, WriteAppends, fault_after, nothing_told, plain_inner, plain_fault, told_through};
 
 use std::io;

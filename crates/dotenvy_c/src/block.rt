@@ -3,7 +3,7 @@
 ghost use Rattle.std.specs.Prelude.{◌≡◌, ◌++◌, IfOk, OnOk, IfErr};
 ghost use Rattle.dotenvy.specs.Environment.{text_entries};
 ghost use Rattle.dotenvy.specs.Errors.{IsMemory};
-ghost use Rattle.dotenvy_c.specs.Block.{FitsBlock, block_names, block_of, block_pairs, entry_pairs};
+ghost use Rattle.dotenvy_c.specs.Block.{FitsBlock, block_names, block_of, entry_pairs};
 
 use dotenvy::{Environment, Result};
 use memchr::memchr;

@@ -1,6 +1,6 @@
 //! The calls that need no memory.
 
-ghost use Rattle.std.specs.Prelude.{◌≡◌, ◌+◌, ◌*◌, ◌↔◌, IsTrue};
+ghost use Rattle.std.specs.Prelude.{◌≡◌, ◌↔◌, IsTrue};
 ghost use Rattle.std.specs.Str.{chars, is_utf8};
 ghost use Rattle.dotenvy.specs.Keys.{is_key};
 

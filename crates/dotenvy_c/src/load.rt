@@ -2,9 +2,7 @@
 
 ghost use Rattle.std.specs.Prelude.{◌≡◌, ◌+◌, ◌⊎◌, IfOk, IfErr, true, false};
 ghost use Rattle.dotenvy.specs.Errors.{IsMemory};
-ghost use Rattle.dotenvy.specs.Iter.{IsOpen};
-ghost use Rattle.dotenvy.specs.LoadsRest.{ChangesKeys, LoadsRest};
-ghost use Rattle.dotenvy_c.specs.Options.{are_among, rule_asked};
+ghost use Rattle.dotenvy_c.specs.Options.{are_among};
 ghost use Rattle.dotenvy_c.specs.Load.{AnswersLoad, IsLoaded, refusal};
 
 use crate::block::{block_of, environment_of};

@@ -1,6 +1,6 @@
 //! What the program does once it has its words, over any reader, writer and runtime.
 
-ghost use Rattle.std.specs.Prelude.{◌≡◌, ◌≢◌, ◌⊎◌, [], Err, IfErr, IsErrAnd, Ok, false, true};
+ghost use Rattle.std.specs.Prelude.{◌≡◌, ◌≢◌, ◌⊎◌, [], Err, IfErr, IsErrAnd, Ok};
 ghost use Rattle.dotenvy.specs.Input.{ReadsBetween};
 ghost use Rattle.dotenvy.specs.Iter.{fresh};
 ghost use Rattle.dotenvy.specs.Listed.{Lists};

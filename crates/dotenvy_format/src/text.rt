@@ -2,10 +2,9 @@
 
 ghost use Rattle.std.specs.Prelude.{◌≡◌, ◌==◌, ◌++◌, [], not, length, unwrap_or, MatchOption};
 ghost use Rattle.std.specs.Str.{chars, IsUtf8};
-ghost use Rattle.dotenvy_format.specs.Characters.{continues_key, is_space_or_tab, is_empty_or_comment};
+ghost use Rattle.dotenvy_format.specs.Characters.{continues_key, is_empty_or_comment};
 ghost use Rattle.std.specs.List.{prefix_len, position_from};
 ghost use Rattle.dotenvy_format.specs.inside.Slices.{BeginsWith, IsSpan, has_character, is_of_kind, in_run};
-ghost use Rattle.dotenvy_format.specs.Value.{is_plain_outside};
 
 use crate::classes::{allows_underscore, continues_key, is_blank, is_name_character};
 use crate::dialect::Dialect;

@@ -1,12 +1,11 @@
 //! Reads what is assigned, piece by piece (docs/GRAMMAR.md, from "Values" to "Substitution").
 
-ghost use Rattle.std.specs.Prelude.{◌≡◌, ◌<◌, ◌==◌, ◌&&◌, not, [], IsTrue};
-ghost use Rattle.std.specs.List.{prefix_len};
+ghost use Rattle.std.specs.Prelude.{◌≡◌, ◌<◌, ◌==◌, [], IsTrue};
 ghost use Rattle.std.specs.Str.{chars};
 ghost use Rattle.dotenvy_format.specs.inside.ReadValue.{base, escaping, in_single, naming, in_tail};
-ghost use Rattle.dotenvy_format.specs.Characters.{backslash, left_brace, begins_with, is_name_character, begins_passing};
+ghost use Rattle.dotenvy_format.specs.Characters.{begins_passing};
 ghost use Rattle.dotenvy_format.specs.Value.{is_left_by_name, is_plain};
-ghost use Rattle.dotenvy_format.specs.inside.NextPiece.{other_quoting, is_empty, kind_of, Escapes, NextPieceIs, IsShorter};
+ghost use Rattle.dotenvy_format.specs.inside.NextPiece.{other_quoting, kind_of, Escapes, NextPieceIs, IsShorter};
 
 use crate::dialect::Dialect;
 use crate::text::{Class, Quoting, is_empty_or_comment, row_len, split_first, split_while};

@@ -2,7 +2,6 @@
 
 ghost use Rattle.std.specs.Prelude.{◌≡◌, None};
 ghost use Rattle.dotenvy_format.specs.Tokens.{stands_for_itself};
-ghost use Rattle.dotenvy_format.specs.Characters.{begins_passing};
 ghost use Rattle.dotenvy_format.specs.inside.Walk.{leads_outside, leads, WalksTo, WalksText};
 
 use crate::text::{Class, split_first, split_while};

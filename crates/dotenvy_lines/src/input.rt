@@ -1,12 +1,10 @@
 //! The bytes of a source, one physical line at a time.
 
-ghost use Rattle.std.specs.Prelude.{[], ◌≡◌, ◌≤◌, ◌<◌, ◌+◌, ◌==◌, true, false, Some, None, IfOk, IsOk, IsTrue, ◌↔◌, OnOk, length, take, drop};
-ghost use Rattle.std.specs.IoError.{error_kind};
+ghost use Rattle.std.specs.Prelude.{[], ◌≡◌, ◌≤◌, ◌<◌, ◌+◌, ◌==◌, true, false, Some, None, IfOk, IsOk, IsTrue, ◌↔◌, OnOk, length, take};
 ghost use Rattle.dotenvy_base.specs.Source.{Ahead};
 ghost use Rattle.dotenvy_lines.specs.Input.{most_bytes, input_measure, DropsMark, AsksReads};
 ghost use Rattle.dotenvy_lines.specs.Lines.{fresh_lines};
 ghost use Rattle.dotenvy_lines.specs.inside.InputSteps.{WhereTold, ReadsOnce, IsAllRead, used_up, IsLinePiece, ReadsMore, FindsMore, SkipsLine, AsksOnce};
-ghost use Rattle.dotenvy_base.specs.Errors.{IsIoOf};
 
 use crate::buffer::Buffer;
 use dotenvy_base::errors::{Error, Result};

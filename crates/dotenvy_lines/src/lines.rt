@@ -1,9 +1,7 @@
 //! The logical lines of a source: physical lines, joined where a quote stays open.
 
-ghost use Rattle.std.specs.Prelude.{◌≡◌, ◌≢◌, ◌≤◌, ◌<◌, ◌⊎◌, None, Ok, IfOk, IfErr, IsOk, OnOk, OnErr, IfSome, IsSome, IsTrue, ◌↔◌, length, string_bytes};
-ghost use Rattle.std.specs.Str.{chars};
-ghost use Rattle.std.specs.IoError.{error_kind};
-ghost use Rattle.dotenvy_base.specs.Errors.{IsIoOf, IsLineParseOf, IsMemory, IsMemoryErr};
+ghost use Rattle.std.specs.Prelude.{◌≡◌, ◌≢◌, ◌≤◌, ◌<◌, None, Ok, IfOk, IfErr, IsOk, OnOk, OnErr, IfSome, IsSome, IsTrue, ◌↔◌, string_bytes};
+ghost use Rattle.dotenvy_base.specs.Errors.{IsMemory, IsMemoryErr};
 ghost use Rattle.dotenvy_lines.specs.Input.{most_reads, AsksReads, DropsMark};
 ghost use Rattle.dotenvy_lines.specs.inside.InputSteps.{WhereTold};
 ghost use Rattle.dotenvy_lines.specs.Lines.{lines_measure, WhereOpen, fresh_lines};

@@ -1,9 +1,8 @@
 //! One physical line, in the pieces in which it is read, as a part of a logical line.
 
-ghost use Rattle.std.specs.Prelude.{◌≡◌, ◌≤◌, ◌<◌, ◌++◌, IfOk, IfErr, IsOk, OnOk, string_bytes};
+ghost use Rattle.std.specs.Prelude.{◌≡◌, ◌≤◌, ◌<◌, IfOk, IfErr, IsOk, OnOk, string_bytes};
 ghost use Rattle.std.specs.Str.{chars};
 ghost use Rattle.dotenvy_format.specs.LogicalLine.{without_carriage_return};
-ghost use Rattle.dotenvy_format.specs.inside.Walk.{kept_before};
 ghost use Rattle.dotenvy_base.specs.Errors.{IsMemory};
 ghost use Rattle.dotenvy_lines.specs.Input.{AsksReads, input_measure};
 ghost use Rattle.dotenvy_lines.specs.inside.InputSteps.{WhereTold};

@@ -1,6 +1,6 @@
 //! A program, from the words of the process to the status that it ends with.
 
-ghost use Rattle.std.specs.Prelude.{◌≡◌, ◌⊎◌, Result, ℕ};
+ghost use Rattle.std.specs.Prelude.{Result};
 ghost use Rattle.std.specs.Process.{exit_status};
 ghost use Rattle.dotenvy_program.specs.Status.{EndsAs};
 

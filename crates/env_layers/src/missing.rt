@@ -1,7 +1,7 @@
 //! What a requirement finds wanting.
 ghost use Rattle.std.specs.Prelude.{◌++◌, codes, string_bytes};
 ghost use Rattle.std.specs.Fmt.{WritesOnOk};
-ghost use Rattle.std.specs.List.{flat_map, join_by};
+ghost use Rattle.std.specs.List.{flat_map};
 
 use std::alloc::{AllocError, Allocator, Global};
 use std::{error, fmt};

@@ -2,7 +2,7 @@
 
 ghost use Rattle.std.specs.Prelude.{◌≡◌, ◌++◌, Some, None, [], IfOk, OnOk, Option};
 ghost use Rattle.std.specs.declared.io.ErrorKind.{ErrorKind as Kind};
-ghost use Rattle.test_witnesses.specs.Pieces.{AddsBytes, GiveBytes, ahead_of};
+ghost use Rattle.test_witnesses.specs.Pieces.{AddsBytes, ahead_of};
 
 use dotenvy::Source;
 use std::alloc::{AllocError, Global};
