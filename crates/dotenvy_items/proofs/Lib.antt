@@ -13,3 +13,4 @@ pub mod LineLoads
 pub mod LoadSteps
 pub mod StoppedLoads
 pub mod Nuls
+pub mod RememberedNames

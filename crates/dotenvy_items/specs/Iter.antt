@@ -9,7 +9,8 @@ use Rattle.dotenvy_base.specs.declared.errors.Error.{Error}
 use Rattle.dotenvy_lines.specs.declared.lines.Stage.TheVariants.{Open, Failed}
 use Rattle.dotenvy_lines.specs.Input.{most_reads, AsksReads, DropsMark, IsTold}
 use Rattle.dotenvy_lines.specs.Lines.{LinesState, lines_code, lines_measure, WhereOpen, fresh_lines, no_line}
-use Rattle.dotenvy_items.specs.Remembered.{Remembered}
+use Rattle.dotenvy_items.specs.Remembered.{Remembered, with_values}
+use Rattle.dotenvy_base.specs.Environment.{Texts}
 
 -- its logical lines, the values that it remembers, the dialect that it reads, and the first and the
 -- last physical line of the last item, counted from 1
@@ -82,3 +83,7 @@ KeepsRemembered s t = t ≡ record s { lines = t.lines; item_lines = t.item_line
 abbrev pub KeepsItems : IterState → IterState → Type 0
 KeepsItems s t =
     (t ≡ record s { lines = t.lines }) × (t.lines.lines_taken ≡ s.lines.lines_taken)
+
+-- these values are remembered, each in the place of an earlier one
+abbrev pub remembering : Texts → IterState → IterState
+remembering names s = record s { remembered = with_values (fin.entries names) s.remembered }

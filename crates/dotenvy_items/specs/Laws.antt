@@ -8,7 +8,7 @@ use Rattle.dotenvy_base.specs.declared.errors.Error.{Error}
 use Rattle.dotenvy_format.specs.PhysicalLines.{physical_lines}
 use Rattle.dotenvy_base.specs.Errors.{IsMemoryErr}
 use Rattle.dotenvy_format.specs.Entries.{Entry, Failure}
-use Rattle.dotenvy_format.specs.Items.{LookUp, items_from, items, no_values}
+use Rattle.dotenvy_format.specs.Items.{LookUp, items_from, items, no_values, or_else}
 use Rattle.dotenvy_format.specs.Run.{Loaded}
 use Rattle.dotenvy_format.specs.Written.{written_bytes}
 use Rattle.dotenvy_base.specs.Output.{Writes}
@@ -18,7 +18,7 @@ use Rattle.dotenvy_items.specs.Meaning.{values_of, recalled_of}
 use Rattle.dotenvy_format.specs.Marks.{without_mark}
 use Rattle.dotenvy_base.specs.Source.{Ahead, SinkTold, Told}
 use Rattle.dotenvy_lines.specs.Reading.{HasEntriesLeft, told_fault}
-use Rattle.dotenvy_items.specs.Iter.{IterState, IsOpen, TellsLeft, fresh}
+use Rattle.dotenvy_items.specs.Iter.{IterState, IsOpen, TellsLeft, fresh, remembering}
 use Rattle.dotenvy_items.specs.Listed.{Lists, pairs_of}
 use Rattle.dotenvy_items.specs.LoadsRest.{IsAnswer, Rule, Leaves, LoadsRest}
 use Rattle.dotenvy_items.specs.Iteration.{GivesItems, NoneRefused, IsReadable, CanRead, SayItems}
@@ -152,3 +152,10 @@ OneEntryALine =
     HasEntriesLeft dialect fault bytes entries → length entries ≤ length (physical_lines bytes))
     × ((env remembered : LookUp) (entries : List Entry) →
     length (items_from env remembered entries) ≡ length entries)
+
+-- with these names remembered, a name recalls its value among them, or else what it did
+abbrev pub RecallsNames : Type 0
+RecallsNames =
+    (names : Texts) (s : IterState) (name : List ℕ) →
+    recalled_of ((remembering names s).remembered) name
+    ≡ or_else (values_of names) (recalled_of s.remembered) name

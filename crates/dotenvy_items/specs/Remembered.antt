@@ -1,5 +1,5 @@
 -- What was remembered: the last value of each name, and `None` where a name was declared with nothing.
-use Rattle.std.specs.Prelude.{ℕ, List, map, Option, option_map, string_bytes}
+use Rattle.std.specs.Prelude.{ℕ, List, [], ◌∷◌, map, Option, Some, option_map, string_bytes}
 use Rattle.std.specs.Option.{option_flatten}
 use Rattle.std.specs.Ordering.{nat_cmp}
 use Rattle.std.specs.Cmp.Lexicographic.{slice_cmp}
@@ -18,3 +18,9 @@ remembered_of entries =
 -- the remembered text of a name
 abbrev pub recalled : Remembered → List ℕ → Option (List ℕ)
 recalled remembered name = option_flatten (fin.get remembered name)
+
+-- what is remembered with these values, each in the place of an earlier one
+abbrev pub with_values : List (List ℕ × List ℕ) → Remembered → Remembered
+with_values [] remembered = remembered
+with_values ((name, value) ∷ values) remembered =
+    with_values values (fin.insert remembered name (Some value))

@@ -1,12 +1,12 @@
 //! The pairs of an environment file, one at a time, and the two loads.
 
-ghost use Rattle.std.specs.Prelude.{◌≡◌, ◌≢◌, ◌<◌, ◌≤◌, ◌↔◌, Err, IfErr, IfOk, IfSome, IsSome, IsTrue, None, Ok, OnOk, OnErr, chars};
+ghost use Rattle.std.specs.Prelude.{◌≡◌, ◌≢◌, ◌<◌, ◌≤◌, Err, IfErr, IfOk, IfSome, IsSome, None, Ok, OnOk, OnErr};
 ghost use Rattle.std.specs.FinMap as fin;
 ghost use Rattle.std.specs.Iterator.{at_most};
 ghost use Rattle.dotenvy_lines.specs.declared.lines.Stage.TheVariants.{Failed, Open};
 ghost use Rattle.dotenvy_base.specs.Errors.{IsMemory, IsMemoryErr};
 ghost use Rattle.dotenvy_lines.specs.Input.{AsksReads};
-ghost use Rattle.dotenvy_items.specs.Iter.{fresh, items_measure, AsksBetween, DropsNextMark, HasFailed, IsOpen, KeepsItems, KeepsRemembered};
+ghost use Rattle.dotenvy_items.specs.Iter.{fresh, items_measure, AsksBetween, DropsNextMark, HasFailed, IsOpen, KeepsItems, KeepsRemembered, remembering};
 ghost use Rattle.dotenvy_base.specs.Environment.{KeepsNames};
 ghost use Rattle.dotenvy_format.specs.Run.{Keep, Replace, run};
 ghost use Rattle.dotenvy_format.specs.Loads.{load_result, override_result};
@@ -20,7 +20,7 @@ ghost use Rattle.dotenvy_items.specs.inside.LoadStep.{mode_of, LoadIs};
 
 use crate::loads::{Mode, load_line};
 use crate::parse::{Line, Pair, parse_line};
-use crate::remembered::Remembered;
+use crate::remembered::{Remembered, remember_all};
 use dotenvy_base::environment::Environment;
 use dotenvy_base::errors::{Error, Result};
 use dotenvy_base::source::Source;
@@ -141,6 +141,25 @@ impl<R: Source, A: Allocator + Clone> Iter<R, A> {
     {
         let lines = Splitter::new(alloc.clone()?, reader)?;
         Ok(over_lines(lines, alloc, dialect))
+    }
+
+    /// Remembers the values of an environment: a name that neither an item nor the environment of a call gives means its
+    /// value here (docs/GRAMMAR.md, "What a name means").
+    ///
+    /// The error is `Memory`. Some of the values may be remembered then.
+    ///
+    /// ```text
+    /// let mut file = Iter::new(alloc, Bytes::new(b"URL=http://$HOST\n"))?;
+    /// file.remember(&process)?;
+    /// file.load(&mut declared)?;    // of the names of the process it has none but URL
+    /// ```
+    pub fn remember(&mut self, env: &Environment<A>) -> Result<(), A>
+        ensures ok { OnOk result (self.new ≡ remembering env.now.names self.old) }
+        ensures memory { IfErr result IsMemory }
+    {
+        let reading = &mut self.reading;
+        remember_all(reading.lines.allocator(), &mut reading.remembered, env)?;
+        Ok(())
     }
 
     /// The next pair or fault. A name that a value mentions means its value in `env`, else the last one remembered,

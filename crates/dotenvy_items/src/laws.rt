@@ -2,7 +2,7 @@
 //!
 //! A law is the contract of a function that does nothing; to call one has no effect.
 
-ghost use Rattle.dotenvy_items.specs.Laws.{CutsDoNotMatter, ItemsAsRead, ItemsGoOn, ItemsInOrder, ListsByRule, LoadsAgain, LoadsTakeAll, OneEntryALine};
+ghost use Rattle.dotenvy_items.specs.Laws.{CutsDoNotMatter, ItemsAsRead, ItemsGoOn, ItemsInOrder, ListsByRule, LoadsAgain, LoadsTakeAll, OneEntryALine, RecallsNames};
 
 use dotenvy_base::source::Sink;
 use std::alloc::Allocator;
@@ -71,4 +71,9 @@ pub fn loads_again<A: Allocator>()
 /// This holds of fewer than 2^32 bytes, where memory isn't refused and no read is interrupted.
 pub fn lists_by_rule<A: Allocator, W: Sink>()
     ensures { ListsByRule A W }
+{}
+
+/// What an iterator remembers of an environment is the value of each of its names, in the place of an earlier one.
+pub fn recalls_names()
+    ensures { RecallsNames }
 {}

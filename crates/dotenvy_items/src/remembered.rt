@@ -1,8 +1,9 @@
 //! The values that an iterator remembers.
 ghost use Rattle.std.specs.Prelude.{◌≡◌, OnOk, OnErr, option_copied, option_map, string_bytes};
 ghost use Rattle.std.specs.FinMap as fin;
-ghost use Rattle.dotenvy_items.specs.Remembered.{remembered_of, recalled};
+ghost use Rattle.dotenvy_items.specs.Remembered.{remembered_of, recalled, with_values};
 
+use dotenvy_base::environment::Environment;
 use std::alloc::{AllocError, Allocator};
 use std::collections::HashMap;
 use std::hash::{BuildHasherDefault, FoldHasher};
@@ -35,5 +36,22 @@ pub(crate) fn remember<A: Allocator + Clone>(
     ensures same { OnErr result (remembered.new.entries ≡ remembered.old.entries) }
 {
     remembered.insert(key, value)?;
+    Ok(())
+}
+
+/// Remembers the values of an environment, each in the place of an earlier one.
+pub(crate) fn remember_all<A: Allocator + Clone>(
+    alloc: &A,
+    remembered: &mut Remembered<A>,
+    env: &Environment<A>,
+) -> Result<(), AllocError>
+    ensures { OnOk result (remembered_of remembered.new.entries
+        ≡ with_values (fin.entries env.now.names) (remembered_of remembered.old.entries)) }
+{
+    'names: for (name, value) in env.iter() {
+        let name = String::from_str(alloc.clone()?, name.as_str())?;
+        let value = String::from_str(alloc.clone()?, value.as_str())?;
+        remember(remembered, name, Some(value))?;
+    }
     Ok(())
 }

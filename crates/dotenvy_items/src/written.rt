@@ -1,13 +1,12 @@
 //! The written form of pairs, and the listing of a file.
 
-ghost use Rattle.std.specs.Prelude.{◌≡◌, ◌≤◌, ◌+◌, ◌++◌, ◌∷◌, [], length, IfOk, IfErr, IsTrue, chars, encode_utf8_all, string_bytes, string_len};
+ghost use Rattle.std.specs.Prelude.{◌≡◌, ◌≤◌, ◌+◌, ◌++◌, ◌∷◌, [], IfOk, IsTrue, chars, string_bytes, string_len};
 ghost use Rattle.std.specs.String.{string_capacity};
 ghost use Rattle.dotenvy_format.specs.Keys.{is_key};
 ghost use Rattle.dotenvy_format.specs.Characters.{byte_len};
 ghost use Rattle.dotenvy_items.specs.inside.ValuePasses.{saturated};
-ghost use Rattle.dotenvy_base.specs.Errors.{IsIoOf};
-ghost use Rattle.dotenvy_format.specs.Written.{needs_backslash, written_character, written_text, written_bytes};
-ghost use Rattle.dotenvy_base.specs.Output.{Sends, Writes};
+ghost use Rattle.dotenvy_format.specs.Written.{needs_backslash, written_text, written_bytes};
+ghost use Rattle.dotenvy_base.specs.Output.{Writes};
 ghost use Rattle.dotenvy_base.specs.Environment.{AreTexts};
 ghost use Rattle.dotenvy_lines.specs.Input.{ReadsBetween};
 ghost use Rattle.dotenvy_items.specs.Iter.{fresh};
@@ -69,8 +68,13 @@ fn push_written<A: Allocator>(out: &mut String<A>, key: &str, text: &str)
     out.push_str("\"\n").unwrap();
 }
 
-// Each pair in its written form, in byte order of the names. Memory is asked for once.
-fn listing<A: Allocator + Clone>(
+/// Each pair of the environment in its written form, in byte order of the names (docs/GRAMMAR.md, "The written form").
+/// Memory is asked for once.
+///
+/// ```text
+/// listing(alloc, &env)?    // of A=1 and B=$2: A="1" and B="\$2", a line each
+/// ```
+pub fn listing<A: Allocator + Clone>(
     alloc: A,
     env: &Environment<A>,
 ) -> std::result::Result<String<A>, AllocError>
