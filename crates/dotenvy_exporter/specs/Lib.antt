@@ -1,0 +1,14 @@
+pub mod Declarations
+pub mod Docker
+pub mod Exec
+pub mod Held
+pub mod Json
+pub mod Kubernetes
+pub mod Laws
+pub mod Lines
+pub mod Reserved
+pub mod Shell
+pub mod Systemd
+pub mod Targets
+pub mod Texts
+pub mod Worked
