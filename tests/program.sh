@@ -1,7 +1,8 @@
 #!/bin/sh
-# Refuses each request for memory of the whole program dotenvy_run in turn, and sees what it answers: all that was asked
-# for; or status 1, the text of that refusal on standard error and nothing on standard output. It takes some two minutes,
-# and no proof. The last line is `N passed, M failed`.
+# Refuses each request for memory of the whole program dotenvy_run in turn, and then many of those of dotenvy_export, and
+# sees what they answer: all that was asked for; or status 1, the text of that refusal on standard error and nothing on
+# standard output. Where dotenvy_export can't take its words, the status is 2. It takes some three minutes, and no proof.
+# The last line is `N passed, M failed`.
 #
 # `rt try` builds the program with checks, and the build fixes the number of the request that is refused. Builds take
 # nearly all of the time. So one build serves for all requests but the first ones, and what changes are the words: with
@@ -35,15 +36,31 @@ echo "$A $B"
 END
 }
 
-# Runs the cases of this many words up to that many, each with the request of this number refused.
+# Makes a case of dotenvy_export with this many words `--next`: it writes a small file, and leaves a name out.
+make_export() {
+    cat >"$room/cases/export-$1" <<'END'
+B=2
+UID=1000
+A="${B}1"
+END
+    {
+        echo sh
+        seq "$1" | sed 's/.*/--next/'
+        echo --skip-reserved
+        echo -
+    } >"$room/cases/export-$1.args"
+}
+
+# Runs the cases of this many words up to that many, each with the request of this number refused: `refuse MAKER NUMBER
+# FEWEST MOST`.
 refuse() {
     rm -rf "$room/cases"
     mkdir "$room/cases"
-    for words in $(seq "$2" "$3"); do
-        make_cases "$words"
+    for words in $(seq "$3" "$4"); do
+        "$1" "$words"
     done
     # Its status tells nothing that the lines of the cases do not.
-    rt try --fail-alloc "$1" --cases "$room/cases" </dev/null >"$room/output" 2>"$room/errors" || :
+    rt try --fail-alloc "$2" --cases "$room/cases" </dev/null >"$room/output" 2>"$room/errors" || :
     grep -q '^cases=' "$room/errors" || cat "$room/errors"
 }
 
@@ -82,7 +99,7 @@ no_start='run=ended status=1 / fatal: out of memory'
 
 # The first requests are for the list of the words, the program's name and the first word.
 for request in 1 2 3; do
-    refuse $request 0 0
+    refuse make_cases $request 0 0
     check list-0 $request "$no_words"
     check start-0 $request "$no_words"
 done
@@ -90,7 +107,7 @@ done
 # All others. No list of words grows between 65 words and 128, so there each word is one request. The fewest words meet no
 # refusal, and the most meet it while words are read; so each request that lies between is refused in one of the cases.
 request=122 fewest=66 most=112
-refuse $request $fewest $most
+refuse make_cases $request $fewest $most
 check list-$fewest $request "$listed"
 check start-$fewest $request "$started"
 for words in $(seq $((fewest + 1)) $((most - 1))); do
@@ -99,6 +116,23 @@ for words in $(seq $((fewest + 1)) $((most - 1))); do
 done
 check list-$most $request "$no_words"
 check start-$most $request "$no_words"
+
+# Of dotenvy_export, the first request, and then one that lies behind the last of the fewest words, and among the words of
+# the most. A word takes several requests, so not every one is refused.
+cd ../dotenvy_export
+exported="run=ended status=0 export A='21' export B='2'"
+exported="$exported / dotenvy_export: warning: UID: shells keep this name, so it is left out"
+no_export_words='run=ended status=2 / dotenvy_export: error: out of memory'
+no_export='run=ended status=1 / dotenvy_export: error: out of memory'
+refuse make_export 1 0 0
+check export-0 1 "$no_export_words"
+request=200 fewest=15 most=70
+refuse make_export $request $fewest $most
+check export-$fewest $request "$exported"
+for words in $(seq $((fewest + 1)) $((most - 1))); do
+    check "export-$words" $request "$exported" "$no_export"
+done
+check export-$most $request "$no_export"
 
 echo "$passed passed, $failed failed"
 [ "$failed" -eq 0 ]

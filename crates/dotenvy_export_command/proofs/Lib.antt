@@ -1,0 +1,5 @@
+mod Endings
+mod KeptPairs
+mod MergedFiles
+mod Refusals
+mod WholeReads

@@ -1,0 +1,11 @@
+pub mod Names
+pub mod Words
+pub mod Files
+pub mod Failures
+pub mod Answers
+pub mod Help
+pub mod WorkedWords
+pub mod Laws
+pub mod Exports
+pub mod Reads
+pub mod Ends
