@@ -11,6 +11,8 @@ from grammar_rows import CODE, EXAMPLES, FILE, file_rows, in_order, listed, phra
 
 # The tables that have no examples, by their header lines.
 NO_EXAMPLES = ["| Tool | Of several files | A variable that exists |"]
+# That of other readers is compared with the page by tests/other_readers.py.
+NO_EXAMPLES += ["| Environment | Line | systemd | docker | kubectl | direnv | godotenv |"]
 
 # The bytes of a step that writes a file, which may have none.
 WRITE = {"an empty file": "", **{pattern: " " + text for pattern, text in FILE.items()}}
