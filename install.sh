@@ -1,6 +1,6 @@
 #!/usr/bin/env bash
-# Installs the programs dotenvy_run and dotenvy_check with their manual pages and completions, and the library for C. In an
-# unpacked release archive it copies what is there. In a clone of the repository it proves and builds it first.
+# Installs the programs dotenvy_run, dotenvy_check, dotenvy_export and dotenvy_exec with their manual pages and completions,
+# and the library for C. In an unpacked release archive it copies what is there. In a clone of the repository it proves and builds it first.
 # `./install.sh --help` says how to call it.
 #
 # Whatever can be found wrong at once is found before the proof, which takes minutes. The files are copied beside their
@@ -8,7 +8,7 @@
 # signal, the target is as it was.
 set -euo pipefail
 cd "$(dirname "$0")"
-names=(dotenvy_run dotenvy_check)
+names=(dotenvy_run dotenvy_check dotenvy_export dotenvy_exec)
 log=$PWD/crates/${names[0]}/out/install.log
 # What is installed, below PREFIX. The programs come last, so that none is there without its manual page.
 parts=(
@@ -41,7 +41,7 @@ usage() {
 usage: ./install.sh [PREFIX]
 
 Installs below PREFIX, an absolute path, or below /usr/local without it:
-  bin/            the programs ${names[0]} and ${names[1]}
+  bin/            the programs ${names[*]}
   share/man/man1/ their manual pages
   include/, lib/  the library for C: dotenvy.h, libdotenvy.a, libdotenvy.so.1 and dotenvy.pc
   share/          completions for bash, fish and zsh; the licence, and notices
@@ -129,8 +129,8 @@ check_sources() {
 # Proves and builds the parts, and lays them out in a folder of this run.
 build() {
     local said=$log.failed
-    echo "Proving and building ${names[0]}, ${names[1]} and the library for C: minutes for what is not proved yet, a"
-    echo "moment for what is. The prover's output is in $log"
+    echo "Proving and building the programs and the library for C: minutes for what is not proved yet, a moment for what"
+    echo "is. The prover's output is in $log"
     try mkdir -p "${log%/*}"
     temporary+=("$said")
     release/build.sh "$log" </dev/null 2>"$said" &

@@ -12,7 +12,7 @@ copy=$temporary/copy
 target=$temporary/target
 script=$copy/install.sh
 log=$copy/crates/dotenvy_run/out/install.log
-names=(dotenvy_run dotenvy_check)
+names=(dotenvy_run dotenvy_check dotenvy_export dotenvy_exec)
 passed=0
 failed=0
 
@@ -35,7 +35,7 @@ check() {
 make_copy() {
     local name
     mkdir -p "$copy/docs" "$copy/crates" "$copy/tests" "$copy/bindings/python"
-    cp -r install.sh crates.txt LICENSE release "$copy"
+    cp -r install.sh crates.txt LICENSE release bin "$copy"
     cp -r bindings/c "$copy/bindings"
     cp bindings/python/pyproject.toml "$copy/bindings/python"
     cp tests/install.sh "$copy/tests"
@@ -140,7 +140,7 @@ esac
 exec mv "$@"
 END
     stand_in fixed_last mv <<'END'
-case $* in *new*/bin/dotenvy_check)
+case $* in *new*/bin/dotenvy_exec)
     echo 'mv: cannot move the last program: Operation not permitted' >&2
     exit 1
     ;;
@@ -197,6 +197,7 @@ old_target() {
     older_target
     echo old >"$target/bin/dotenvy_check"
     echo old >"$target/share/man/man1/dotenvy_check.1"
+    echo old >"$target/bin/dotenvy_exec"
 }
 
 # What a directory holds: the mode and name of each directory and file; and of a file its number and bytes.
@@ -263,16 +264,22 @@ prints_usage() {
 installed() {
     local name
     for name in "${names[@]}"; do
-        [ "$("$1/bin/$name")" = new ] && cmp -s "$1/share/man/man1/$name.1" "$copy/docs/$name.1" || return 1
+        # The script is no crate, so the stand-in for rt doesn't make it.
+        [ "$name" = dotenvy_exec ] || [ "$("$1/bin/$name")" = new ] || return 1
+        cmp -s "$1/share/man/man1/$name.1" "$copy/docs/$name.1" || return 1
     done
+    cmp -s "$1/bin/dotenvy_exec" "$copy/bin/dotenvy_exec"
 }
 
 # Each file that is installed, and the link.
 all_files() {
-    printf '%s\n' bin/{dotenvy_check,dotenvy_run} include/dotenvy.h lib/libdotenvy.{a,so,so.1} lib/pkgconfig/dotenvy.pc \
-        share/bash-completion/completions/{dotenvy_check,dotenvy_run} share/doc/dotenvy/{BUILT,LICENSE,NOTICES} \
-        share/fish/vendor_completions.d/{dotenvy_check,dotenvy_run}.fish share/man/man1/{dotenvy_check,dotenvy_run}.1 \
-        share/zsh/site-functions/_{dotenvy_check,dotenvy_run}
+    local name
+    printf '%s\n' "${names[@]/#/bin/}" include/dotenvy.h lib/libdotenvy.{a,so,so.1} lib/pkgconfig/dotenvy.pc \
+        share/doc/dotenvy/{BUILT,LICENSE,NOTICES} "${names[@]/#/share/bash-completion/completions/}" \
+        "${names[@]/#/share/zsh/site-functions/_}"
+    for name in "${names[@]}"; do
+        printf '%s\n' "share/fish/vendor_completions.d/$name.fish" "share/man/man1/$name.1"
+    done
 }
 
 # Whether a directory holds these files and the directories of their paths, with the right modes, and nothing else.
@@ -291,7 +298,7 @@ holds_other_too() {
 
 says_where() {
     diff <(sed -n 's/^Installed //p' "$temporary/output" | sort) <(all_files | sed "s|^|$1/|" | sort) &&
-        [ "$(tail -n 1 "$temporary/output")" = "Installed $1/bin/dotenvy_check" ]
+        [ "$(tail -n 1 "$temporary/output")" = "Installed $1/bin/dotenvy_exec" ]
 }
 
 # Whether the texts of the licences are there, and what was built from what.
@@ -306,7 +313,7 @@ holds_papers() {
 
 # The crates that the programs need, and themselves: names are added until the lines of crates.txt add no more.
 needed_crates() {
-    local name found='dotenvy_run dotenvy_check dotenvy_c' before=
+    local name found='dotenvy_run dotenvy_check dotenvy_export dotenvy_c' before=
     while [ "$found" != "$before" ]; do
         before=$found
         found=$(
@@ -353,6 +360,7 @@ calls_rt_for_each() {
         s/$/ lib/
         s/^dotenvy_run lib$/dotenvy_run run -- --list/
         s|^dotenvy_check lib$|dotenvy_check run -- /dev/null|
+        s|^dotenvy_export lib$|dotenvy_export run -- docker /dev/null|
     ')
 }
 

@@ -246,15 +246,19 @@ fi
 
 # ---- completions
 
-# The words that bash completes at the end of a line, of which each is an argument here.
-completes() {
+# The words that bash completes at the end of a line of this program, of which each is an argument here.
+completes_for() {
     bash -c '
-        . "$1"
-        COMP_WORDS=(dotenvy_check "${@:3}")
+        . "$1/$2.bash"
+        COMP_WORDS=("$2" "${@:4}")
         COMP_CWORD=$((${#COMP_WORDS[@]} - 1))
-        _dotenvy_check
-        printf "%s\n" "${COMPREPLY[@]}" | LC_ALL=C sort | tr "\n" " " | grep -qxF -- "$2 "
-    ' - "$top/release/completions/dotenvy_check.bash" "$@"
+        "_$2"
+        printf "%s\n" "${COMPREPLY[@]}" | LC_ALL=C sort -u | tr "\n" " " | grep -qxF -- "$3 "
+    ' - "$top/release/completions" "$@"
+}
+
+completes() {
+    completes_for dotenvy_check "$@"
 }
 
 check 'bash completes an option' completes --together --tog
@@ -265,6 +269,18 @@ check 'bash completes a format behind an equals sign' completes 'sarif' --format
 check 'bash completes each format' completes 'github json sarif text' --format ''
 check 'bash completes a file of names' completes 'README.md' --schema READ
 check 'bash completes a file behind two dashes' completes 'README.md' -- --allow READ
+check 'bash completes a target' completes_for dotenvy_export 'kubernetes' ku
+check 'bash completes each target' completes_for dotenvy_export 'docker json kubernetes sh systemd' ''
+check 'bash completes an option behind a target' completes_for dotenvy_export '--skip-reserved' sh --sk
+check 'bash completes a file behind a target' completes_for dotenvy_export 'README.md' sh READ
+check 'bash completes an optional file' completes_for dotenvy_export 'README.md' --optional = READ
+check 'bash completes a file behind two dashes of an export' completes_for dotenvy_export 'README.md' sh -- READ
+check 'bash completes an option of dotenvy_exec' completes_for dotenvy_exec '--ignore-environment' -f a.env --ig
+check 'bash completes a file of dotenvy_exec' completes_for dotenvy_exec 'README.md' --optional READ
+check 'bash completes a file behind an equals sign' completes_for dotenvy_exec 'README.md' --file = READ
+check 'bash completes a command behind a file' completes_for dotenvy_exec 'sha256sum' --file = a.env sha256
+check 'bash completes a command behind two dashes' completes_for dotenvy_exec 'sha256sum' --strict -- sha256
+check 'bash completes no option of a command' completes_for dotenvy_exec '' -f a.env ls --ig
 
 echo "$passed passed, $failed failed"
 [ "$failed" -eq 0 ]

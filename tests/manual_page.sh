@@ -1,7 +1,7 @@
 #!/usr/bin/env bash
-# Sees that the manual pages docs/dotenvy_run.1 and docs/dotenvy_check.1 have what docs/COMMAND.md and docs/CHECK.md promise:
-# each option, status and text of their tables, and no others. Where groff is installed, it also sees that groff finds
-# nothing wrong with them.
+# Sees that the manual pages of docs/ have what docs/COMMAND.md, docs/CHECK.md and docs/EXPORT.md promise: each option,
+# status and text of their tables, and no others. Where groff is installed, it also sees that groff finds nothing wrong with
+# them.
 # It takes less than a second, and no proof. The last line is `N passed, M failed`.
 set -euo pipefail
 cd "$(dirname "$0")/.."
@@ -89,6 +89,19 @@ compare "What is printed" "OUTPUT"
 compare "Faults" "FAULTS"
 compare "Statuses" "EXIT STATUS"
 compare "Texts on standard error" "DIAGNOSTICS"
+check_macros
+
+page=docs/EXPORT.md
+manual=docs/dotenvy_export.1
+compare "Options and files" "OPTIONS"
+compare "Statuses" "EXIT STATUS"
+compare "Texts on standard error" "DIAGNOSTICS"
+check_macros
+
+manual=docs/dotenvy_exec.1
+compare "Options of dotenvy_exec" "OPTIONS"
+compare "Statuses of dotenvy_exec" "EXIT STATUS"
+compare "Texts of dotenvy_exec" "DIAGNOSTICS"
 check_macros
 
 echo "$passed passed, $failed failed"

@@ -55,6 +55,8 @@ check_programs() {
     check "$1/dotenvy_run lists" prints $'A="1"\nB="2"' 0 sh -c "printf 'B=2\nA=1\nA=3\n' | '$1/dotenvy_run' --list"
     check "$1/dotenvy_check finds a fault" prints "$said" 1 "$1/dotenvy_check" bad.env
     check "$1/dotenvy_check finds none" prints '' 0 "$1/dotenvy_check" good.env
+    check "$1/dotenvy_export writes" prints $'A=1\nB=x 1' 0 "$1/dotenvy_export" docker good.env
+    check "$1/dotenvy_exec becomes a command" prints 'x 1' 0 "$1/dotenvy_exec" -f good.env printenv B
 }
 
 # The manual page of a program, as man shows it.
@@ -91,9 +93,13 @@ check_archive() {
     check_programs "$HOME/.local/bin"
     check "man shows the page of dotenvy_run" shows_page dotenvy_run
     check "man shows the page of dotenvy_check" shows_page dotenvy_check
+    check "man shows the page of dotenvy_export" shows_page dotenvy_export
+    check "man shows the page of dotenvy_exec" shows_page dotenvy_exec
     check "bash completes an option" completes dotenvy_run 'dotenvy_run --li' --list
     check "bash completes a file" completes dotenvy_run 'dotenvy_run -f goo' good.env
     check "bash completes an option of the checker" completes dotenvy_check 'dotenvy_check --st' --strict
+    check "bash completes a target" completes dotenvy_export 'dotenvy_export ku' kubernetes
+    check "bash completes an option of dotenvy_exec" completes dotenvy_exec 'dotenvy_exec --st' --strict
     check "the archive has the licence of the original" \
         grep -qxF 'Copyright (c) 2014 Santiago Lapresta and contributors' "$unpacked/share/doc/dotenvy/LICENSE"
     check "and the notices" grep -q 'Andrew Gallant' "$unpacked/share/doc/dotenvy/NOTICES"

@@ -1,0 +1,10 @@
+# Completion of dotenvy_exec for fish: its options, then the command and whatever that one completes.
+complete -c dotenvy_exec -n '__fish_is_first_token' -s f -l file -r -F -d 'Take this file'
+complete -c dotenvy_exec -n '__fish_is_first_token' -l optional -r -F -d 'Take this file, if it is there'
+complete -c dotenvy_exec -n '__fish_is_first_token' -l override -d 'Let the files win over variables that exist'
+complete -c dotenvy_exec -n '__fish_is_first_token' -l ignore-environment -d 'Give the command the variables of the files alone'
+complete -c dotenvy_exec -n '__fish_is_first_token' -l next -d 'Read the files in the second dialect'
+complete -c dotenvy_exec -n '__fish_is_first_token' -l strict -d 'Refuse names that no shell can set'
+complete -c dotenvy_exec -n '__fish_is_first_token' -s h -l help -d 'Print how the script is called'
+complete -c dotenvy_exec -n '__fish_is_first_token' -s V -l version -d 'Print the version'
+complete -c dotenvy_exec -x -a '(__fish_complete_subcommand --fcs-skip=1)'
