@@ -9,6 +9,7 @@
 # - docs/CONTRACTS.md has a contract of the code;
 # - docs/DEFINITIONS.md has the definitions on which the headline rests, and this is seen of each of its contracts;
 # - docs/CONTRACTS.md names rows and tests that exist where something is only tested;
+# - docs/EXPORT.md and its manual page have the names that shells keep, as the code has them;
 # - docs/speed.svg is the chart of the figures in bench/speed.tsv;
 # - each link of the pages leads to a file and a heading, and each page that is named is a link;
 # - each mutant changes the function that its name says.
@@ -160,6 +161,7 @@ check_contracts() {
 check "crates/test_replay/data/grammar.rows has the examples of docs/GRAMMAR.md" has_examples grammar
 check "crates/test_replay/data/check_page.rows has the examples of docs/CHECK.md" has_examples check_page
 check "crates/test_replay/data/other_libraries.rows has the examples of docs/OTHER_LIBRARIES.md" has_examples other_libraries
+check "docs/OTHER_LIBRARIES.md has what other readers make of its lines" python3 -B tests/other_readers.py --check
 check "crates/test_replay/data/readme.rows has the examples of README.md" has_examples readme
 check "crates/test_replay/stdout has the number of rows of each file" has_right_counts
 check "crates/test_replay/args names each file of rows" plays_each_file
@@ -172,6 +174,7 @@ check "docs/LIBRARY.md has the answers file of crates/example_own_contracts" has
 check "docs/DEFINITIONS.md has what has to be believed, and no more" python3 -B tests/believed.py
 check "that check sees what leaves the headline's table, or a contract of it" python3 -B tests/try_believed.py
 check "docs/CONTRACTS.md names rows and tests that exist" python3 tests/tested_by.py
+check "docs/EXPORT.md and its manual page list the names that shells keep" python3 -B tests/kept_names.py --lists
 check "docs/speed.svg is the chart of bench/speed.tsv" has_chart
 check "each link of the pages leads somewhere" python3 tests/links.py
 check "each mutant changes the function that its name says" change_named_functions

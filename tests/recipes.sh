@@ -1,11 +1,12 @@
 #!/usr/bin/env bash
-# Cuts the recipes out of docs/COMMAND.md and docs/CHECK.md, as they are there, and tries each:
-# - the systemd unit: systemd-analyze verifies it below a root folder, where empty scripts are its programs;
-# - the Dockerfile: each line is an instruction, its steps are made in a folder, and its command runs. The archive and
+# Cuts the recipes out of docs/COMMAND.md, docs/CHECK.md and docs/EXPORT.md, as they are there, and tries each:
+# - the systemd units: systemd-analyze verifies them below a root folder, where empty scripts are their programs;
+# - the Dockerfiles: each line is an instruction, its steps are made in a folder, and its command runs. The archive and
 #   apt-get are stand-ins, and no image is built;
-# - the crontab line: Debian's crontab checks it, and its command runs in the environment that cron gives;
+# - the crontab lines: Debian's crontab checks them, and their commands run in the environment that cron gives;
 # - the CI job: a parser of YAML reads it, and its steps run, on the same archive;
-# - the recipes for a shell run, and the manual page has the same scripts.
+# - the container: docker is a stand-in that prints its words and the file; the secret: kubectl makes it, and sends nothing;
+# - the recipes for a shell run, and the manual pages have the same scripts.
 # A recipe runs with folders of the test in place of /usr/local, /etc/serve, /var/lib and /tmp. Nothing else of it is
 # changed.
 #
@@ -21,6 +22,7 @@ top=$PWD
 page=$top/docs/COMMAND.md
 run=$(realpath -m "${1-crates/dotenvy_run/out}/dotenvy_run")
 checker=$(realpath -m "${1-crates/dotenvy_check/out}/dotenvy_check")
+exporter=$(realpath -m "${1-crates/dotenvy_export/out}/dotenvy_export")
 version=$(sed -n 's/^version = "\(.*\)"/\1/p' bindings/python/pyproject.toml)
 archive=dotenvy-$version-linux-x86_64
 room=$(mktemp -d)
@@ -103,13 +105,16 @@ make_files() {
     if "$has_programs"; then
         cp "$run" "$checker" "$room/usr/local/bin"
     fi
+    if "$has_exporter"; then
+        cp "$exporter" bin/dotenvy_exec "$room/usr/local/bin"
+    fi
 }
 
 # Makes the archive of a release in a folder, with the layout that the recipes use: programs, and install.sh PREFIX.
 make_archive() {
     local folder=$room/release/$archive
     mkdir -p "$folder/bin" "$1"
-    cp "$run" "$checker" "$folder/bin"
+    cp "$room"/programs/* "$folder/bin"
     script "$folder/install.sh" <<<'mkdir -p "$1/bin" && cp "$(dirname "$0")"/bin/* "$1/bin"'
     tar -czf "$1/$archive.tar.gz" -C "$room/release" "$archive"
 }
@@ -124,9 +129,11 @@ verified() {
     [ "$status" -eq 0 ] && [ ! -s "$room/said" ]
 }
 
+# The unit of the page, and the programs that it names.
 check_unit() {
     local units=$room/root/usr/lib/systemd/system targets target program
     installed systemd-analyze 'the systemd unit' || return 0
+    rm -rf "$room/root"
     mkdir -p "$units" "$room/root"/{etc/systemd/system,bin,usr/local/bin}
     ln -s usr/lib "$room/root/lib"
     block '### A systemd unit' >"$room/root/etc/systemd/system/serve.service"
@@ -135,15 +142,15 @@ check_unit() {
     for target in $targets {sysinit,basic,shutdown}.target; do
         check "systemd has $target" cp "/usr/lib/systemd/system/$target" "$units"
     done
-    check 'systemd-analyze sees that a program of the unit is missing' missing_program
-    for program in dotenvy_run dotenvy_check serve; do
+    check 'systemd-analyze sees that a program of the unit is missing' missing_program "$1"
+    for program in "$@"; do
         script "$room/root/usr/local/bin/$program" </dev/null
     done
     check 'systemd-analyze finds nothing wrong with the unit' verified
 }
 
 missing_program() {
-    ! verified >/dev/null && grep -q 'dotenvy_run is not executable' "$room/said"
+    ! verified >/dev/null && grep -q "$1 is not executable" "$room/said"
 }
 
 # The unit's commands have no quotes but single ones, so sh reads them as systemd does.
@@ -193,25 +200,36 @@ build() {
     done
 }
 
-check_dockerfile() {
-    local command
+check_instructions() {
     block '### A Dockerfile' >"$room/Dockerfile"
     check 'each line of the Dockerfile is an instruction' \
         diff <(grep -E "^($instructions) [^ ]" "$room/Dockerfile") "$room/Dockerfile"
     check 'the Dockerfile begins with FROM' grep -qm1 '^FROM ' <(head -n 1 "$room/Dockerfile")
     check 'the Dockerfile names the archive of this version' grep -qF "ADD $archive.tar.gz " "$room/Dockerfile"
-    "$has_programs" || return 0
+}
+
+# Makes the image's steps in folders of the test, from which the programs were taken away before. The image's command is
+# then in `command`.
+make_image() {
+    rm -rf "$room/context"
     mkdir "$room/context"
     make_archive "$room/context"
-    mv "$room/usr/local/bin/serve" "$room/context"
-    rm "$room/usr/local/bin"/dotenvy_*
+    cp "$room/usr/local/bin/serve" "$room/context"
+    rm "$room/usr/local/bin"/{serve,dotenvy_*}
     : >"$room/command"
     cd "$room/context"
     check 'the steps of the Dockerfile can be made' build < <(placed <"$room/Dockerfile")
     cd "$top"
-    check 'the Dockerfile installs tini' grep -qx 'apt-get install -y --no-install-recommends tini' "$room/fetched"
     check 'the Dockerfile leaves nothing of the archive' test -z "$(ls "$room/tmp")"
     mapfile -t command <"$room/command"
+}
+
+check_dockerfile() {
+    local command
+    check_instructions
+    "$has_programs" || return 0
+    make_image
+    check 'the Dockerfile installs tini' grep -qx 'apt-get install -y --no-install-recommends tini' "$room/fetched"
     check 'the command of the image is started by tini' test "${command[*]::3}" = 'tini -g --'
     installed tini 'tini before the command of the image' || command=("${command[@]:3}")
     call "${command[@]}"
@@ -239,7 +257,7 @@ check_crontab() {
         echo "$line" >"$room/crontab"
         check 'crontab finds nothing wrong with the line' crontab -n "$room/crontab"
     fi
-    "$has_programs" || return 0
+    "$1" || return 0
     command=$(cut -d ' ' -f 6- <<<"$line" | placed | sed 's/\\%/%/g')
     # What cron sets; a file can't change it.
     call env -i HOME=/root LOGNAME=root PATH=/usr/bin:/bin SHELL=/bin/sh sh -c "$command"
@@ -371,20 +389,26 @@ check_start() {
     rm .env.local
 }
 
-# The script of the page runs as a child, and its command says which process it is.
+# Whether the last call ended with status 1, and told only which file has a fault.
+refused_file() {
+    [ "$status" = 1 ] && [ ! -s "$room/output" ] && grep -qF "$1" "$room/errors" && ! grep -qE 'secret|hidden' "$room/errors"
+}
+
+# The line of the page runs as a child, and its command says which process it is.
 check_place() {
-    block '### Give the command' | placed >place
-    chmod 755 place
+    local line
+    "$has_exporter" || return 0
+    line=$(block '### Give the command' | placed)
     mv serve serve.kept
     script ./serve <<<'echo "$$ $PORT $EXISTING"'
-    EXISTING=yes ./place >"$room/output" 2>"$room/errors" &
+    EXISTING=yes sh -c "exec $line" >"$room/output" 2>"$room/errors" &
     status=0
     wait $! || status=$?
     check 'the command has the place of the script, its environment and the settings' gave 0 "$! 8080 yes"
     cp "$room/broken.env" "$room/etc/serve/service.env"
-    call ./place
-    check 'the script ends at a fault' complained "$(block 'Then `dotenvy_run -f service.env ./serve`')"
-    printf 'PORT=8080\n' >"$room/etc/serve/service.env"
+    call sh -c "$line"
+    check 'a file with a fault starts nothing, and is named' refused_file "$room/etc/serve/service.env"
+    printf 'PORT=8080\nSTORE=/srv/backups\n' >"$room/etc/serve/service.env"
     mv serve.kept serve
 }
 
@@ -413,20 +437,129 @@ END
     mv serve.kept serve
 }
 
+# --- The page of exports ---
+
+# What the page says that a target writes of its example. Each cell has lines in backquotes.
+check_targets() {
+    local targets lines target line
+    block 'Let `service.env` be this file' >service.env
+    while IFS='|' read -r _ targets lines _; do
+        for target in $(grep -o '`[^`]*`' <<<"$targets" | tr -d '`'); do
+            call dotenvy_export "$target" service.env
+            while IFS= read -r line; do
+                check "$target: the example has the line $line" grep -qxF -- "$line" "$room/output"
+            done < <(grep -o '`[^`]*`' <<<"$lines" | tr -d '`')
+            check "$target: nothing is told" test "$status" = 0 -a ! -s "$room/errors"
+        done
+    done < <(awk '/^\| Target \| Of/ { inside = 1; next } !/^\|/ { inside = 0 } inside && !/^\|-/' "$page")
+}
+
+# The unit starts the command with the settings, and with those of the other file over them.
+check_exec_unit() {
+    local start
+    start=$(block '### A systemd unit' | placed | sed -n 's/^ExecStart=//p')
+    call sh -c "$start"
+    check 'the unit starts the command with the settings' gave 0 'serve on 8080 --verbose'
+    echo 'PORT=1' >"$room/etc/serve/local.env"
+    call sh -c "$start"
+    check 'the optional file wins, if it is there' gave 0 'serve on 1 --verbose'
+    rm "$room/etc/serve/local.env"
+    printf 'PORT=8080\n' >service.env
+    call sh -c "$(block 'If a unit has to have')"
+    check 'the file for EnvironmentFile is written' gave 0
+    check 'and nobody else may read it' test "$(stat -c '%a' service.conf)" = 600
+    check 'and it has the settings' diff <(echo 'PORT="8080"') service.conf
+    cp "$room/broken.env" service.env
+    call sh -c "$(block 'If a unit has to have')"
+    check 'after a fault the old file stays' refused_file service.env
+    check 'with the settings' diff <(echo 'PORT="8080"') service.conf
+}
+
+# docker is a stand-in: it prints its words, except the name of the file, and then the file.
+check_container() {
+    script "$room/fetch/docker" <<<'echo "$1 $2 $3 $5"; cat "$4"'
+    printf 'PORT=8080\nMOTTO="it is \\"open\\""\n' >service.env
+    PATH=$room/fetch:$PATH PORT=1 call bash -c "$(block '### A container')"
+    check 'docker gets the settings of the file, and no variable of the shell' \
+        gave 0 'run --rm --env-file serve' 'MOTTO=it is "open"' 'PORT=8080'
+    PATH=$room/fetch:$PATH call bash -c "cp '$room/broken.env' service.env; $(block '### A container')"
+    check 'after a fault no container is started' refused_file service.env
+    printf 'PORT=8080\nMOTTO="it is \\"open\\""\n' >service.env
+}
+
+# kubectl makes the object and prints it, and asks no server.
+check_secret() {
+    installed kubectl 'the secret of Kubernetes' || return 0
+    script "$room/fetch/kubectl" <<<"exec $(command -v kubectl) \"\$@\" --dry-run=client -o json"
+    PATH=$room/fetch:$PATH call bash -c "$(block '### A secret of Kubernetes')"
+    python3 -c 'import base64, json, sys
+secret = json.load(sys.stdin)
+for name, value in sorted(secret["data"].items()):
+    print(secret["metadata"]["name"], name, base64.b64decode(value).decode())' <"$room/output" >"$room/said"
+    check 'kubectl makes a secret with the settings' \
+        diff <(printf '%s\n' 'serve MOTTO it is "open"' 'serve PORT 8080') "$room/said"
+    PATH=$room/fetch:$PATH call bash -c "cp '$room/broken.env' service.env; $(block '### A secret of Kubernetes')"
+    check 'after a fault no secret is made' refused_file service.env
+}
+
+check_exec_dockerfile() {
+    local command
+    check_instructions
+    "$has_exporter" || return 0
+    make_image
+    call "${command[@]}"
+    check 'the command of the image runs with the settings' gave 0 'serve on 8080 --verbose'
+}
+
+# A shell sets the settings, and after a fault nothing.
+check_eval() {
+    local shell line
+    line=$(block '### Settings in a shell')
+    for shell in dash bash; do
+        installed "$shell" "the settings in $shell" || continue
+        printf 'PORT="it'"'"'s \\$(echo \\$x)"\n' >service.env
+        call "$shell" -c "$line"' && printenv PORT'
+        check "$shell: the settings are set and exported" gave 0 "it's \$(echo \$x)"
+        cp "$room/broken.env" service.env
+        call "$shell" -c "$line"'; echo "$? $PORT"'
+        check "$shell: after a fault, the status is 1 and nothing is set" test "$(cat "$room/output")" = '1 '
+    done
+}
+
+check_exports() {
+    page=$top/docs/EXPORT.md
+    check_unit dotenvy_exec
+    if "$has_exporter"; then
+        cd "$room/work"
+        check_targets
+        check_exec_unit
+        check_container
+        check_secret
+        check_eval
+        cd "$top"
+    fi
+    printf 'PORT=8080\nSTORE=/srv/backups\nPATH=%s\n' "$room/usr/local/bin:/usr/bin:/bin" >"$room/etc/serve/service.env"
+    check_crontab "$has_exporter"
+    check_exec_dockerfile
+    for title in '### A container' '### A secret of Kubernetes' 'If a unit has to have' '### Settings in a shell'; do
+        check "docs/dotenvy_export.1 has the block of: $title" in_manual docs/dotenvy_export.1 "$title"
+    done
+}
+
 # --- The manual page ---
 
-# Whether the manual page has the block with these words, line by line.
+# Whether a manual page has the block with these words, line by line.
 in_manual() {
     local text
-    text=$(sed "s/\\\\-/-/g; s/\\\\(aq/'/g; s/\\\\(dq/\"/g; s/\\\\e/\\\\/g" docs/dotenvy_run.1)
-    [[ $'\n'$text$'\n' == *$'\n'"$(block "$1")"$'\n'* ]]
+    text=$(sed "s/\\\\-/-/g; s/\\\\(aq/'/g; s/\\\\(dq/\"/g; s/\\\\e/\\\\/g" "$1")
+    [[ $'\n'$text$'\n' == *$'\n'"$(block "$2")"$'\n'* ]]
 }
 
 check_manual() {
     local title
     for title in '**Use a file only if it exists.**' '**Join files.**' '### Give the command' '**Print one value.**' \
         '**Put the settings of this machine' '**Check a file before'; do
-        check "docs/dotenvy_run.1 has the block of: $title" in_manual "$title"
+        check "docs/dotenvy_run.1 has the block of: $title" in_manual docs/dotenvy_run.1 "$title"
     done
 }
 
@@ -440,16 +573,26 @@ if [ ! -x "$run" ] || [ ! -x "$checker" ]; then
         check 'the programs are there' false
     fi
 fi
+has_exporter=true
+if [ ! -x "$exporter" ]; then
+    has_exporter=false
+    echo "left out: whatever calls $exporter, as it is missing; \`rt ci\` builds it"
+    if [ "${CI-}" = true ]; then
+        check 'the program dotenvy_export is there' false
+    fi
+fi
 make_files
+mkdir -p "$room/programs"
+cp "$room/usr/local/bin"/dotenvy_* "$room/programs" 2>/dev/null || :
 block 'Values are often secrets' >"$room/broken.env"
 # What the checker reports of it.
 open_quote=$(block 'Nor does `--list` keep a secret')
 check 'the page has a file with a secret' grep -qx 'TOKEN=hidden' "$room/broken.env"
-check_unit
+check_unit dotenvy_run dotenvy_check serve
 if "$has_programs"; then
     check_unit_commands
 fi
-check_crontab
+check_crontab "$has_programs"
 check_job
 check_manual
 if "$has_programs"; then
@@ -462,8 +605,9 @@ if "$has_programs"; then
     check_cleaning
     cd "$top"
 fi
-# Last, since it takes the programs away and installs them.
+# It takes the programs away, and installs them.
 check_dockerfile
+check_exports
 
 echo "$passed passed, $failed failed"
 [ "$failed" -eq 0 ]
