@@ -10,7 +10,7 @@ use Rattle.dotenvy_base.specs.Environment.{Texts, name_ok}
 use Rattle.dotenvy_findings.specs.Readings.{Known}
 use Rattle.dotenvy_items.proofs.KeyLookUps.{get-inserted}
 use Rattle.clap.specs.Words.{Text}
-use Rattle.dotenvy_checker.specs.Answers.{texts}
+use Rattle.dotenvy_words.specs.Found.{texts}
 use Rattle.dotenvy_checker.specs.Checks.{names_in}
 use Rattle.dotenvy_checker.specs.Folders.{is_among}
 use Rattle.dotenvy_checker.specs.Together.{empty_if, settable, with_empty, with_names}

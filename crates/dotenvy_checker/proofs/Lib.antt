@@ -10,7 +10,6 @@ mod Lacking
 mod NamesAmong
 mod NumberedLines
 mod Parts
-mod Refusals
 mod Reported
 mod RequiredNames
 mod Untold

@@ -14,7 +14,7 @@ use Rattle.std.specs.declared.string.String.{String}
 use Rattle.std.proofs.lemmas.Map.Text.{btree_set_updates_text, is_eq-slice_cmp}
 use Rattle.std.proofs.lemmas.Map.Made.{is_some-lookup}
 use Rattle.clap.specs.Words.{Text}
-use Rattle.dotenvy_checker.specs.Answers.{texts}
+use Rattle.dotenvy_words.specs.Found.{texts}
 use Rattle.dotenvy_checker.specs.Folders.{is_among}
 
 -- two texts are the same in either order

@@ -1,13 +1,11 @@
 -- What the code returns for words, and how a run ends.
-use Rattle.std.specs.Prelude.{ℕ, ◌≡◌, ◌≢◌, ◌+◌, ◌++◌, ◌⊎◌, Bool, true, false, List, [], map}
-use Rattle.std.specs.Prelude.{Option, Some, take}
+use Rattle.std.specs.Prelude.{ℕ, ◌≡◌, ◌++◌, Bool, true, List, []}
+use Rattle.std.specs.Prelude.{Option, Some}
 use Rattle.std.specs.Prelude.{Result, Ok, Err, if◌then◌else◌}
 use Rattle.std.specs.Prelude.{codes, string_bytes}
 use Rattle.std.specs.Option.{option_map}
 use Rattle.std.specs.Str.{chars}
-use Rattle.std.specs.declared.string.String.{String}
-use Rattle.clap.specs.Words.{IsAmong, Kinds, Text, fault_of, matches_of}
-use Rattle.clap.specs.declared.error.kind.ErrorKind.{ErrorKind}
+use Rattle.clap.specs.Words.{IsAmong, Text, fault_of, matches_of}
 use Rattle.clap.specs.declared.error.kind.ErrorKind.TheVariants as kind
 use Rattle.dotenvy_base.specs.Errors.{error_text}
 use Rattle.dotenvy_base.specs.Output.{Sends, most_writes}
@@ -21,13 +19,11 @@ use Rattle.dotenvy_checker.specs.declared.mistake.Mistake.TheVariants as mistake
 use Rattle.dotenvy_checker.specs.declared.words.Request.{Request}
 use Rattle.dotenvy_checker.specs.declared.words.Request.TheVariants.{Check, Help, Version}
 use Rattle.dotenvy_checker.specs.declared.words.Words.{Words}
-use Rattle.dotenvy_checker.specs.Words.{AreTaken, Asked, FirstRefused, asked_of, checker}
+use Rattle.dotenvy_words.specs.Found.{texts}
+use Rattle.dotenvy_words.specs.Refused.{IsMistakeOf, mistake_text}
+use Rattle.dotenvy_checker.specs.Words.{AreTaken, Asked, asked_of, checker}
 use Rattle.dotenvy_checker.specs.Words.{mistake_of}
 use Rattle.dotenvy_reports.specs.OneLine.{on_one_line}
-
--- words, as bytes
-abbrev pub texts : {A : Type 0} → List (String A) → List Text
-texts words = map string_bytes words
 
 -- what the code's words ask for, with texts as bytes
 abbrev pub asked_by : {A : Type 0} → Words A → Asked
@@ -47,37 +43,6 @@ asked_by words = record {
   files = texts words.files.items;
 }
 
--- an error of this kind is a mistake in the words
-abbrev pub is_mistake : ErrorKind → Bool
-is_mistake kind.DisplayHelp = false
-is_mistake kind.DisplayVersion = false
-is_mistake kind.OutOfMemory = false
-is_mistake other = true
-
--- words are taken exactly if they have none of these kinds of error
-abbrev pub IsRefused : Kinds → Bool → Type 0
-IsRefused kinds true = kinds ≢ []
-IsRefused kinds false = kinds ≡ []
-
--- words are refused up to a place, also with the word there; or they aren't, with it or without it
-abbrev pub StayRefused : List Text → ℕ → Bool → Type 0
-StayRefused words place true =
-    (fault_of checker (take place words) ≢ []) × (fault_of checker (take (place + 1) words) ≢ [])
-StayRefused words place false =
-    (fault_of checker (take place words) ≡ []) ⊎ (fault_of checker (take (place + 1) words) ≡ [])
-
--- this is the first word that is refused, at this place
-abbrev pub IsFirstRefused : List Text → ℕ → Text → Type 0
-IsFirstRefused words place word = (first : FirstRefused words word) × (first.place ≡ place)
-
--- this kind is told of words of which these are the first ones, and which this kind refuses: a kind
--- of mistake in these, or, where what refuses these is no mistake, the given one
-abbrev pub IsToldKind : List Text → ErrorKind → ErrorKind → Type 0
-IsToldKind front kind told =
-    ((is_mistake told ≡ true) × IsAmong told (fault_of checker front))
-    ⊎ ((told ≡ kind)
-    × ((other : ErrorKind) × (is_mistake other ≡ false) × IsAmong other (fault_of checker front)))
-
 -- the request is that of these words: a check of what is found in them, or what they ask for in its
 -- place
 abbrev pub IsRequestOf : {A : Type 0} → List Text → Request A → Type 0
@@ -85,28 +50,6 @@ IsRequestOf words (Check read) =
     AreTaken words × (asked_by read ≡ asked_of (matches_of checker words))
 IsRequestOf words Help = IsAmong kind.DisplayHelp (fault_of checker words)
 IsRequestOf words Version = IsAmong kind.DisplayVersion (fault_of checker words)
-
--- this kind of mistake is told of words, of which these are the first ones: it is in these, or, where
--- what refuses these is no mistake, in all
-abbrev pub IsKindTold : List Text → List Text → ErrorKind → Type 0
-IsKindTold front words kind =
-    (is_mistake kind ≡ true)
-    × (IsAmong kind (fault_of checker front)
-    ⊎ ((other : ErrorKind) × (is_mistake other ≡ false) × IsAmong other (fault_of checker front)
-    × IsAmong kind (fault_of checker words)))
-
--- a mistake is in these words
-abbrev pub HasMistake : List Text → Type 0
-HasMistake words =
-    (found : ErrorKind) × (is_mistake found ≡ true) × IsAmong found (fault_of checker words)
-
--- a mistake is in these words, this is the first word that is refused, as it is printed, and this
--- kind of mistake is told of the words up to it
-abbrev pub IsMistakeOf : List Text → ErrorKind → Text → Type 0
-IsMistakeOf words kind shown =
-    HasMistake words
-    × ((word : Text) × (first : FirstRefused words word)
-    × IsKindTold (take (first.place + 1) words) words kind × (shown ≡ on_one_line (chars word)))
 
 -- this is wrong with the first value of these words with which something is, as it is printed
 abbrev pub IsValueMistakeOf : List Text → Mistake → Text → Type 0
@@ -117,7 +60,7 @@ IsValueMistakeOf words wrong shown =
 
 -- the failure is that of these words, or a failed allocation
 abbrev pub IsFailureOf : {A : Type 0} → List Text → Failure A → Type 0
-IsFailureOf words (Usage kind word) = IsMistakeOf words kind (string_bytes word)
+IsFailureOf words (Usage kind word) = IsMistakeOf checker words kind (string_bytes word)
 IsFailureOf words (Value wrong value) = IsValueMistakeOf words wrong (string_bytes value)
 IsFailureOf words (Write error) = ⊥
 IsFailureOf words (Memory refused) = Unit {0}
@@ -171,12 +114,6 @@ CountsStop (stop.Memory refused) result unread = unread ≡ true
 -- the status: 2 if a file could not be read, else 1 if what was found counts
 abbrev pub status_of : Bool → Bool → ℕ
 status_of unread counts = if unread then 2 else if counts then 1 else 0
-
--- what is said of a mistake, before the word that has it
-abbrev pub mistake_text : ErrorKind → Text
-mistake_text kind.TooManyValues = codes "unexpected value in"
-mistake_text kind.InvalidValue = codes "no value after"
-mistake_text other = codes "unknown option"
 
 -- what is said of a mistake in a value, before the value
 abbrev pub value_text : Mistake → Text

@@ -2,6 +2,7 @@ pub mod Findings
 pub mod Report
 pub mod Checks
 pub mod Words
+pub mod Described
 pub mod WorkedWords
 pub mod Folders
 pub mod Help

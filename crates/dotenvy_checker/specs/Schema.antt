@@ -14,7 +14,7 @@ use Rattle.dotenvy_checker.specs.declared.schema.DeclaredNames.{DeclaredNames}
 use Rattle.dotenvy_checker.specs.declared.schema.Difference.{Difference}
 use Rattle.dotenvy_checker.specs.declared.schema.Difference.TheVariants.{NotDeclared, NotInSchema}
 use Rattle.dotenvy_checker.specs.declared.schema.Telling.{Telling}
-use Rattle.dotenvy_checker.specs.Answers.{texts}
+use Rattle.dotenvy_words.specs.Found.{texts}
 use Rattle.dotenvy_checker.specs.Folders.{is_among}
 
 -- the names, in the order in which the code keeps them

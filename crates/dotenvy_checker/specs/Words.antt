@@ -1,16 +1,14 @@
 -- The words of the command line. They ask for what `clap` finds in them. A word is its bytes.
-use Rattle.std.specs.Prelude.{ℕ, ◌≡◌, ◌≢◌, ◌+◌, Bool, true, false, List, [], ◌∷◌}
+use Rattle.std.specs.Prelude.{◌≡◌, Bool, List, [], ◌∷◌}
 use Rattle.std.specs.Prelude.{Option, Some, None, codes, if◌then◌else◌}
-use Rattle.std.specs.Prelude.{slice_get, take, unwrap_or}
+use Rattle.std.specs.Prelude.{unwrap_or}
 use Rattle.std.specs.List.{filter_map}
 use Rattle.std.specs.Option.{option_and_then, option_map, option_map_or, option_or}
-use Rattle.std.specs.Str.{bytes_eq}
-use Rattle.clap.specs.Words.{App, Row, Rule, Text, all_of, fault_of, first_of, matches_of}
-use Rattle.clap.specs.Words.{new_rule, with_rule}
-use Rattle.clap.specs.Simple.{new_shape}
-use Rattle.clap.specs.declared.builder.action.ArgAction.TheVariants.{Append, SetTrue}
+use Rattle.clap.specs.Words.{App, Row, Rule, Text, fault_of, first_of, matches_of}
+use Rattle.clap.specs.Words.{with_rule}
+use Rattle.dotenvy_words.specs.Found.{dialect_of, is_on, values_of}
+use Rattle.dotenvy_words.specs.Rules.{file_rule, flag_rule, many_rule, named, one_rule}
 use Rattle.dotenvy_format.specs.declared.dialect.Dialect.{Dialect}
-use Rattle.dotenvy_format.specs.declared.dialect.Dialect.TheVariants.{V15, Next}
 use Rattle.dotenvy_findings.specs.declared.kind.Kind.{Kind}
 use Rattle.dotenvy_findings.specs.Kinds.{is_fault}
 use Rattle.dotenvy_findings.specs.Named.{kind_named}
@@ -22,18 +20,6 @@ use Rattle.dotenvy_reports.specs.declared.format.Format.{Format}
 use Rattle.dotenvy_reports.specs.declared.format.Format.TheVariants as format
 use Rattle.dotenvy_reports.specs.Formats.{format_of as format_named}
 
--- an option without a value
-abbrev pub flag_rule : Text → Rule
-flag_rule name = record (new_rule name) { long = Some name; action = Some SetTrue }
-
--- an option with a value, each of whose uses counts
-abbrev pub many_rule : Text → Rule
-many_rule name = record (new_rule name) { long = Some name; action = Some Append }
-
--- an option with a value, whose last use counts
-abbrev pub one_rule : Text → Rule
-one_rule name = record (new_rule name) { long = Some name }
-
 -- the option `--format`, whose value is `text` where it is not given
 abbrev pub format_rule : Rule
 format_rule = record (one_rule (codes "format")) { defaults = codes "text" ∷ [] }
@@ -42,26 +28,11 @@ format_rule = record (one_rule (codes "format")) { defaults = codes "text" ∷ [
 abbrev pub quiet_rule : Rule
 quiet_rule = record (flag_rule (codes "quiet")) { short = Some 113 }
 
--- the files
-abbrev pub file_rule : Rule
-file_rule = record (new_rule (codes "file")) { action = Some Append }
-
--- the command without its options: it has a version, words begin after its name, and an option may
--- be repeated
-abbrev pub named : App
-named = record {
-  top = record (new_shape (codes "dotenvy_check")) {
-    no_binary_name = true;
-    has_version = true;
-    args_override_self = true;
-  };
-  subs = [];
-}
-
 -- the command with the options that have no value
 abbrev pub with_flags : App
 with_flags =
-    with_rule (with_rule (with_rule (with_rule (with_rule (with_rule named
+    with_rule (with_rule (with_rule (with_rule (with_rule (with_rule
+    (named (codes "dotenvy_check"))
     (flag_rule (codes "next"))) (flag_rule (codes "strict"))) quiet_rule)
     (flag_rule (codes "text"))) (flag_rule (codes "together")))
     (flag_rule (codes "ignore-environment"))
@@ -90,14 +61,6 @@ pub record Asked : Type 0 where
   pub format : Format
   pub files : List Text
 
--- an option was found
-abbrev pub is_on : Text → List Row → Bool
-is_on name rows = option_map_or (λ value. bytes_eq value (codes "true")) (first_of name rows) false
-
--- the values of an option, in their order
-abbrev pub values_of : Text → List Row → List Text
-values_of name rows = unwrap_or (all_of name rows) []
-
 -- the kinds that have these names
 abbrev pub kinds_of : List Text → List Kind
 kinds_of names = filter_map kind_named names
@@ -110,7 +73,7 @@ format_of rows =
 -- what is asked for by what was found
 abbrev pub asked_of : List Row → Asked
 asked_of rows = record {
-  dialect = if is_on (codes "next") rows then Next else V15;
+  dialect = dialect_of rows;
   strict = is_on (codes "strict") rows;
   quiet = is_on (codes "quiet") rows;
   text = is_on (codes "text") rows;
@@ -156,12 +119,3 @@ mistake_of rows =
 abbrev pub AreTaken : List Text → Type 0
 AreTaken words =
     (fault_of checker words ≡ []) × (mistake_of (matches_of checker words) ≡ None)
-
--- the words before this one are taken, and with it they are refused, also with the word after it,
--- which could be its value
-pub record FirstRefused (words : List Text) (word : Text) : Type 0 where
-  pub place : ℕ
-  pub there : slice_get words place ≡ Some word
-  pub before : fault_of checker (take place words) ≡ []
-  pub refused : fault_of checker (take (place + 1) words) ≢ []
-  pub stays : fault_of checker (take (place + 2) words) ≢ []

@@ -3,7 +3,7 @@
 ghost use Rattle.std.specs.Prelude.{◌≡◌, ℕ, List, OnOk, bytes_eq, is_some, string_bytes};
 ghost use Rattle.std.specs.FinMap as fin;
 ghost use Rattle.dotenvy_checker.specs.Checks.{names_in};
-ghost use Rattle.dotenvy_checker.specs.Answers.{texts};
+ghost use Rattle.dotenvy_words.specs.Found.{texts};
 ghost use Rattle.dotenvy_checker.specs.Findings.{none_declared, with_key, has_value};
 ghost use Rattle.dotenvy_checker.specs.Folders.{is_among};
 ghost use Rattle.dotenvy_checker.specs.Together.{is_declared, settable, with_empty, with_names};

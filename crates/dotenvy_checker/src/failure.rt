@@ -1,11 +1,12 @@
 //! Why a check stops before it has checked all files, and what the program prints of it.
 
 ghost use Rattle.std.specs.Prelude.{◌≡◌};
-ghost use Rattle.dotenvy_checker.specs.Answers.{mistake_text, value_text};
+ghost use Rattle.dotenvy_checker.specs.Answers.{value_text};
 
 use crate::mistake::Mistake;
 use clap::error::ErrorKind;
 use dotenvy::Error;
+use dotenvy_words::mistake::mistake_text;
 use std::alloc::{AllocError, AllocFailed, Allocator, Global};
 use std::fmt;
 
@@ -43,17 +44,6 @@ pub enum Failure<A: Allocator = Global> {
     Write(Error<A>),
     /// An allocation failed.
     Memory(AllocError),
-}
-
-// What is said of a mistake in the words, before the word that has it.
-fn mistake_text(kind: ErrorKind) -> &'static str
-    ensures { result.now ≡ mistake_text kind }
-{
-    match kind {
-        ErrorKind::TooManyValues => "unexpected value in",
-        ErrorKind::InvalidValue => "no value after",
-        _ => "unknown option",
-    }
 }
 
 // What is said of a mistake in a value, before the value.

@@ -4,7 +4,7 @@ ghost use Rattle.std.specs.Prelude.{◌≡◌, IfOk, string_bytes};
 ghost use Rattle.std.specs.List.{filter};
 ghost use Rattle.std.specs.List.Sorted.{IsPermutation, IsSorted};
 ghost use Rattle.std.specs.String.{string_cmp};
-ghost use Rattle.dotenvy_checker.specs.Answers.{texts};
+ghost use Rattle.dotenvy_words.specs.Found.{texts};
 ghost use Rattle.dotenvy_checker.specs.Folders.{is_among, is_chosen, is_environment_name, path_in, paths_in};
 
 use dotenvy::Error;

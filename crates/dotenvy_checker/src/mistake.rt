@@ -3,7 +3,8 @@
 ghost use Rattle.std.specs.Prelude.{◌≡◌, map};
 ghost use Rattle.std.specs.Option.{option_map};
 ghost use Rattle.clap.specs.Words.{found_of, rows_of};
-ghost use Rattle.dotenvy_checker.specs.Words.{first_mistake, kind_mistake, mistake_of, value_mistake, values_of};
+ghost use Rattle.dotenvy_words.specs.Found.{values_of};
+ghost use Rattle.dotenvy_checker.specs.Words.{first_mistake, kind_mistake, mistake_of, value_mistake};
 
 use clap::ArgMatches;
 use dotenvy_findings::kind::Kind;

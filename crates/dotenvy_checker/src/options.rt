@@ -3,36 +3,14 @@
 ghost use Rattle.std.specs.Prelude.{◌≡◌, ◌++◌, ◌∷◌, [], IfOk, OnOk, map, string_bytes};
 ghost use Rattle.std.specs.Option.{option_map};
 ghost use Rattle.clap.specs.Words.{first_of, found_of, rows_of};
-ghost use Rattle.dotenvy_checker.specs.Answers.{texts};
-ghost use Rattle.dotenvy_checker.specs.Words.{asked_of, format_of, is_on, kinds_of, values_of};
+ghost use Rattle.dotenvy_words.specs.Found.{texts, values_of};
+ghost use Rattle.dotenvy_checker.specs.Words.{format_of, kinds_of};
 
 use clap::ArgMatches;
-use dotenvy::Dialect;
 use dotenvy_findings::kind::Kind;
 use dotenvy_findings::named::kind_named;
 use dotenvy_reports::format::Format;
 use std::alloc::{AllocError, Allocator};
-
-/// Whether an option was given.
-pub(crate) fn is_on(found: &ArgMatches<'_>, name: &str) -> bool
-    ensures { result ≡ is_on name.now (rows_of (found_of found.now)) }
-{
-    match found.get_str(name) {
-        Some(value) => value == "true",
-        None => false,
-    }
-}
-
-/// The dialect of the files.
-pub(crate) fn dialect(found: &ArgMatches<'_>) -> Dialect
-    ensures { result ≡ (asked_of (rows_of (found_of found.now))).dialect }
-{
-    if is_on(found, "next") {
-        Dialect::Next
-    } else {
-        Dialect::V15
-    }
-}
 
 /// The format of the report.
 pub(crate) fn format_of(found: &ArgMatches<'_>) -> Format

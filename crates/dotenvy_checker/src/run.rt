@@ -6,7 +6,8 @@ ghost use Rattle.clap.specs.declared.error.kind.ErrorKind.TheVariants.{DisplayHe
 ghost use Rattle.dotenvy_base.specs.Errors.{IsFileFault};
 ghost use Rattle.dotenvy_base.specs.Source.{nothing_told};
 ghost use Rattle.dotenvy_items.specs.Iter.{fresh};
-ghost use Rattle.dotenvy_checker.specs.Answers.{texts, AreMistaken, AskQuiet, CountsStop, IsFailureOf};
+ghost use Rattle.dotenvy_words.specs.Found.{texts};
+ghost use Rattle.dotenvy_checker.specs.Answers.{AreMistaken, AskQuiet, CountsStop, IsFailureOf};
 ghost use Rattle.dotenvy_checker.specs.Answers.{status_of, IsMemoryEnd, IsUsage, Prints};
 ghost use Rattle.dotenvy_checker.specs.Checks.{both};
 ghost use Rattle.dotenvy_checker.specs.Help.{help_text, version_text};

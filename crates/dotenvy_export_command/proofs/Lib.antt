@@ -1,5 +1,4 @@
 mod Endings
 mod KeptPairs
 mod MergedFiles
-mod Refusals
 mod WholeReads

@@ -23,7 +23,7 @@ use Rattle.dotenvy_export_command.specs.declared.failure.Failure.{Failure}
 use Rattle.dotenvy_export_command.specs.declared.failure.Failure.TheVariants as failure
 use Rattle.dotenvy_export_command.specs.declared.inputs.Inputs.{Inputs}
 use Rattle.dotenvy_export_command.specs.declared.words.How.{How}
-use Rattle.dotenvy_export_command.specs.Answers.{texts}
+use Rattle.dotenvy_words.specs.Found.{texts}
 
 -- the target keeps the name for itself
 abbrev pub keeps_name : Option Reason → Bool

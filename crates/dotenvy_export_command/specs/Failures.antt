@@ -2,8 +2,6 @@
 use Rattle.std.specs.Prelude.{◌++◌, Option, Some, codes, decimal, string_bytes}
 use Rattle.std.specs.Option.{option_map}
 use Rattle.clap.specs.Words.{Text}
-use Rattle.clap.specs.declared.error.kind.ErrorKind.{ErrorKind}
-use Rattle.clap.specs.declared.error.kind.ErrorKind.TheVariants as kind
 use Rattle.dotenvy_base.specs.Errors.{error_text}
 use Rattle.dotenvy_exporter.specs.declared.refusal.Reason.{Reason}
 use Rattle.dotenvy_exporter.specs.declared.refusal.Reason.TheVariants as reason
@@ -12,12 +10,7 @@ use Rattle.dotenvy_export_command.specs.declared.failure.Failure.TheVariants as 
 use Rattle.dotenvy_export_command.specs.declared.failure.Usage.{Usage}
 use Rattle.dotenvy_export_command.specs.declared.failure.Usage.TheVariants as usage
 use Rattle.dotenvy_export_command.specs.Names.{target_name}
-
--- what is said of a mistake, before the word that has it
-abbrev pub mistake_text : ErrorKind → Text
-mistake_text kind.TooManyValues = codes "unexpected value in"
-mistake_text kind.InvalidValue = codes "no value after"
-mistake_text other = codes "unknown option"
+use Rattle.dotenvy_words.specs.Refused.{mistake_text}
 
 -- what is said of a text with which this is wrong
 abbrev pub wrong_text : Text → Text → Text

@@ -7,7 +7,7 @@ use Rattle.clap.specs.Words.{Row, Text, matched_of, rows_of}
 use Rattle.clap.specs.declared.parser.matches.Found.{Found}
 use Rattle.dotenvy_export_command.specs.declared.files.Named.{Named}
 use Rattle.dotenvy_export_command.specs.declared.files.Placed.{Placed}
-use Rattle.dotenvy_export_command.specs.Words.{values_of}
+use Rattle.dotenvy_words.specs.Found.{values_of}
 
 -- a name, and its place among the words
 abbrev pub At : Type 0

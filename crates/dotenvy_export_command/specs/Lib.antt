@@ -1,5 +1,6 @@
 pub mod Names
 pub mod Words
+pub mod Described
 pub mod Files
 pub mod Failures
 pub mod Answers

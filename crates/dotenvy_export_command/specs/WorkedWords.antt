@@ -8,7 +8,8 @@ use Rattle.dotenvy_format.specs.declared.dialect.Dialect.TheVariants.{V15, Next}
 use Rattle.env_layers.specs.declared.layers.Mode.TheVariants.{Keep, Override}
 use Rattle.dotenvy_exporter.specs.declared.target.Target.TheVariants.{Docker, Json, Sh}
 use Rattle.dotenvy_export_command.specs.Files.{merged, placed}
-use Rattle.dotenvy_export_command.specs.Words.{Asked, asked_of, exporter, values_of}
+use Rattle.dotenvy_words.specs.Found.{values_of}
+use Rattle.dotenvy_export_command.specs.Words.{Asked, asked_of, exporter}
 
 -- words ask for this, with these files, and with these that may be absent
 abbrev pub Ask : List Text → Asked → List Text → List Text → Type 0

@@ -3,7 +3,7 @@
 ghost use Rattle.std.specs.Prelude.{◌≡◌, ◌⊎◌, ◌<◌, ◌++◌, IfErr, IfOk, OnErr, OnOk, chars, length, map, string_bytes};
 ghost use Rattle.dotenvy_base.specs.Errors.{IsMemory};
 ghost use Rattle.dotenvy_items.specs.Listed.{pairs_of};
-ghost use Rattle.dotenvy_export_command.specs.Answers.{texts};
+ghost use Rattle.dotenvy_words.specs.Found.{texts};
 ghost use Rattle.dotenvy_export_command.specs.Exports.{is_reserved, kept_pairs, names_left_out, warning, warnings, Exports, IsStopOf, IsUnwritten, IsWrite};
 ghost use Rattle.dotenvy_export_command.specs.Failures.{IsMemoryEnd};
 

@@ -1,13 +1,11 @@
 //! Why nothing is written, and what the program prints of it.
 
-ghost use Rattle.std.specs.Prelude.{◌≡◌};
-ghost use Rattle.dotenvy_export_command.specs.Failures.{mistake_text};
-
 use crate::targets::target_name;
 use clap::error::ErrorKind;
 use dotenvy::Error;
 use dotenvy_exporter::refusal::Reason;
 use dotenvy_exporter::target::Target;
+use dotenvy_words::mistake::mistake_text;
 use std::alloc::{AllocError, AllocFailed, Allocator, Global};
 use std::fmt;
 
@@ -41,17 +39,6 @@ pub enum Failure<A: Allocator = Global> {
     Write(Error<A>),
     /// An allocation failed.
     Memory(AllocError),
-}
-
-// What is said of a mistake in the words, before the word that has it.
-fn mistake_text(kind: ErrorKind) -> &'static str
-    ensures { result.now ≡ mistake_text kind }
-{
-    match kind {
-        ErrorKind::TooManyValues => "unexpected value in",
-        ErrorKind::InvalidValue => "no value after",
-        _ => "unknown option",
-    }
 }
 
 impl<A: Allocator> fmt::Display for Usage<A> {

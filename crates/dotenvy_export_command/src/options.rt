@@ -3,36 +3,16 @@
 ghost use Rattle.std.specs.Prelude.{◌≡◌, IfOk, map};
 ghost use Rattle.clap.specs.Words.{found_of, rows_of};
 ghost use Rattle.dotenvy_export_command.specs.Files.{files_of, named_of, placed, placed_of, places_of};
-ghost use Rattle.dotenvy_export_command.specs.Words.{asked_of, is_on, target_of, values_of};
+ghost use Rattle.dotenvy_words.specs.Found.{is_on, values_of};
+ghost use Rattle.dotenvy_export_command.specs.Words.{asked_of, target_of};
 
 use crate::files::{Named, Placed, merged, with_places};
 use crate::targets::target_named;
 use clap::ArgMatches;
-use dotenvy::Dialect;
 use dotenvy_exporter::target::Target;
+use dotenvy_words::found::is_on;
 use env_layers::Mode;
 use std::alloc::{AllocError, Allocator};
-
-/// Whether an option was given.
-pub(crate) fn is_on(found: &ArgMatches<'_>, name: &str) -> bool
-    ensures { result ≡ is_on name.now (rows_of (found_of found.now)) }
-{
-    match found.get_str(name) {
-        Some(value) => value == "true",
-        None => false,
-    }
-}
-
-/// The dialect of the files.
-pub(crate) fn dialect(found: &ArgMatches<'_>) -> Dialect
-    ensures { result ≡ (asked_of (rows_of (found_of found.now))).dialect }
-{
-    if is_on(found, "next") {
-        Dialect::Next
-    } else {
-        Dialect::V15
-    }
-}
 
 /// What a file does with a name that has a value.
 pub(crate) fn mode(found: &ArgMatches<'_>) -> Mode

@@ -3,7 +3,8 @@
 ghost use Rattle.std.specs.Prelude.{◌≡◌, ◌<◌, ◌∷◌, [], IfErr, IfOk, IsErrAnd, OnErr};
 ghost use Rattle.clap.specs.Words.{fault_of};
 ghost use Rattle.clap.specs.declared.error.kind.ErrorKind.TheVariants.{DisplayHelp, DisplayVersion};
-ghost use Rattle.dotenvy_export_command.specs.Answers.{texts, AreMistaken, IsFailureOf};
+ghost use Rattle.dotenvy_words.specs.Found.{texts};
+ghost use Rattle.dotenvy_export_command.specs.Answers.{AreMistaken, IsFailureOf};
 ghost use Rattle.dotenvy_export_command.specs.Ends.{EndsBy, EndsExport, IsWrongCall, Prints, RefusesCall};
 ghost use Rattle.dotenvy_export_command.specs.Help.{help_text, version_text};
 ghost use Rattle.dotenvy_export_command.specs.Words.{exporter, AreTaken};

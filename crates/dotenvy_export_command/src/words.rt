@@ -1,20 +1,22 @@
 //! Reads the words of the command line.
 
-ghost use Rattle.std.specs.Prelude.{◌<◌, ◌≡◌, ◌≢◌, [], IfOk, IsSomeAnd, length, map};
-ghost use Rattle.clap.specs.Words.{fault_of, found_of, rows_of};
-ghost use Rattle.dotenvy_export_command.specs.Answers.{asked_by, texts, AnswersWords, IsFirstRefused, IsRefused, IsTargetFailure, IsToldKind, StayRefused};
+ghost use Rattle.std.specs.Prelude.{◌≡◌, IfOk, map};
+ghost use Rattle.clap.specs.Words.{found_of, rows_of};
+ghost use Rattle.dotenvy_words.specs.Found.{texts};
+ghost use Rattle.dotenvy_export_command.specs.Answers.{asked_by, AnswersWords, IsTargetFailure};
 ghost use Rattle.dotenvy_export_command.specs.Files.{files_of, named_of};
-ghost use Rattle.dotenvy_export_command.specs.Words.{asked_of, exporter, target_of};
+ghost use Rattle.dotenvy_export_command.specs.Words.{asked_of, target_of};
 
-use crate::command::matches;
+use crate::command::Exporter;
 use crate::failure::{Failure, Usage};
 pub use crate::files::Named;
 use crate::options;
 use clap::ArgMatches;
-use clap::error::ErrorKind;
 use dotenvy::Dialect;
 use dotenvy_exporter::target::Target;
 use dotenvy_reports::one_line::one_line;
+use dotenvy_words::found::{dialect, is_on};
+use dotenvy_words::reading::{Reading, read};
 use env_layers::Mode;
 use std::alloc::{AllocError, Allocator, Global};
 
@@ -68,23 +70,14 @@ pub fn read_words<A: Allocator + Clone>(
 ) -> Result<Request<A>, Failure<A>>
     ensures { AnswersWords (texts words.now) result }
 {
-    match matches(global, words) {
-        Ok(found) => match options::target(&found) {
+    match read::<Exporter, A>(global, alloc.clone()?, words)? {
+        Reading::Found(found) => match options::target(&found) {
             Some(target) => Ok(Request::Export(asked(alloc, &found, target)?)),
             None => Err(no_target(alloc, &found)?),
         },
-        Err(error) => match error.kind() {
-            ErrorKind::DisplayHelp => Ok(Request::Help),
-            ErrorKind::DisplayVersion => Ok(Request::Version),
-            ErrorKind::OutOfMemory => Err(Failure::Memory(AllocError)),
-            kind => match first_refused(global, words)? {
-                Some((place, word)) => {
-                    let kind = told_kind(global, &words[..place + 1], kind)?;
-                    Err(Failure::Usage(Usage::Word(kind, one_line(alloc, word)?)))
-                }
-                None => unreachable!(),
-            },
-        },
+        Reading::Help => Ok(Request::Help),
+        Reading::Version => Ok(Request::Version),
+        Reading::Mistake(kind, word) => Err(Failure::Usage(Usage::Word(kind, word))),
     }
 }
 
@@ -101,11 +94,11 @@ fn asked<A: Allocator + Clone>(
     Ok(Words {
         how: How {
             target,
-            dialect: options::dialect(found),
+            dialect: dialect(found),
             mode: options::mode(found),
-            skips_reserved: options::is_on(found, "skip-reserved"),
+            skips_reserved: is_on(found, "skip-reserved"),
         },
-        ignores_environment: options::is_on(found, "ignore-environment"),
+        ignores_environment: is_on(found, "ignore-environment"),
         files: options::files(alloc, found)?,
     })
 }
@@ -118,77 +111,5 @@ fn no_target<A: Allocator>(alloc: A, found: &ArgMatches<'_>) -> Result<Failure<A
     match found.get_str("target") {
         Some(name) => Ok(Failure::Usage(Usage::Target(one_line(alloc, name)?))),
         None => Ok(Failure::Usage(Usage::NoTarget)),
-    }
-}
-
-// The kind of mistake that is told of words which this one refuses: that of their first words, unless these ask for help
-// or the version.
-fn told_kind<A: Allocator>(
-    global: Global,
-    front: &[String<A>],
-    kind: ErrorKind,
-) -> Result<ErrorKind, AllocError>
-    requires { fault_of exporter (texts front.now) ≢ [] }
-    ensures { IfOk result (IsToldKind (texts front.now) kind) }
-{
-    match matches(global, front) {
-        Ok(_) => unreachable!(),
-        Err(error) => match error.kind() {
-            ErrorKind::OutOfMemory => Err(AllocError),
-            ErrorKind::DisplayHelp | ErrorKind::DisplayVersion => Ok(kind),
-            other => Ok(other),
-        },
-    }
-}
-
-// The first word with which words are refused, whatever comes after it, and its place. It is sought by halves.
-fn first_refused<'w, A: Allocator>(
-    global: Global,
-    words: &'w [String<A>],
-) -> Result<Option<(usize, &'w str)>, AllocError>
-    ensures { fault_of exporter (texts words.now) ≢ [] → IfOk result
-        (λ found. IsSomeAnd found (λ at. IsFirstRefused (texts words.now) at.0 at.1.now)) }
-{
-    let mut taken = 0;
-    let mut refused = words.len();
-    'halves: while refused - taken > 1 {
-        let middle = taken + (refused - taken) / 2;
-        if stay_refused(global, words, middle)? {
-            refused = middle;
-        } else {
-            taken = middle;
-        }
-    }
-    match words.get(taken) {
-        Some(word) => Ok(Some((taken, word.as_str()))),
-        None => Ok(None),
-    }
-}
-
-// Whether words are refused up to a place, also with the word there, which could be the value of the word before it.
-fn stay_refused<A: Allocator>(
-    global: Global,
-    words: &[String<A>],
-    place: usize,
-) -> Result<bool, AllocError>
-    requires { place < length words.now }
-    ensures { IfOk result (StayRefused (texts words.now) place) }
-{
-    if !is_refused(global, &words[..place])? {
-        return Ok(false);
-    }
-    is_refused(global, &words[..place + 1])
-}
-
-// Whether words are refused, or ask for a text.
-fn is_refused<A: Allocator>(global: Global, words: &[String<A>]) -> Result<bool, AllocError>
-    ensures { IfOk result (IsRefused (fault_of exporter (texts words.now))) }
-{
-    match matches(global, words) {
-        Ok(_) => Ok(false),
-        Err(error) => match error.kind() {
-            ErrorKind::OutOfMemory => Err(AllocError),
-            _ => Ok(true),
-        },
     }
 }

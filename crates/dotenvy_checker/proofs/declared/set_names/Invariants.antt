@@ -1,6 +1,6 @@
 use Rattle.std.proofs.Common.{◌≡◌}
 use Rattle.clap.specs.Words.{Text}
-use Rattle.dotenvy_checker.specs.Answers.{texts}
+use Rattle.dotenvy_words.specs.Found.{texts}
 use Rattle.dotenvy_checker.specs.Folders.{is_among}
 use Rattle.dotenvy_checker.specs.Together.{is_declared, settable, with_empty}
 use Rattle.dotenvy_checker.specs.inside.CheckedLines.{declared_of}

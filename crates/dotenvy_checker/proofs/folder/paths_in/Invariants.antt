@@ -1,5 +1,5 @@
 use Rattle.std.proofs.Common.{◌≡◌, take}
-use Rattle.dotenvy_checker.specs.Answers.{texts}
+use Rattle.dotenvy_words.specs.Found.{texts}
 use Rattle.dotenvy_checker.specs.Folders.{paths_in}
 use Rattle.dotenvy_checker.proofs.folder.paths_in.Given as goal
 

@@ -1,5 +1,5 @@
 use Rattle.std.proofs.Common.{◌≡◌, map, take}
-use Rattle.dotenvy_checker.specs.Answers.{texts}
+use Rattle.dotenvy_words.specs.Found.{texts}
 use Rattle.dotenvy_checker.proofs.options.copied.Given as goal
 
 -- the names up to this one are copied

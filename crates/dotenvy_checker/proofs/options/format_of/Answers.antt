@@ -1,7 +1,7 @@
 use Rattle.std.proofs.Common.{rules}
 use Rattle.std.specs.Prelude.{codes}
 use Rattle.clap.specs.Words.{found_of}
-use Rattle.dotenvy_checker.proofs.Refusals.{first_by}
+use Rattle.dotenvy_words.proofs.FoundValues.{first_by}
 use Rattle.dotenvy_checker.proofs.options.format_of.Goals as goal
 
 pub returns-in-Some-from_name : goal.returns-in-Some-from_name

@@ -1,6 +1,6 @@
 use Rattle.std.proofs.Common.{rules}
 use Rattle.clap.specs.Words.{found_of}
-use Rattle.dotenvy_checker.proofs.Refusals.{first_by}
+use Rattle.dotenvy_words.proofs.FoundValues.{first_by}
 use Rattle.dotenvy_checker.proofs.options.text.Goals as goal
 
 pub returns-in_ok-from_str-in-Some : goal.returns-in_ok-from_str-in-Some

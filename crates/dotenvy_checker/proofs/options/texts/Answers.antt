@@ -1,6 +1,6 @@
 use Rattle.std.proofs.Common.{rules}
 use Rattle.clap.specs.Words.{found_of}
-use Rattle.dotenvy_checker.proofs.Refusals.{values_by}
+use Rattle.dotenvy_words.proofs.FoundValues.{values_by}
 use Rattle.dotenvy_checker.proofs.options.texts.Goals as goal
 
 pub returns-in-Some : goal.returns-in-Some

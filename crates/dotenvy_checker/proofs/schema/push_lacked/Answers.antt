@@ -1,7 +1,7 @@
 use Rattle.std.proofs.Common.{◌≡◌, ◌∷◌, ◌++◌, ◌∙◌, [], true, ap, rules, string_bytes, sym}
 use Rattle.std.specs.Prelude.{not, if◌then◌else◌}
 use Rattle.dotenvy_reports.specs.Formats.{separator}
-use Rattle.dotenvy_checker.specs.Answers.{texts}
+use Rattle.dotenvy_words.specs.Found.{texts}
 use Rattle.dotenvy_checker.specs.Folders.{is_among}
 use Rattle.dotenvy_checker.specs.Schema.{difference_text, is_lacking, names_of}
 use Rattle.dotenvy_checker.proofs.Lacking.{any_more, told_more}

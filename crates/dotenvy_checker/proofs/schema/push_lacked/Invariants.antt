@@ -1,7 +1,7 @@
 use Rattle.std.proofs.Common.{◌≡◌, ◌++◌, string_bytes}
 use Rattle.std.specs.Prelude.{◌||◌}
 use Rattle.std.specs.List.{list_any}
-use Rattle.dotenvy_checker.specs.Answers.{texts}
+use Rattle.dotenvy_words.specs.Found.{texts}
 use Rattle.dotenvy_checker.specs.Report.{separated}
 use Rattle.dotenvy_checker.specs.Schema.{is_lacking, lacked_texts, names_of}
 use Rattle.dotenvy_checker.proofs.schema.push_lacked.Given as goal

@@ -1,6 +1,6 @@
 use Rattle.std.proofs.Common.{◌≡◌, ◌++◌, drop, map, string_bytes}
 use Rattle.std.specs.Str.{chars}
-use Rattle.dotenvy_export_command.specs.Answers.{texts}
+use Rattle.dotenvy_words.specs.Found.{texts}
 use Rattle.dotenvy_export_command.specs.Exports.{warnings}
 use Rattle.dotenvy_export_command.proofs.export.warnings.Given as goal
 

@@ -3,7 +3,7 @@ use Rattle.std.specs.Prelude.{filter}
 use Rattle.std.specs.FinMap as fin
 use Rattle.std.specs.Str.{chars}
 use Rattle.dotenvy_base.specs.Environment.{pair_ok, text_entries}
-use Rattle.dotenvy_export_command.specs.Answers.{texts}
+use Rattle.dotenvy_words.specs.Found.{texts}
 use Rattle.dotenvy_export_command.proofs.KeptPairs.{is_kept, left_of}
 use Rattle.dotenvy_export_command.proofs.export.without_reserved.Given as goal
 

@@ -1,6 +1,6 @@
 use Rattle.std.proofs.Common.{rules}
 use Rattle.clap.specs.Words.{found_of}
-use Rattle.dotenvy_export_command.proofs.Refusals.{values_by}
+use Rattle.dotenvy_words.proofs.FoundValues.{values_by}
 use Rattle.dotenvy_export_command.proofs.options.located.Goals as goal
 
 pub returns-in-Some-indices_of : goal.returns-in-Some-indices_of

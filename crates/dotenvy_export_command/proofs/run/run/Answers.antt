@@ -1,5 +1,5 @@
 use Rattle.std.proofs.Common.{lit<}
-use Rattle.dotenvy_export_command.specs.Answers.{texts}
+use Rattle.dotenvy_words.specs.Found.{texts}
 use Rattle.dotenvy_export_command.specs.Ends.{EndsExport, Prints}
 use Rattle.dotenvy_export_command.specs.Help.{help_text, version_text}
 use Rattle.dotenvy_export_command.proofs.Endings.{ends_failed, not_wrong, refusal_failed}

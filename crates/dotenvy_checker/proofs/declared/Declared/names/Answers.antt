@@ -1,5 +1,5 @@
 use Rattle.std.proofs.Common.{◌∙◌, ap}
-use Rattle.dotenvy_checker.specs.Answers.{texts}
+use Rattle.dotenvy_words.specs.Found.{texts}
 use Rattle.dotenvy_checker.specs.Folders.{is_among}
 use Rattle.dotenvy_checker.proofs.NamesAmong.{among_keys}
 use Rattle.dotenvy_checker.proofs.declared.Declared.names.Goals as goal

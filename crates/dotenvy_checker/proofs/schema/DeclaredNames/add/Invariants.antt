@@ -1,7 +1,7 @@
 use Rattle.std.proofs.Common.{◌≡◌}
 use Rattle.std.specs.Prelude.{◌||◌}
 use Rattle.clap.specs.Words.{Text}
-use Rattle.dotenvy_checker.specs.Answers.{texts}
+use Rattle.dotenvy_words.specs.Found.{texts}
 use Rattle.dotenvy_checker.specs.Findings.{has_value}
 use Rattle.dotenvy_checker.specs.Folders.{is_among}
 use Rattle.dotenvy_checker.specs.Schema.{names_of}

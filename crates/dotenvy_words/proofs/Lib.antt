@@ -1,0 +1,2 @@
+pub mod FoundValues
+mod Refusals
