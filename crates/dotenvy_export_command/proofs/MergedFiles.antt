@@ -1,5 +1,6 @@
 -- Files and optional files that are merged are there once, each kind in its order.
-use Rattle.std.proofs.lemmas.List.{drop-drop, drop_more, map-append, take-append-drop}
+use Rattle.std.proofs.lemmas.List.{drop-drop, drop_more, length-map, map-append, take-append-drop}
+use Rattle.std.proofs.lemmas.Option.{get_or_from_slice_get, slice_get-map, slice_get_read}
 use Rattle.std.proofs.Common.{◌≡◌, ℕ, ◌+◌, ◌<◌, suc, zero, arith, append_assoc, get_or, length, Bool, true, false, not, List, [], ◌∷◌, ◌++◌, ap, drop, map, refl, sym, take, ◌∙◌}
 use Rattle.std.specs.List.{filter}
 use Rattle.clap.specs.Words.{Text}
@@ -113,3 +114,13 @@ pub drop_map : {A B : Type 0} (f : A → B) (n : ℕ) (xs : List A) → drop n (
 drop_map f zero xs = refl
 drop_map f (suc n) [] = refl
 drop_map f (suc n) (x ∷ xs) = drop_map f n xs
+
+-- a file that is looked up is one of those that are placed
+pub looked_up : {A B : Type 0} (f : A → B) (all : List A) (next : ℕ) (file : A) →
+    (next < length all) × ((other : A) → file ≡ get_or all next other) →
+    (next < length (map f all)) × (get_or (map f all) next (f file) ≡ f file)
+looked_up f all next file found =
+    let there = slice_get_read all (length all) next file refl found.0 (found.1 file) in (
+      grind (arith, length-map, found.0),
+      get_or_from_slice_get (map f all) next (f file) (f file) (rw (slice_get-map f all next, there) refl),
+    )
