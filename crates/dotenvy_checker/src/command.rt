@@ -25,7 +25,7 @@ impl CommandLine for Checker {
     ghost none_refused = { none_refused };
 
     fn command<'a>(global: Global) -> Result<Command<'a>, AllocError> {
-        named(global, "dotenvy_check", "1.0.0")
+        named(global, "dotenvy_check")
             .arg(flag(global, "next"))?
             .arg(flag(global, "strict"))?
             .arg(quiet(global))?

@@ -25,7 +25,7 @@ impl CommandLine for Exporter {
     ghost none_refused = { none_refused };
 
     fn command<'a>(global: Global) -> Result<Command<'a>, AllocError> {
-        named(global, "dotenvy_export", "1.0.0")
+        named(global, "dotenvy_export")
             .arg(flag(global, "next"))?
             .arg(flag(global, "override"))?
             .arg(flag(global, "ignore-environment"))?

@@ -2,7 +2,7 @@
 use Rattle.std.specs.Prelude.{true, [], Some, codes}
 use Rattle.clap.specs.Words.{App, Rule, Text, new_rule}
 use Rattle.clap.specs.Simple.{new_shape}
-use Rattle.clap.specs.declared.builder.action.ArgAction.TheVariants.{Append, SetTrue}
+use Rattle.clap.specs.declared.builder.action.ArgAction.TheVariants.{Append, Set, SetTrue}
 
 -- a command without its options: it has a version, words begin after its name, and an option may be
 -- repeated
@@ -26,7 +26,7 @@ many_rule name = record (new_rule name) { long = Some name; action = Some Append
 
 -- an option with a value, whose last use counts
 abbrev pub one_rule : Text → Rule
-one_rule name = record (new_rule name) { long = Some name }
+one_rule name = record (new_rule name) { long = Some name; action = Some Set }
 
 -- the files
 abbrev pub file_rule : Rule

@@ -7,12 +7,13 @@ ghost use Rattle.dotenvy_words.specs.Rules.{file_rule, flag_rule, many_rule, nam
 use clap::{Arg, ArgAction, Command};
 use std::alloc::Global;
 
-/// A command without its options. Its words begin after the program's name, and an option may be repeated.
-pub fn named<'a>(global: Global, name: &'a str, version: &'a str) -> Command<'a>
+/// A command without its options. Its words begin after the program's name, and an option may be repeated. The program
+/// prints its version itself, so that the command needs none but an empty one, with which it knows `--version`.
+pub fn named<'a>(global: Global, name: &'a str) -> Command<'a>
     ensures { app_of result ≡ named name.now }
 {
     Command::new(global, name)
-        .version(version)
+        .version("")
         .no_binary_name(true)
         .args_override_self(true)
 }
@@ -38,7 +39,7 @@ pub fn one<'a>(global: Global, name: &'a str) -> Arg<'a>
     ensures rule { rule_of result ≡ one_rule name.now }
     ensures local { result.global ≡ false }
 {
-    Arg::new(global, name).long(name)
+    Arg::new(global, name).long(name).action(ArgAction::Set)
 }
 
 /// The files: each word that is neither an option nor a value, after those of the arguments before.

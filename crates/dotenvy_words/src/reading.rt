@@ -67,8 +67,8 @@ fn matches<'a, L: CommandLine, A: Allocator>(
     L::command(global)?.try_get_matches_from(words)
 }
 
-// The kind of mistake that is told of words which this one refuses: that of their first words, unless these ask for help
-// or the version.
+// The kind of mistake that is told of words which this one refuses: that of their first words, unless these ask for
+// help or the version.
 fn told_kind<L: CommandLine, A: Allocator>(
     global: Global,
     front: &[String<A>],
