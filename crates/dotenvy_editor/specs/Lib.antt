@@ -1,0 +1,14 @@
+pub mod Slices
+pub mod TakenSlices
+pub mod Assignments
+pub mod Forms
+pub mod Portable
+pub mod Lines
+pub mod Ends
+pub mod Edits
+pub mod Refusals
+pub mod Warnings
+pub mod Tails
+pub mod Told
+pub mod Laws
+pub mod inside

@@ -1,0 +1,5 @@
+pub mod Tried
+pub mod Changing
+pub mod Noted
+pub mod Changed
+pub mod Telling
