@@ -57,13 +57,15 @@ static void check(bool holds, const char *what, int line) {
 }
 #define CHECK(condition) check((condition), #condition, __LINE__)
 
-enum { BUFFER = 4096, ITEMS = 64, UNWRITTEN = 0xA5 };
+enum { BUFFER = 4096, ITEMS = 64, WARNINGS = 16, UNWRITTEN = 0xA5 };
 static uint8_t out[BUFFER];
 static struct dotenvy_item items[ITEMS];
+static struct dotenvy_warning warnings[WARNINGS];
 
 static void clear(void) {
     memset(out, UNWRITTEN, sizeof out);
     memset(items, UNWRITTEN, sizeof items);
+    memset(warnings, UNWRITTEN, sizeof warnings);
 }
 
 /* Whether nothing was written from this byte of `out` on. */
@@ -73,13 +75,17 @@ static bool untouched_from(size_t at) {
     return true;
 }
 
-/* Whether no item was written from this one on. */
-static bool no_items_from(size_t at) {
-    const uint8_t *bytes = (const uint8_t *)items;
-    for (size_t i = at * sizeof items[0]; i < sizeof items; i++)
-        if (bytes[i] != UNWRITTEN) return false;
+/* Whether none of these records was written from this byte of theirs on. */
+static bool unwritten(const void *records, size_t from, size_t size) {
+    const uint8_t *bytes = records;
+    for (; from < size; from++)
+        if (bytes[from] != UNWRITTEN) return false;
     return true;
 }
+
+/* Whether no item, or no warning, was written from this one on. */
+static bool no_items_from(size_t at) { return unwritten(items, at * sizeof items[0], sizeof items); }
+static bool no_warnings_from(size_t at) { return unwritten(warnings, at * sizeof warnings[0], sizeof warnings); }
 
 static bool is_at(size_t at, const char *bytes, size_t length) { return memcmp(out + at, bytes, length) == 0; }
 
@@ -131,6 +137,77 @@ static void loads(struct bytes file, struct bytes block, uint32_t options, uint3
 }
 #define LOADS(file, block, options, status, left, text, index) \
     loads(BYTES(file), BYTES(block), options, status, BYTES(left), BYTES(text), index, __LINE__)
+
+/* What is asked of a file, and how. A call with no value unsets. */
+struct edit_call {
+    struct bytes file, key, value;
+    bool sets;
+    uint32_t options;
+};
+#define SET(file, key, value, options) ((struct edit_call){BYTES(file), BYTES(key), BYTES(value), true, options})
+#define UNSET(file, key, options) ((struct edit_call){BYTES(file), BYTES(key), BYTES(""), false, options})
+
+static struct dotenvy_edit edit(struct edit_call call, size_t warnings_len, size_t out_len) {
+    const uint8_t *file = (const uint8_t *)call.file.at, *key = (const uint8_t *)call.key.at;
+    clear();
+    if (!call.sets)
+        return dotenvy_unset(file, call.file.length, key, call.key.length, call.options, warnings, warnings_len, out,
+                             out_len);
+    return dotenvy_set(file, call.file.length, key, call.key.length, (const uint8_t *)call.value.at, call.value.length,
+                       call.options, warnings, warnings_len, out, out_len);
+}
+
+/* Whether an answer tells this new file, and so many warnings with so many bytes of names. */
+static bool tells(struct dotenvy_edit e, size_t file_len, size_t count, size_t names_len) {
+    return e.status == DOTENVY_OK && e.line == 0 && e.file_len == file_len && e.warnings == count
+           && e.names_len == names_len;
+}
+
+/* An edit that leaves this file, and tells so many warnings with these names; with ample buffers, with exact ones, and
+ * with one that is a byte, or a warning, too short. */
+static void edits(struct edit_call call, struct bytes left, size_t count, struct bytes names, int line) {
+    size_t need = left.length + names.length;
+    struct dotenvy_edit e = edit(call, WARNINGS, BUFFER);
+    check(tells(e, left.length, count, names.length), "the new file and its warnings are told", line);
+    check(e.fits, "they fit ample buffers", line);
+    check(is_at(0, left.at, left.length), "the new file", line);
+    check(is_at(left.length, names.at, names.length), "the names after it", line);
+    check(untouched_from(need) && no_warnings_from(count), "nothing is written after them", line);
+
+    e = edit(call, count, need);
+    check(e.fits && tells(e, left.length, count, names.length) && is_at(0, left.at, left.length)
+              && is_at(left.length, names.at, names.length) && untouched_from(need) && no_warnings_from(count),
+          "exact buffers serve", line);
+    if (need > 0) {
+        e = edit(call, count, need - 1);
+        check(!e.fits && tells(e, left.length, count, names.length), "one byte short: the lengths are told", line);
+        check(untouched_from(0) && no_warnings_from(0), "one byte short: nothing is written", line);
+    }
+    if (count > 0) {
+        e = edit(call, count - 1, need);
+        check(!e.fits && tells(e, left.length, count, names.length), "one warning short: the lengths are told", line);
+        check(untouched_from(0) && no_warnings_from(0), "one warning short: nothing is written", line);
+    }
+}
+#define EDITS(call, left) edits(call, BYTES(left), 0, BYTES(""), __LINE__)
+#define WARNS(call, left, count, names) edits(call, BYTES(left), count, BYTES(names), __LINE__)
+
+/* An edit that is refused for this reason, at this line, and writes nothing. */
+static void refuses(struct edit_call call, uint32_t status, uint64_t at_line, int line) {
+    struct dotenvy_edit e = edit(call, WARNINGS, BUFFER);
+    check(e.status == status && e.line == at_line, "the reason and its line", line);
+    check(!e.fits && e.file_len == 0 && e.names_len == 0 && e.warnings == 0, "no lengths are told", line);
+    check(untouched_from(0) && no_warnings_from(0), "nothing is written", line);
+}
+#define REFUSES(call, status, at_line) refuses(call, status, at_line, __LINE__)
+
+/* Whether this warning is of this kind, has this name, and is on these lines. */
+static bool warning_is(size_t at, uint32_t kind, const char *name, uint64_t first, uint64_t last) {
+    const struct dotenvy_warning *warning = &warnings[at];
+    return warning->kind == kind && warning->name_len == strlen(name)
+           && is_at(warning->name_at, name, warning->name_len) && warning->first_line == first
+           && warning->last_line == last;
+}
 
 /* Whether this item has this status, key, text and index, and is on these lines. */
 static bool item_is(size_t at, uint32_t status, const char *key, const char *text, size_t index, uint64_t first, uint64_t last) {
@@ -246,6 +323,111 @@ static void test_items(void) {
     CHECK(c.items == 1 && item_is(0, DOTENVY_OK, "A", "1", 0, 1, 1));
 }
 
+static void test_sets(void) {
+    EDITS(SET("A=1\n", "A", "2", 0), "A=2\n");
+    EDITS(SET("", "A", "1", 0), "A=1\n");
+    /* All but the value stays. */
+    EDITS(SET("  export A = 1   # port\nB=2\n", "A", "2", 0), "  export A = 2   # port\nB=2\n");
+    EDITS(SET("A=1\r\nB=2\r\n", "A", "2", 0), "A=2\r\nB=2\r\n");
+    EDITS(SET("\xEF\xBB\xBF" "A=1\n", "A", "2", 0), "\xEF\xBB\xBF" "A=2\n");
+    EDITS(SET("B=1\r\nC=2", "A", "3", 0), "B=1\r\nC=2\r\nA=3\r\n");
+    EDITS(SET("A=#fff\n", "A", "#eee", 0), "A='#eee' #fff\n");
+    EDITS(SET("A=1\nB=\"x\n", "A", "2", 0), "A=2\nB=\"x\n");
+    /* The value that is there already, and the forms of others. */
+    EDITS(SET("A='1'\n", "A", "1", 0), "A='1'\n");
+    EDITS(SET("A=1\n", "A", "two words", 0), "A='two words'\n");
+    EDITS(SET("A=1\n", "A", "it's \"x\"", 0), "A=\"it's \\\"x\\\"\"\n");
+    EDITS(SET("A=1\n", "A", "", 0), "A=\n");
+    EDITS(SET("A=1\n", "A", "\xC3\xA9", 0), "A='\xC3\xA9'\n");
+    /* Portable: a line feed is one line, and two backslashes have no form. */
+    EDITS(SET("A=1\n", "A", "x\ny", 0), "A='x\ny'\n");
+    EDITS(SET("A=1\n", "A", "x\ny", DOTENVY_PORTABLE), "A=\"x\\ny\"\n");
+    EDITS(SET("A=1\n", "A", "a\\\\b", 0), "A='a\\\\b'\n");
+    REFUSES(SET("A=1\n", "A", "a\\\\b", DOTENVY_PORTABLE), DOTENVY_UNPORTABLE_BACKSLASHES, 0);
+}
+
+static void test_unsets(void) {
+    EDITS(UNSET("# port\nA=1 # c\nB=2\n", "A", 0), "# port\nB=2\n");
+    EDITS(UNSET("A=1", "A", 0), "");
+    EDITS(UNSET("A=1\n\xEF\xBB\xBF" "B=2\n", "A", 0), "\n\xEF\xBB\xBF" "B=2\n");
+    REFUSES(UNSET("B=1\n", "A", 0), DOTENVY_ABSENT, 0);
+    REFUSES(UNSET("", "A", 0), DOTENVY_ABSENT, 0);
+    REFUSES(UNSET("A=1  # it's\nB=it's\n", "A", 0), DOTENVY_LONG_COMMENT, 1);
+    REFUSES(UNSET("B=1\nA=1 # \xE9\n", "A", 0), DOTENVY_UNREADABLE, 2);
+}
+
+/* Each reason, with its line. */
+static void test_refused_edits(void) {
+    REFUSES(SET("A=1\n", "1A", "2", 0), DOTENVY_NO_KEY, 0);
+    REFUSES(SET("A=1\n", "", "2", 0), DOTENVY_NO_KEY, 0);
+    REFUSES(SET("A=1\n", "\xFF", "2", 0), DOTENVY_NO_KEY, 0);
+    REFUSES(SET("A=1\n", "\xFF", "\xFF", 0), DOTENVY_NO_KEY, 0);
+    REFUSES(UNSET("A=1\n", "A B", 0), DOTENVY_NO_KEY, 0);
+    REFUSES(UNSET("A=1\n", "\xFF", 0), DOTENVY_NO_KEY, 0);
+    REFUSES(SET("A=1\n", "A", "\xFF", 0), DOTENVY_NOT_UTF8, 0);
+    REFUSES(SET("A=1\n", "A", "x\0y", 0), DOTENVY_NUL, 0);
+    REFUSES(SET("B=1\nC=\"x\n", "A", "1", 0), DOTENVY_QUOTE_OPEN, 2);
+    REFUSES(SET("B=1\nC=x\\", "A", "1", 0), DOTENVY_END_OPEN, 2);
+    REFUSES(SET("B=1\nC=x ", "A", "1", 0), DOTENVY_END_OPEN, 2);
+    REFUSES(SET("B=1\nA=\"x\n", "A", "1", 0), DOTENVY_UNREADABLE, 2);
+    REFUSES(SET("A=1 # \xE9\n", "A", "1", 0), DOTENVY_UNREADABLE, 1);
+    REFUSES(SET("B=1\nA=$B  # it's\nC=it's\n", "A", "v", 0), DOTENVY_LONG_COMMENT, 2);
+    REFUSES(SET("A=1\nA=2  # it's\nB=it's\n", "A", "3", 0), DOTENVY_LONG_COMMENT, 2);
+    REFUSES(SET("\xEF\xBB\xBF" "A=1\n", "A", "2", DOTENVY_PORTABLE), DOTENVY_UNPORTABLE_MARK, 1);
+    REFUSES(SET("A=1\n", "A", "x\ry", DOTENVY_PORTABLE), DOTENVY_UNPORTABLE_CARRIAGE_RETURN, 0);
+    REFUSES(SET("A=1\n", "A", "it's $5", DOTENVY_PORTABLE), DOTENVY_UNPORTABLE_APOSTROPHE, 0);
+    REFUSES(SET("A=1\n", "A", "x\n$y", DOTENVY_PORTABLE), DOTENVY_UNPORTABLE_LINE_FEED, 0);
+    REFUSES(SET("A=1\n", "A", "a\\", DOTENVY_PORTABLE), DOTENVY_UNPORTABLE_LAST_BACKSLASH, 0);
+    REFUSES(SET("A=1\n", "A", "${B}", DOTENVY_PORTABLE), DOTENVY_UNPORTABLE_SUBSTITUTION, 0);
+    REFUSES(SET("B=1\nA='v' # 'q'\n", "A", "a\"b c", DOTENVY_PORTABLE), DOTENVY_UNPORTABLE_COMMENT, 2);
+    REFUSES(SET("B=1\nA='v'\t# 'q'\n", "A", "a\"b c", DOTENVY_PORTABLE), DOTENVY_UNPORTABLE_WHITE_SPACE, 2);
+    /* Unknown options come first. */
+    static const uint32_t bad[] = {1, 4, 16, 11, 0x80000000u, 0xFFFFFFFFu};
+    for (size_t i = 0; i < sizeof bad / sizeof bad[0]; i++) {
+        REFUSES(SET("A=1\n", "\xFF", "\xFF", bad[i]), DOTENVY_BAD_OPTION, 0);
+        REFUSES(UNSET("A=1\n", "\xFF", bad[i]), DOTENVY_BAD_OPTION, 0);
+    }
+    REFUSES(UNSET("A=1\n", "A", DOTENVY_PORTABLE), DOTENVY_BAD_OPTION, 0);
+}
+
+static void test_warnings(void) {
+    WARNS(SET("A=1\nB=$A\nlong=$B\n", "A", "2", 0), "A=2\nB=$A\nlong=$B\n", 2, "Blong");
+    edit(SET("A=1\nB=$A\nlong=$B\n", "A", "2", 0), WARNINGS, BUFFER);
+    CHECK(warning_is(0, DOTENVY_MENTIONS, "B", 2, 2) && warnings[0].name_at == 17);
+    CHECK(warning_is(1, DOTENVY_MENTIONS, "long", 3, 3) && warnings[1].name_at == 18);
+
+    WARNS(SET("-\nA=1\nA=\"x\ny\"\n", "A", "$B", 0), "-\nA='$B'\n", 3, "");
+    edit(SET("-\nA=1\nA=\"x\ny\"\n", "A", "$B", 0), WARNINGS, BUFFER);
+    CHECK(warning_is(0, DOTENVY_DOLLAR, "", 0, 0));
+    CHECK(warning_is(1, DOTENVY_STOPS_BEFORE, "", 1, 1));
+    CHECK(warning_is(2, DOTENVY_REMOVED, "", 3, 4));
+
+    WARNS(UNSET("A=1\nB=$A/x\n", "A", 0), "B=$A/x\n", 1, "B");
+    /* In the second dialect another name is mentioned. */
+    EDITS(SET("A=1\nB=$A_B\n", "A", "2", DOTENVY_NEXT_DIALECT), "A=2\nB=$A_B\n");
+    WARNS(SET("A=1\nB=$A_B\n", "A", "2", 0), "A=2\nB=$A_B\n", 1, "B");
+    EDITS(UNSET("A=1\nB=$A_B\n", "A", DOTENVY_NEXT_DIALECT), "B=$A_B\n");
+}
+
+/* Refuses each request of this edit in turn: the call answers so, writes nothing, and gives back all that it took.
+ * Returns how many requests there are. */
+static size_t refuse_in_edit(struct edit_call call) {
+    size_t last = 0;
+    for (refuse_at = 1;; refuse_at++) {
+        requests = 0;
+        struct dotenvy_edit e = edit(call, WARNINGS, BUFFER);
+        CHECK(blocks == 0);
+        if (requests < refuse_at) {
+            CHECK(e.fits && e.status == DOTENVY_OK && e.warnings == 2);
+            refuse_at = 0;
+            return last;
+        }
+        last = refuse_at;
+        CHECK(e.status == DOTENVY_NO_MEMORY && !e.fits && e.line == 0 && e.file_len == 0 && e.names_len == 0);
+        CHECK(e.warnings == 0 && untouched_from(0) && no_warnings_from(0));
+    }
+}
+
 /* Refuses each request of a load and of a call for items in turn: the call answers so, writes nothing, and gives back
  * all that it took. The first number that no request has is the one after the last. */
 static void test_refused_memory(void) {
@@ -279,6 +461,8 @@ static void test_refused_memory(void) {
     refuse_at = 0;
     /* Each of the loops met requests. */
     CHECK(first_of_load > 10 && first_of_items > 10);
+    CHECK(refuse_in_edit(SET("A=1\nB=$A\nC=$B\n", "A", "a longer value, with blanks", 0)) > 5);
+    CHECK(refuse_in_edit(UNSET("A=1\nB=$A\nC=$B\n", "A", 0)) > 5);
 }
 
 static uint64_t number_at(const void *from, size_t at, size_t size) {
@@ -302,6 +486,13 @@ static void test_layout_of_archive(void) {
     CHECK(number_at(second, 0, 4) == 1 && number_at(second, 8, 8) == 5 && number_at(second, 16, 8) == 0);
     CHECK(number_at(second, 24, 8) == 3 && number_at(second, 32, 8) == 2);
     CHECK(number_at(second, 40, 8) == 3 && number_at(second, 48, 8) == 3);
+    struct dotenvy_edit e = edit(SET("A=1\nlong=$A\n", "A", "22", 0), WARNINGS, BUFFER);
+    CHECK(sizeof e == 40 && number_at(&e, 0, 4) == 0 && number_at(&e, 4, 1) == 1 && number_at(&e, 8, 8) == 0);
+    CHECK(number_at(&e, 16, 8) == 13 && number_at(&e, 24, 8) == 4 && number_at(&e, 32, 8) == 1);
+    CHECK(sizeof warnings[0] == 40 && number_at(warnings, 0, 4) == 1 && number_at(warnings, 8, 8) == 13);
+    CHECK(number_at(warnings, 16, 8) == 4 && number_at(warnings, 24, 8) == 2 && number_at(warnings, 32, 8) == 2);
+    e = edit(UNSET("B=1\nA=1 # \xE9\n", "A", 0), WARNINGS, BUFFER);
+    CHECK(number_at(&e, 0, 4) == 11 && number_at(&e, 4, 1) == 0 && number_at(&e, 8, 8) == 2);
 }
 
 #define FIELD(type, field) \
@@ -328,6 +519,19 @@ static void print_layout(void) {
     FIELD(dotenvy_counts, fits);
     FIELD(dotenvy_counts, items);
     FIELD(dotenvy_counts, text_len);
+    printf("\nedit %d", (int)sizeof(struct dotenvy_edit));
+    FIELD(dotenvy_edit, status);
+    FIELD(dotenvy_edit, fits);
+    FIELD(dotenvy_edit, line);
+    FIELD(dotenvy_edit, file_len);
+    FIELD(dotenvy_edit, names_len);
+    FIELD(dotenvy_edit, warnings);
+    printf("\nwarning %d", (int)sizeof(struct dotenvy_warning));
+    FIELD(dotenvy_warning, kind);
+    FIELD(dotenvy_warning, name_at);
+    FIELD(dotenvy_warning, name_len);
+    FIELD(dotenvy_warning, first_line);
+    FIELD(dotenvy_warning, last_line);
     printf("\n");
 }
 
@@ -391,6 +595,10 @@ int main(int argc, char **argv) {
     test_loads();
     test_refused_options();
     test_items();
+    test_sets();
+    test_unsets();
+    test_refused_edits();
+    test_warnings();
     test_refused_memory();
     test_many_names();
     test_layout_of_archive();

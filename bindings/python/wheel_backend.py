@@ -19,7 +19,7 @@ from pathlib import Path
 
 HERE = Path(__file__).resolve().parent
 SHARED = "libdotenvy.so.1"
-PROGRAMS = ("dotenvy_check", "dotenvy_exec", "dotenvy_export", "dotenvy_run")
+PROGRAMS = ("dotenvy_check", "dotenvy_edit", "dotenvy_exec", "dotenvy_export", "dotenvy_run")
 # No file of a zip archive can be older.
 FIRST_TIME = 315_532_800
 

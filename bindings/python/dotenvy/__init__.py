@@ -1,11 +1,11 @@
-"""Reads environment files (`.env`) by a proved library.
+"""Reads and edits environment files (`.env`) by a proved library.
 
     from dotenvy import load_dotenv
 
     load_dotenv()    # the variables of .env are in os.environ; those that exist keep their values
 
-The file format is that of the Rust crate dotenvy 0.15; docs/GRAMMAR.md says all of it. What is proved is the parsing
-and which value counts; searching for files and reading them is Python's.
+The file format is that of the Rust crate dotenvy 0.15; docs/GRAMMAR.md says all of it. What is proved is the parsing,
+which value counts, and what an edit makes of bytes; searching for files, reading and replacing them is Python's.
 """
 
 from __future__ import annotations
@@ -18,19 +18,26 @@ from pathlib import Path
 from typing import Union
 
 from . import _library
+from ._edit import EditError, Refusal, UnsupportedError, check_encoding, check_form, edit_file
 
 __all__ = [
     "Dialect",
     "DotenvError",
+    "EditError",
     "LineParseError",
     "NotUtf8Error",
     "NulError",
     "Pair",
+    "Refusal",
+    "UnsupportedError",
     "dotenv_items",
     "dotenv_values",
     "find_dotenv",
+    "get_key",
     "is_key",
     "load_dotenv",
+    "set_key",
+    "unset_key",
 ]
 
 Source = Union[str, "os.PathLike[str]", bytes]
@@ -240,3 +247,79 @@ def find_dotenv(filename: str = ".env", raise_error_if_not_found: bool = False) 
     if raise_error_if_not_found:
         raise FileNotFoundError(f"no {filename} in {here} or above it")
     return ""
+
+
+def set_key(
+    dotenv_path: str | os.PathLike[str],
+    key_to_set: str,
+    value_to_set: str,
+    quote_mode: str = "always",
+    export: bool = False,
+    encoding: str | None = "utf-8",
+    follow_symlinks: bool = False,
+    *,
+    dialect: Dialect = Dialect.V15,
+    portable: bool = False,
+) -> tuple[bool, str, str]:
+    """Sets a key of a file to a value, and keeps every other byte; returns True, the key and the value.
+
+    The first line that assigns the key gets the value, and later ones go; where none does, a line is appended. Where
+    there is no file, one is made that only its owner can read. The value is text: it reads back as it is, in quotes
+    where it needs them. With `portable` it is written as Python's, Node's and Ruby's libraries read it, too.
+
+    What is refused raises `EditError`, and what else is to be known of the edit is logged, by the logger `dotenvy`. The
+    file is replaced as a whole, and not written where nothing changes. A symbolic link raises `OSError`, unless
+    `follow_symlinks` is set; then the file that it leads to is edited.
+
+    The arguments up to `follow_symlinks` are those of python-dotenv. `quote_mode` may be "always" or "auto", which mean
+    the same here. "never", `export` and an encoding other than UTF-8 raise `UnsupportedError`.
+    """
+    check_encoding(encoding)
+    check_form(quote_mode, export)
+    key, value = key_to_set.encode(errors="surrogatepass"), value_to_set.encode(errors="surrogatepass")
+    options = dialect.value | (_library.PORTABLE if portable else 0)
+    edit_file(
+        dotenv_path, key_to_set, follow_symlinks, lambda file: _library.set_value(file, key, value, options)
+    )
+    return True, key_to_set, value_to_set
+
+
+def unset_key(
+    dotenv_path: str | os.PathLike[str],
+    key_to_unset: str,
+    quote_mode: str = "always",
+    encoding: str | None = "utf-8",
+    follow_symlinks: bool = False,
+    *,
+    dialect: Dialect = Dialect.V15,
+) -> tuple[bool | None, str]:
+    """Removes the lines that assign a key, and keeps every other byte; returns True and the key.
+
+    Where no line assigns it, or there is no file, it returns None and the key, and nothing is written. `quote_mode`
+    means nothing, as in python-dotenv. All else is as in `set_key`.
+    """
+    check_encoding(encoding)
+    key = key_to_unset.encode(errors="surrogatepass")
+    is_removed = edit_file(
+        dotenv_path, key_to_unset, follow_symlinks, lambda file: _library.unset(file, key, dialect.value)
+    )
+    return (True if is_removed else None), key_to_unset
+
+
+def get_key(
+    dotenv_path: str | os.PathLike[str],
+    key_to_get: str,
+    encoding: str | None = "utf-8",
+    *,
+    dialect: Dialect = Dialect.V15,
+) -> str | None:
+    """The value of a key, or None if the file doesn't declare it, or there is no file.
+
+    It is the last one that the file declares, as `dotenv_values` of this path has it. An encoding other than UTF-8
+    raises `UnsupportedError`.
+    """
+    check_encoding(encoding)
+    try:
+        return dotenv_values(os.fsdecode(dotenv_path), dialect=dialect).get(key_to_get)
+    except FileNotFoundError:
+        return None

@@ -10,7 +10,12 @@ from pathlib import Path
 from typing import NamedTuple
 
 OK, LINE_PARSE, NOT_UTF8, NUL, TOO_MANY_READS, NO_MEMORY, BAD_OPTION = range(7)
-OVERRIDE, NEXT_DIALECT, DROP_MARK = 1, 2, 4
+NO_KEY, ABSENT, QUOTE_OPEN, END_OPEN, UNREADABLE, LONG_COMMENT = range(7, 13)
+UNPORTABLE_MARK, UNPORTABLE_CARRIAGE_RETURN, UNPORTABLE_APOSTROPHE, UNPORTABLE_LINE_FEED = range(13, 17)
+UNPORTABLE_BACKSLASHES, UNPORTABLE_LAST_BACKSLASH, UNPORTABLE_SUBSTITUTION, UNPORTABLE_COMMENT = range(17, 21)
+UNPORTABLE_WHITE_SPACE = 22
+OVERRIDE, NEXT_DIALECT, DROP_MARK, PORTABLE = 1, 2, 4, 8
+MENTIONS, STOPS_BEFORE, REMOVED, DOLLAR = 1, 2, 3, 4
 
 
 class Answer(ctypes.Structure):
@@ -47,6 +52,31 @@ class Counts(ctypes.Structure):
         ("fits", ctypes.c_bool),
         ("items", ctypes.c_size_t),
         ("text_len", ctypes.c_size_t),
+    ]
+
+
+class Edit(ctypes.Structure):
+    """`struct dotenvy_edit`."""
+
+    _fields_ = [
+        ("status", ctypes.c_uint32),
+        ("fits", ctypes.c_bool),
+        ("line", ctypes.c_uint64),
+        ("file_len", ctypes.c_size_t),
+        ("names_len", ctypes.c_size_t),
+        ("warnings", ctypes.c_size_t),
+    ]
+
+
+class ToldWarning(ctypes.Structure):
+    """`struct dotenvy_warning`."""
+
+    _fields_ = [
+        ("kind", ctypes.c_uint32),
+        ("name_at", ctypes.c_size_t),
+        ("name_len", ctypes.c_size_t),
+        ("first_line", ctypes.c_uint64),
+        ("last_line", ctypes.c_uint64),
     ]
 
 
@@ -89,6 +119,11 @@ def _open() -> ctypes.CDLL:
     library.dotenvy_items.argtypes = [
         *bytes_in, *bytes_in, ctypes.c_uint32, ctypes.POINTER(Item), ctypes.c_size_t, *buffer
     ]
+    results = [ctypes.POINTER(ToldWarning), ctypes.c_size_t, *buffer]
+    library.dotenvy_set.restype = Edit
+    library.dotenvy_set.argtypes = [*bytes_in, *bytes_in, *bytes_in, ctypes.c_uint32, *results]
+    library.dotenvy_unset.restype = Edit
+    library.dotenvy_unset.argtypes = [*bytes_in, *bytes_in, ctypes.c_uint32, *results]
     return library
 
 
@@ -116,6 +151,24 @@ class Record(NamedTuple):
     index: int
     first_line: int
     last_line: int
+
+
+class Note(NamedTuple):
+    """A warning of an edit: its kind, its name if it has one, and its lines."""
+
+    kind: int
+    name: bytes
+    first_line: int
+    last_line: int
+
+
+class Edited(NamedTuple):
+    """The new file of an edit; or, if its status is not `OK`, why it is refused, and the line at fault."""
+
+    status: int
+    line: int
+    file: bytes
+    notes: list[Note]
 
 
 def _refuse(status: int) -> None:
@@ -184,3 +237,32 @@ def items(file: bytes, block: bytes, options: int = 0) -> list[Record]:
         text_end = text_at + text_len
         records.append(Record(status, written[key_at:text_at], written[text_at:text_end], *others))
     return records
+
+
+def _edited(call, room: int, *arguments) -> Edited:
+    count, size = 16, room + 256
+    while True:
+        found, out = (ToldWarning * count)(), ctypes.create_string_buffer(size)
+        edit = call(*arguments, found, count, out, size)
+        _refuse(edit.status)
+        if edit.fits or edit.status != OK:
+            break
+        count, size = max(edit.warnings, 1), edit.file_len + edit.names_len
+    written = ctypes.string_at(out, edit.file_len + edit.names_len)
+    notes = []
+    for told in found[:edit.warnings]:
+        name = written[told.name_at:told.name_at + told.name_len]
+        notes.append(Note(told.kind, name, told.first_line, told.last_line))
+    return Edited(edit.status, edit.line, written[:edit.file_len], notes)
+
+
+def set_value(file: bytes, key: bytes, value: bytes, options: int = 0) -> Edited:
+    """Sets a key of a file to a value."""
+    room = len(file) + len(key) + 2 * len(value)
+    given = file, len(file), key, len(key), value, len(value), options
+    return _edited(_library.dotenvy_set, room, *given)
+
+
+def unset(file: bytes, key: bytes, options: int = 0) -> Edited:
+    """Unsets a key of a file."""
+    return _edited(_library.dotenvy_unset, len(file), file, len(file), key, len(key), options)

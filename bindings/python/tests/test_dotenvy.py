@@ -230,8 +230,8 @@ class Library(unittest.TestCase):
 
     def test_the_shared_object_exports_the_calls_alone(self):
         names = defined_names(Path(_library.__file__).with_name("libdotenvy.so.1").read_bytes())
-        calls = {"dotenvy_is_key", "dotenvy_items", "dotenvy_load", "dotenvy_version"}
-        self.assertEqual(names, calls)
+        calls = {"is_key", "items", "load", "set", "unset", "version"}
+        self.assertEqual(names, {f"dotenvy_{call}" for call in calls})
 
     def test_lesser_processors(self):
         features = "fpu cx16 lahf_lm popcnt pni ssse3 sse4_1 sse4_2 avx"
@@ -247,7 +247,13 @@ class Library(unittest.TestCase):
                 _library._check_processor()
 
     def test_layout(self):
-        structs = {"answer": _library.Answer, "item": _library.Item, "counts": _library.Counts}
+        structs = {
+            "answer": _library.Answer,
+            "item": _library.Item,
+            "counts": _library.Counts,
+            "edit": _library.Edit,
+            "warning": _library.ToldWarning,
+        }
         wanted = LAYOUT.read_text().splitlines()
         self.assertEqual(len(wanted), len(structs))
         for line in wanted:

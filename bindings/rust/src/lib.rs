@@ -1,4 +1,4 @@
-//! Reads environment files (`.env`) by a proved library.
+//! Reads and edits environment files (`.env`) by a proved library.
 //!
 //! ```no_run
 //! // A variable that exists wins, and a service needs no .env.
@@ -12,6 +12,8 @@
 //! proved is the parsing and which value counts, in the library that this crate links. Searching, reading and setting
 //! variables is done here, in ordinary Rust.
 //!
+//! [`edit`] changes one key of a file, and keeps every other byte.
+//!
 //! What differs from that crate:
 //!
 //! - A reader is read whole before its first item, and what names in values mean is settled then.
@@ -20,9 +22,11 @@
 //! Setting variables while other threads read them is as unsafe as it is with `std::env::set_var`: load before you
 //! start threads.
 
+pub mod edit;
 mod error;
 mod iter;
 mod library;
+mod replace;
 
 pub use error::{Error, Result};
 pub use iter::Iter;

@@ -9,9 +9,34 @@ pub const LINE_PARSE: u32 = 1;
 pub const NOT_UTF8: u32 = 2;
 pub const NUL: u32 = 3;
 pub const NO_MEMORY: u32 = 5;
+pub const NO_KEY: u32 = 7;
+pub const ABSENT: u32 = 8;
+pub const QUOTE_OPEN: u32 = 9;
+pub const END_OPEN: u32 = 10;
+pub const UNREADABLE: u32 = 11;
+pub const LONG_COMMENT: u32 = 12;
+pub const UNPORTABLE_MARK: u32 = 13;
+pub const UNPORTABLE_CARRIAGE_RETURN: u32 = 14;
+pub const UNPORTABLE_APOSTROPHE: u32 = 15;
+pub const UNPORTABLE_LINE_FEED: u32 = 16;
+pub const UNPORTABLE_BACKSLASHES: u32 = 17;
+pub const UNPORTABLE_LAST_BACKSLASH: u32 = 18;
+pub const UNPORTABLE_SUBSTITUTION: u32 = 19;
+pub const UNPORTABLE_COMMENT: u32 = 20;
+pub const UNPORTABLE_WHITE_SPACE: u32 = 22;
 
 /// `dotenvy_load`: a name that is there gets the value of the file.
 pub const OVERRIDE: u32 = 1;
+
+/// The second dialect.
+pub const NEXT_DIALECT: u32 = 2;
+
+/// `dotenvy_set`: a line that the readers of Python, Node and Ruby read alike.
+pub const PORTABLE: u32 = 8;
+
+pub const MENTIONS: u32 = 1;
+pub const STOPS_BEFORE: u32 = 2;
+pub const REMOVED: u32 = 3;
 
 #[repr(C)]
 struct Answer {
@@ -42,6 +67,26 @@ struct Counts {
     text_len: usize,
 }
 
+#[repr(C)]
+struct Edit {
+    status: u32,
+    fits: bool,
+    line: u64,
+    file_len: usize,
+    names_len: usize,
+    warnings: usize,
+}
+
+#[repr(C)]
+#[derive(Clone, Copy, Default)]
+struct ToldWarning {
+    kind: u32,
+    name_at: usize,
+    name_len: usize,
+    first_line: u64,
+    last_line: u64,
+}
+
 extern "C" {
     fn dotenvy_load(
         file: *const u8,
@@ -64,6 +109,32 @@ extern "C" {
         out: *mut u8,
         out_len: usize,
     ) -> Counts;
+
+    fn dotenvy_set(
+        file: *const u8,
+        file_len: usize,
+        key: *const u8,
+        key_len: usize,
+        value: *const u8,
+        value_len: usize,
+        options: u32,
+        warnings: *mut ToldWarning,
+        warnings_len: usize,
+        out: *mut u8,
+        out_len: usize,
+    ) -> Edit;
+
+    fn dotenvy_unset(
+        file: *const u8,
+        file_len: usize,
+        key: *const u8,
+        key_len: usize,
+        options: u32,
+        warnings: *mut ToldWarning,
+        warnings_len: usize,
+        out: *mut u8,
+        out_len: usize,
+    ) -> Edit;
 }
 
 /// What a load leaves, and the error at which it stopped, if its status is not `OK`.
@@ -96,6 +167,22 @@ pub struct Record {
     pub key: Vec<u8>,
     pub text: Vec<u8>,
     pub index: usize,
+}
+
+/// A warning of an edit.
+pub struct Note {
+    pub kind: u32,
+    pub name: Vec<u8>,
+    pub first_line: u64,
+    pub last_line: u64,
+}
+
+/// The new file of an edit; or, if its status is not `OK`, why it is refused, and the line at fault.
+pub struct Edited {
+    pub status: u32,
+    pub line: u64,
+    pub file: Vec<u8>,
+    pub notes: Vec<Note>,
 }
 
 /// Whether the processor has what the code of the library needs (x86-64-v2). On a lesser one a call would end the process
@@ -198,6 +285,84 @@ fn record(item: &Item, out: &[u8]) -> Record {
     }
 }
 
+// What an edit leaves, by a call that writes to these buffers: so many bytes are likely to do.
+fn edited(
+    room: usize,
+    mut call: impl FnMut(&mut Vec<ToldWarning>, &mut Vec<u8>) -> Edit,
+) -> Edited {
+    let mut warnings = vec![ToldWarning::default(); 16];
+    let mut out = vec![0; room + 256];
+    loop {
+        let edit = call(&mut warnings, &mut out);
+        if edit.fits || edit.status != OK {
+            let told = &warnings[..edit.warnings];
+            let notes = told.iter().map(|warning| note(warning, &out)).collect();
+            out.truncate(edit.file_len);
+            return Edited {
+                status: edit.status,
+                line: edit.line,
+                file: out,
+                notes,
+            };
+        }
+        let need = edit.file_len + edit.names_len;
+        assert!(
+            edit.warnings > warnings.len() || need > out.len(),
+            "more room is asked for"
+        );
+        warnings.resize(edit.warnings.max(warnings.len()), ToldWarning::default());
+        out.resize(need.max(out.len()), 0);
+    }
+}
+
+fn note(warning: &ToldWarning, out: &[u8]) -> Note {
+    Note {
+        kind: warning.kind,
+        name: out[warning.name_at..warning.name_at + warning.name_len].to_vec(),
+        first_line: warning.first_line,
+        last_line: warning.last_line,
+    }
+}
+
+/// Sets a key of a file to a value.
+pub fn set(file: &[u8], key: &[u8], value: &[u8], options: u32) -> Edited {
+    let room = file.len() + key.len() + 2 * value.len();
+    // SAFETY: as in `load`; the two buffers are vectors of their own, one of them of the header's struct.
+    edited(room, |warnings, out| unsafe {
+        dotenvy_set(
+            file.as_ptr(),
+            file.len(),
+            key.as_ptr(),
+            key.len(),
+            value.as_ptr(),
+            value.len(),
+            options,
+            warnings.as_mut_ptr(),
+            warnings.len(),
+            out.as_mut_ptr(),
+            out.len(),
+        )
+    })
+}
+
+/// Unsets a key of a file.
+pub fn unset(file: &[u8], key: &[u8], options: u32) -> Edited {
+    // SAFETY: as in `set`.
+    edited(file.len(), |warnings, out| unsafe {
+        dotenvy_unset(
+            file.as_ptr(),
+            file.len(),
+            key.as_ptr(),
+            key.len(),
+            options,
+            warnings.as_mut_ptr(),
+            warnings.len(),
+            out.as_mut_ptr(),
+            out.len(),
+        )
+    })
+}
+
 #[cfg(test)]
 mod tests {
     use super::*;
@@ -223,6 +388,8 @@ mod tests {
             layout!("answer", Answer: status, fits, index, block_len, text_len),
             layout!("item", Item: status, key_at, key_len, text_len, index, first_line, last_line),
             layout!("counts", Counts: status, fits, items, text_len),
+            layout!("edit", Edit: status, fits, line, file_len, names_len, warnings),
+            layout!("warning", ToldWarning: kind, name_at, name_len, first_line, last_line),
         ];
         assert_eq!(lines.join("\n") + "\n", include_str!("../layout.txt"));
     }
@@ -270,5 +437,23 @@ mod tests {
     fn empty_inputs() {
         assert_eq!(load(b"", b"", 0).pairs().count(), 0);
         assert_eq!(items(b"", b"", 0).map(|items| items.len()), Some(0));
+    }
+
+    #[test]
+    fn an_edit_has_room_for_many_warnings() {
+        let names: Vec<_> = (0..1000)
+            .map(|number| format!("LONG_NAME_{number}=$A\n"))
+            .collect();
+        let file = "A=1\n".to_owned() + &names.concat();
+        let edited = unset(file.as_bytes(), b"A", 0);
+        assert_eq!((edited.status, edited.file.len()), (OK, file.len() - 4));
+        let last = edited.notes.last().expect("there are warnings");
+        assert_eq!((edited.notes.len(), last.kind), (1000, MENTIONS));
+        assert_eq!(
+            (&last.name[..], last.first_line),
+            (&b"LONG_NAME_999"[..], 1001)
+        );
+        let long = vec![b'"'; 100_000];
+        assert_eq!(set(b"", b"A", &long, 0).file.len(), long.len() + 5);
     }
 }

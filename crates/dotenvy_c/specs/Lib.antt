@@ -1,9 +1,12 @@
 pub mod Block
 pub mod Buffer
+pub mod Edit
 pub mod File
 pub mod Items
 pub mod Laws
 pub mod Load
 pub mod Options
+pub mod Refused
 pub mod Said
 pub mod Told
+pub mod Warnings

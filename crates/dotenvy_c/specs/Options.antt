@@ -5,6 +5,7 @@ use Rattle.dotenvy.specs.Dialect.TheVariants.{V15, Next}
 use Rattle.dotenvy.specs.Loads.{load_result, override_result}
 use Rattle.dotenvy.specs.LoadsRest.{Rule}
 use Rattle.dotenvy.specs.Marks.{without_mark}
+use Rattle.dotenvy_editor.specs.declared.writing.How.{How}
 
 -- no bit is set but those of `known`
 abbrev pub are_among : ℕ → ℕ → Bool
@@ -25,3 +26,7 @@ rule_asked options = if has_option options 1 then override_result else load_resu
 -- the bytes whose items are asked for: option 4 asks to drop a byte order mark
 abbrev pub bytes_asked : ℕ → List ℕ → List ℕ
 bytes_asked options file = if has_option options 4 then without_mark file else file
+
+-- how a key is to be set: option 8 asks for a form that other readers read alike
+abbrev pub how_asked : ℕ → How
+how_asked options = record { dialect = dialect_of options; is_portable = has_option options 8 }

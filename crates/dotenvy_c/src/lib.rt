@@ -6,8 +6,10 @@
 pub mod block;
 pub mod buffer;
 pub mod calls;
+pub mod edit;
 pub mod items;
 pub mod laws;
 pub mod load;
 pub mod options;
 pub mod status;
+pub mod warnings;
