@@ -1,14 +1,14 @@
 #!/usr/bin/env bash
-# Installs the programs dotenvy_run, dotenvy_check, dotenvy_export and dotenvy_exec with their manual pages and completions,
-# and the library for C. In an unpacked release archive it copies what is there. In a clone of the repository it proves and builds it first.
-# `./install.sh --help` says how to call it.
+# Installs the programs dotenvy_run, dotenvy_check, dotenvy_edit, dotenvy_export and dotenvy_exec with their manual pages
+# and completions, and the library for C. In an unpacked release archive it copies what is there. In a clone of the
+# repository it proves and builds it first. `./install.sh --help` says how to call it.
 #
 # Whatever can be found wrong at once is found before the proof, which takes minutes. The files are copied beside their
 # places and then renamed, so an old program is replaced whole or not at all, even while it runs. After an error or a
 # signal, the target is as it was.
 set -euo pipefail
 cd "$(dirname "$0")"
-names=(dotenvy_run dotenvy_check dotenvy_export dotenvy_exec)
+names=(dotenvy_run dotenvy_check dotenvy_edit dotenvy_export dotenvy_exec)
 log=$PWD/crates/${names[0]}/out/install.log
 # What is installed, below PREFIX. The programs come last, so that none is there without its manual page.
 parts=(

@@ -1,13 +1,13 @@
 #!/usr/bin/env bash
-# Proves and builds the programs dotenvy_run, dotenvy_check and dotenvy_export and the library for C, crate by crate, with
-# one line for each. While a proof takes long, it says every 20 seconds how far it is. A crate that is proved already takes a moment.
-# What the prover prints goes to a file.
+# Proves and builds the programs dotenvy_run, dotenvy_check, dotenvy_edit and dotenvy_export and the library for C, crate by
+# crate, with one line for each. While a proof takes long, it says every 20 seconds how far it is. A crate that is proved
+# already takes a moment. What the prover prints goes to a file.
 #
 # usage: release/build.sh LOG
 set -euo pipefail
 cd "$(dirname "$0")/.."
 log=$1
-targets=(dotenvy_run dotenvy_check dotenvy_export dotenvy_c)
+targets=(dotenvy_run dotenvy_check dotenvy_edit dotenvy_export dotenvy_c)
 
 # Ends the script with one line on standard error.
 fail() {
@@ -71,11 +71,13 @@ run_rt() {
     return "$status"
 }
 
-# Proves a crate. A program is also built and run once: with nothing to list, or an empty file, it prints nothing.
+# Proves a crate. A program is also built and run once: with nothing to list, or an empty file, it prints nothing. The
+# editor, which refuses an empty file, prints its version.
 prove() {
     case $1 in
         dotenvy_run) run_rt "$1" run -- --list ;;
         dotenvy_check) run_rt "$1" run -- /dev/null ;;
+        dotenvy_edit) run_rt "$1" run -- --version ;;
         dotenvy_export) run_rt "$1" run -- docker /dev/null ;;
         *) run_rt "$1" lib ;;
     esac

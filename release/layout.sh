@@ -24,11 +24,11 @@ notices() {
     done
 }
 
-for name in dotenvy_run dotenvy_check dotenvy_export; do
+for name in dotenvy_run dotenvy_check dotenvy_edit dotenvy_export; do
     put 755 "crates/$name/out/$name" "bin/$name"
 done
 put 755 bin/dotenvy_exec bin/dotenvy_exec
-for name in dotenvy_run dotenvy_check dotenvy_export dotenvy_exec; do
+for name in dotenvy_run dotenvy_check dotenvy_edit dotenvy_export dotenvy_exec; do
     put 644 "docs/$name.1" "share/man/man1/$name.1"
     put 644 "release/completions/$name.bash" "share/bash-completion/completions/$name"
     put 644 "release/completions/$name.fish" "share/fish/vendor_completions.d/$name.fish"

@@ -12,7 +12,7 @@ copy=$temporary/copy
 target=$temporary/target
 script=$copy/install.sh
 log=$copy/crates/dotenvy_run/out/install.log
-names=(dotenvy_run dotenvy_check dotenvy_export dotenvy_exec)
+names=(dotenvy_run dotenvy_check dotenvy_edit dotenvy_export dotenvy_exec)
 passed=0
 failed=0
 
@@ -313,7 +313,7 @@ holds_papers() {
 
 # The crates that the programs need, and themselves: names are added until the lines of crates.txt add no more.
 needed_crates() {
-    local name found='dotenvy_run dotenvy_check dotenvy_export dotenvy_c' before=
+    local name found='dotenvy_run dotenvy_check dotenvy_edit dotenvy_export dotenvy_c' before=
     while [ "$found" != "$before" ]; do
         before=$found
         found=$(
@@ -360,6 +360,7 @@ calls_rt_for_each() {
         s/$/ lib/
         s/^dotenvy_run lib$/dotenvy_run run -- --list/
         s|^dotenvy_check lib$|dotenvy_check run -- /dev/null|
+        s/^dotenvy_edit lib$/dotenvy_edit run -- --version/
         s|^dotenvy_export lib$|dotenvy_export run -- docker /dev/null|
     ')
 }

@@ -275,6 +275,13 @@ check 'bash completes an option behind a target' completes_for dotenvy_export '-
 check 'bash completes a file behind a target' completes_for dotenvy_export 'README.md' sh READ
 check 'bash completes an optional file' completes_for dotenvy_export 'README.md' --optional = READ
 check 'bash completes a file behind two dashes of an export' completes_for dotenvy_export 'README.md' sh -- READ
+check 'bash completes a command of the editor' completes_for dotenvy_edit 'rename' ren
+check 'bash completes each command of the editor' completes_for dotenvy_edit 'get rename set unset' ''
+check 'bash completes an option before a command' completes_for dotenvy_edit '--portable' --port
+check 'bash completes an option after a command' completes_for dotenvy_edit '--dry-run' set --dry
+check 'bash completes the file of a command' completes_for dotenvy_edit 'README.md' set --next READ
+check 'bash completes no name of a file' completes_for dotenvy_edit '' set a.env READ
+check 'bash completes the file after two dashes' completes_for dotenvy_edit 'README.md' set -- READ
 check 'bash completes an option of dotenvy_exec' completes_for dotenvy_exec '--ignore-environment' -f a.env --ig
 check 'bash completes a file of dotenvy_exec' completes_for dotenvy_exec 'README.md' --optional READ
 check 'bash completes a file behind an equals sign' completes_for dotenvy_exec 'README.md' --file = READ

@@ -1,6 +1,6 @@
 #!/usr/bin/env bash
-# Sees that the manual pages of docs/ have what docs/COMMAND.md, docs/CHECK.md and docs/EXPORT.md promise: each option,
-# status and text of their tables, and no others. Where groff is installed, it also sees that groff finds nothing wrong with
+# Sees that the manual pages of docs/ have what docs/COMMAND.md, docs/CHECK.md, docs/EXPORT.md and docs/EDIT.md promise: each
+# option, status and text of their tables, and no others. Where groff is installed, it also sees that groff finds nothing wrong with
 # them.
 # It takes less than a second, and no proof. The last line is `N passed, M failed`.
 set -euo pipefail
@@ -102,6 +102,13 @@ manual=docs/dotenvy_exec.1
 compare "Options of dotenvy_exec" "OPTIONS"
 compare "Statuses of dotenvy_exec" "EXIT STATUS"
 compare "Texts of dotenvy_exec" "DIAGNOSTICS"
+check_macros
+
+page=docs/EDIT.md
+manual=docs/dotenvy_edit.1
+compare "Options and files" "OPTIONS"
+compare "Statuses" "EXIT STATUS"
+compare "Texts on standard error" "DIAGNOSTICS"
 check_macros
 
 echo "$passed passed, $failed failed"

@@ -92,23 +92,33 @@ class Mutant:
         """The function that is changed, as the name says it."""
         return ".".join(part for part in next(place for place in self.places() if place in self.changed) if part)
 
-    def goal_place(self, path, number):
-        """The module and the function of a goal: of a line in the changed source, or of a file of proofs."""
+    def goal_places(self, path, number):
+        """The modules and functions that a goal may be of: of a line in the changed source, or of a file of proofs."""
         parts = pathlib.Path(path).with_suffix("").parts
-        if parts[0] == "proofs":
-            return (parts[1], parts[-2]) if len(parts) > 3 else ("lib", parts[1])
-        text = self.texts.get(path) or (self.folder / path).read_text(encoding="utf-8")
-        return parts[-1], function_at(text, number - 1)
+        if parts[0] != "proofs":
+            text = self.texts.get(path) or (self.folder / path).read_text(encoding="utf-8")
+            return [(parts[-1], function_at(text, number - 1))]
+        if len(parts) == 3:
+            return [("lib", parts[1])]
+        # The proofs of a method lie in the folder of the module that its type is of, wherever the method is written.
+        modules = self.modules_of(parts[2]) if len(parts) > 4 else []
+        return [(module, parts[-2]) for module in [parts[1], *modules]]
+
+    def modules_of(self, type_name):
+        """The modules of the crate that have methods of a type."""
+        begins = re.compile(rf"^impl\b.*\b{re.escape(type_name)}\b", re.M)
+        return [path.stem for path in sorted(self.folder.glob("src/*.rt"))
+                if begins.search(path.read_text(encoding="utf-8"))]
 
     def wrong_goal(self, said):
         """What is wrong with the goal at which the prover refused it, or None."""
         found = REFUSED.match(said)
         if not found:
             return "refused at no goal: " + said
-        place = self.goal_place(found.group(1), int(found.group(2)))
+        places = self.goal_places(found.group(1), int(found.group(2)))
         # What is in no function, such as a constant, is refused wherever it is used.
-        if place not in self.changed and all(function for _, function in self.changed):
-            return f"refused at a goal of {place[0]}.{place[1]}: {said}"
+        if not set(places) & set(self.changed) and all(function for _, function in self.changed):
+            return f"refused at a goal of {places[0][0]}.{places[0][1]}: {said}"
         return None
 
 

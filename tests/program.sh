@@ -1,8 +1,8 @@
 #!/bin/sh
-# Refuses each request for memory of the whole program dotenvy_run in turn, and then many of those of dotenvy_export, and
-# sees what they answer: all that was asked for; or status 1, the text of that refusal on standard error and nothing on
-# standard output. Where dotenvy_export can't take its words, the status is 2. It takes some three minutes, and no proof.
-# The last line is `N passed, M failed`.
+# Refuses each request for memory of the whole program dotenvy_run in turn, and then many of those of dotenvy_export and
+# dotenvy_edit, and sees what they answer: all that was asked for; or status 1, the text of that refusal on standard error
+# and nothing on standard output. Where dotenvy_export can't take its words, and always of dotenvy_edit, the status is 2.
+# It takes some five minutes, and no proof. The last line is `N passed, M failed`.
 #
 # `rt try` builds the program with checks, and the build fixes the number of the request that is refused. Builds take
 # nearly all of the time. So one build serves for all requests but the first ones, and what changes are the words: with
@@ -49,6 +49,44 @@ END
         echo --skip-reserved
         echo -
     } >"$room/cases/export-$1.args"
+}
+
+# What each call of dotenvy_edit does. A set that is not a dry run replaces the file.
+edit_kind() {
+    case $(($1 % 5)) in
+        0) echo set ;;
+        1) echo replace ;;
+        2) echo unset ;;
+        3) echo rename ;;
+        4) echo get ;;
+    esac
+}
+
+# Makes a case of dotenvy_edit whose options take this many requests, more or less: a word `--next` takes six, and each
+# letter of a word `-qq..` takes five, so that the next number takes one more.
+make_edit() {
+    kind=$(edit_kind "$1")
+    letters=$(((6 - $1 % 6) % 6))
+    printf 'B=1\n# of both\nA=1 # c\nA=3\n' >"$room/cases/edit-$1"
+    {
+        case $kind in
+            set) printf '%s\n' set --dry-run ;;
+            replace) echo set ;;
+            get) echo get ;;
+            *) printf '%s\n' "$kind" --dry-run ;;
+        esac
+        awk -v letters="$letters" -v words="$((($1 - 5 * letters) / 6))" 'BEGIN {
+            quiet = "-q"
+            while (letters-- > 0) quiet = quiet "q"
+            print quiet
+            while (words-- > 0) print "--next"
+        }'
+        printf '%s\n' '{}' A
+        case $kind in
+            set | replace) echo 2 ;;
+            rename) echo C ;;
+        esac
+    } >"$room/cases/edit-$1.args"
 }
 
 # Runs the cases of this many words up to that many, each with the request of this number refused: `refuse MAKER NUMBER
@@ -133,6 +171,35 @@ for words in $(seq $((fewest + 1)) $((most - 1))); do
     check "export-$words" $request "$exported" "$no_export"
 done
 check export-$most $request "$no_export"
+
+# Of dotenvy_edit, the first request, and then one that comes after all of the fewest options, and is among the options of
+# the most. Each number from the fewest on has the request one earlier, and the next one of five calls.
+cd ../dotenvy_edit
+no_edit='run=ended status=2 / dotenvy_edit: error: out of memory'
+no_file='run=ended status=2 / dotenvy_edit: error: case: out of memory'
+no_new_file='run=ended status=2 / dotenvy_edit: error: case: no new file can be made beside it: out of memory'
+edited() {
+    case $(edit_kind "$1") in
+        set) echo 'run=ended status=0 --- case +++ case @@ -1,4 +1,3 @@  B=1  # of both -A=1 # c -A=3 +A=2 # c' ;;
+        replace) echo 'run=ended status=0' ;;
+        unset) echo 'run=ended status=0 --- case +++ case @@ -1,4 +1,2 @@  B=1  # of both -A=1 # c -A=3' ;;
+        rename) echo 'run=ended status=0 --- case +++ case @@ -1,4 +1,4 @@  B=1  # of both -A=1 # c -A=3 +C=1 # c +C=3' ;;
+        get) echo 'run=ended status=0 1' ;;
+    esac
+}
+refuse make_edit 1 25 25
+check edit-25 1 "$no_edit"
+request=400 fewest=264 most=358
+refuse make_edit $request $fewest $most
+for number in $(seq $fewest $most); do
+    if [ "$number" -lt $((fewest + 5)) ]; then
+        check "edit-$number" $request "$(edited "$number")"
+    elif [ "$number" -gt $((most - 5)) ]; then
+        check "edit-$number" $request "$no_edit"
+    else
+        check "edit-$number" $request "$(edited "$number")" "$no_edit" "$no_file" "$no_new_file"
+    fi
+done
 
 echo "$passed passed, $failed failed"
 [ "$failed" -eq 0 ]

@@ -71,7 +71,7 @@ packs_the_same() {
     local other="$room/an other place" file
     git clone --quiet . "$other"
     for file in crates/dotenvy_run/out/dotenvy_run crates/dotenvy_check/out/dotenvy_check \
-        crates/dotenvy_export/out/dotenvy_export; do
+        crates/dotenvy_edit/out/dotenvy_edit crates/dotenvy_export/out/dotenvy_export; do
         mkdir -p "$other/${file%/*}"
         cp "$file" "$other/$file"
     done

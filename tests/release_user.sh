@@ -55,6 +55,8 @@ check_programs() {
     check "$1/dotenvy_run lists" prints $'A="1"\nB="2"' 0 sh -c "printf 'B=2\nA=1\nA=3\n' | '$1/dotenvy_run' --list"
     check "$1/dotenvy_check finds a fault" prints "$said" 1 "$1/dotenvy_check" bad.env
     check "$1/dotenvy_check finds none" prints '' 0 "$1/dotenvy_check" good.env
+    check "$1/dotenvy_edit sets" prints 'A=2 # one' 0 \
+        sh -c "echo 'A=1 # one' >edited.env && '$1/dotenvy_edit' set edited.env A 2 && cat edited.env"
     check "$1/dotenvy_export writes" prints $'A=1\nB=x 1' 0 "$1/dotenvy_export" docker good.env
     check "$1/dotenvy_exec becomes a command" prints 'x 1' 0 "$1/dotenvy_exec" -f good.env printenv B
 }
@@ -93,11 +95,13 @@ check_archive() {
     check_programs "$HOME/.local/bin"
     check "man shows the page of dotenvy_run" shows_page dotenvy_run
     check "man shows the page of dotenvy_check" shows_page dotenvy_check
+    check "man shows the page of dotenvy_edit" shows_page dotenvy_edit
     check "man shows the page of dotenvy_export" shows_page dotenvy_export
     check "man shows the page of dotenvy_exec" shows_page dotenvy_exec
     check "bash completes an option" completes dotenvy_run 'dotenvy_run --li' --list
     check "bash completes a file" completes dotenvy_run 'dotenvy_run -f goo' good.env
     check "bash completes an option of the checker" completes dotenvy_check 'dotenvy_check --st' --strict
+    check "bash completes a command of the editor" completes dotenvy_edit 'dotenvy_edit ren' rename
     check "bash completes a target" completes dotenvy_export 'dotenvy_export ku' kubernetes
     check "bash completes an option of dotenvy_exec" completes dotenvy_exec 'dotenvy_exec --st' --strict
     check "the archive has the licence of the original" \
@@ -129,7 +133,7 @@ check_library() {
     check "with the shared object of its folder" loads_the_installed ./shared
     check "it builds with the archive" cc -Wall -Wextra -I "$HOME/.local/include" example.c "$HOME/.local/lib/libdotenvy.a" -o static
     check "and runs" prints "$wanted" 0 ./static
-    check "the archive has the names of the header" test "$(global_names | grep -c '^T dotenvy_')" -eq 4
+    check "the archive has the names of the header" test "$(global_names | grep -c '^T dotenvy_')" -eq 6
     check "and no others" prints '' 1 eval "global_names | grep -v '^T dotenvy_'"
 }
 

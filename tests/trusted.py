@@ -16,7 +16,7 @@ import sys
 
 TOP = pathlib.Path(__file__).resolve().parent.parent
 PAGE = TOP / "docs" / "CONTRACTS.md"
-CRATES = ("dotenvy_run", "dotenvy_check", "dotenvy_export", "dotenvy_c")
+CRATES = ("dotenvy_run", "dotenvy_check", "dotenvy_edit", "dotenvy_export", "dotenvy_c")
 
 # What `rt check` takes from an earlier check; no verdict of the gate has it.
 OWN = "incremental=trusted"

@@ -1,0 +1,10 @@
+mod CommandWords
+mod DiffLines
+mod FailureTexts
+mod KeptUnsets
+mod LoadedValues
+mod Replacements
+mod SaidWarnings
+mod TaskSteps
+mod UnsetNames
+mod WholeReads

@@ -1,0 +1,9 @@
+use Rattle.std.proofs.Common.{arith, inr, refl}
+use Rattle.std.specs.Prelude.{codes}
+use Rattle.dotenvy_edit_command.proofs.CommandWords.{one_too_many, word_at}
+use Rattle.dotenvy_edit_command.proofs.words.rename_of.Goals as goal
+
+pub returns-in-len4-up : goal.returns-in-len4-up
+returns-in-len4-up g c =
+    one_too_many (codes "rename") _ 3 _ c.unexpected.result (inr (inr refl, refl))
+    (word_at c.args.words.now 3 _ (omega (arith, c.in-len4-up.len_at_least))) c.unexpected.ensures

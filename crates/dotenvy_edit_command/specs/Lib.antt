@@ -1,0 +1,13 @@
+pub mod Words
+pub mod Described
+pub mod Replacing
+pub mod Diffs
+pub mod Failures
+pub mod Answers
+pub mod Help
+pub mod Reads
+pub mod Edited
+pub mod Loaded
+pub mod Warnings
+pub mod Ends
+pub mod Tasks
