@@ -433,8 +433,8 @@ status=0
 "$program" set f.env A <&- 2>"$room/errors" >"$room/output" || status=$?
 holds 'standard input is closed' ended 2 '' "dotenvy_edit: error: standard input: Bad file descriptor (os error 9)$nl"
 
-# A long file: of 10 MB a value is set in less than 5 seconds of the processor, and with no more than three times the file
-# in memory, besides the 6 MB of addresses that are enough for a small file.
+# A long file: of 10 MB a value is set, and names are removed, in less than 5 seconds of the processor, and with no more than
+# three times the file in memory, besides the 6 MB of addresses that are enough for a small file.
 
 call_within() {
     local kilobytes=$1
@@ -447,6 +447,10 @@ is_last_line() {
     [ "$(tail -n 1 "$1")" = "$2" ] && [ "$(wc -c <"$1")" -eq "$3" ]
 }
 
+is_without() {
+    cmp -s f.env <(grep -vE "^($1)=" "$room/whole")
+}
+
 file ''
 seq -f "KEY_%.0f='some value'  # of a line" 260000 >f.env
 length=$(wc -c <f.env)
@@ -456,6 +460,16 @@ holds 'has a line more' is_last_line f.env A=2 $((length + 4))
 call_within $((3 * length / 1024 + 6144)) set f.env KEY_1 2
 holds 'its first line is changed' ended 0 '' ''
 holds 'and no other' is_last_line f.env A=2 $((length - 5))
+
+cp f.env "$room/whole"
+call_within $((3 * length / 1024 + 6144)) unset f.env KEY_1
+holds 'a line of it is removed' ended 0 '' ''
+holds 'and no other' is_without KEY_1
+cp "$room/whole" f.env
+call_within $((3 * length / 1024 + 6144)) unset f.env KEY_260000 KEY_1 KEY_130000
+holds 'three lines of it are removed' ended 0 '' ''
+holds 'and no other' is_without 'KEY_260000|KEY_1|KEY_130000'
+cp "$room/whole" f.env
 
 # With less memory it is told that there is too little, until there is enough.
 is_refused_whole() {

@@ -478,7 +478,7 @@ class Library:
         block = self.calls.block_of((name.encode(), value_of_name(name).encode()) for name in names)
         options = self.calls.NEXT_DIALECT if dialect == "next" else 0
         kinds = {self.calls.OK: "pair", self.calls.LINE_PARSE: "fault", self.calls.NOT_UTF8: "broken"}
-        return [Entry(kinds[found.status], found.key.decode(), found.text.decode(), found.index, found.first_line)
+        return [Entry(kinds[found.status], found.key.decode(), found.text.decode(), found.place, found.first_line)
                 for found in self.calls.items(data, block, options)]
 
 

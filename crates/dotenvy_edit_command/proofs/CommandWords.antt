@@ -9,7 +9,8 @@ use Rattle.dotenvy_edit_command.specs.declared.failure.Failure.{Failure}
 use Rattle.dotenvy_edit_command.specs.declared.failure.Failure.TheVariants as failure
 use Rattle.dotenvy_edit_command.specs.declared.failure.Usage.TheVariants as usage
 use Rattle.dotenvy_edit_command.specs.declared.words.Task.{Task}
-use Rattle.dotenvy_edit_command.specs.Answers.{AnswersCommand, IsCommandUsage, IsFoundUsage, IsMost, IsUnexpected, IsUsageEnd}
+use Rattle.dotenvy_edit_command.specs.Answers.{AnswersCommand, IsCommandUsage, IsFoundUsage, IsMost}
+use Rattle.dotenvy_edit_command.specs.Answers.{IsUnexpected, IsUsageEnd}
 use Rattle.dotenvy_edit_command.specs.Words.{command_of, words_of}
 
 -- a word that is read is there

@@ -1,6 +1,7 @@
 -- The lines of a text, and where two lists of lines are the same.
 use Rattle.std.proofs.Common.{◌≡◌, ◌≢◌, ◌<◌, ◌≤◌, ◌+◌, ◌-◌, ◌==◌, ℕ, suc, zero, Bool, true, false, List, [], ◌∷◌, ◌++◌}
-use Rattle.std.proofs.Common.{Some, None, ap, append-nil, append_assoc, arith, drop, get_or, length, min, refl, rules, sym, take, ◌∙◌}
+use Rattle.std.proofs.Common.{Some, None, ap, append-nil, append_assoc, arith, drop, get_or, length, min, refl}
+use Rattle.std.proofs.Common.{rules, sym, take, ◌∙◌}
 use Rattle.std.specs.Borrow.{Bor}
 use Rattle.std.proofs.Math.ListN.{get_or-map}
 use Rattle.std.proofs.lemmas.List.{drop-map, drop_more, length-drop, length-map, length-take-le}
@@ -118,8 +119,12 @@ hunk_of old new front removed added before shown same_front same_back lead trail
     let new_rest = take-append-drop added (drop front new) in
     let head = take-append-drop before (take front old) in
     record {
-      is_old = rw (tail, old_rest, ← append_assoc (take before (take front old)) (drop before (take front old)) (drop front old), head)
-          (take-append-drop front old);
+      is_old = rw (
+        tail,
+        old_rest,
+        ← append_assoc (take before (take front old)) (drop before (take front old)) (drop front old),
+        head,
+      ) (take-append-drop front old);
       is_new = rw (
         tail,
         same_back,

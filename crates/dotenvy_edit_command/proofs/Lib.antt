@@ -7,4 +7,3 @@ mod Replacements
 mod SaidWarnings
 mod TaskSteps
 mod UnsetNames
-mod WholeReads

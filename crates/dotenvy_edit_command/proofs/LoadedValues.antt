@@ -31,7 +31,8 @@ use Rattle.dotenvy_items.specs.LoadsRest.{IsAnswer, Leaves, LoadsRest}
 use Rattle.dotenvy_items.specs.Meaning.{recalled_of, values_of}
 use Rattle.dotenvy_edit_command.specs.declared.failure.Failure.{Failure as Failed}
 use Rattle.dotenvy_edit_command.specs.declared.failure.Failure.TheVariants as failure
-use Rattle.dotenvy_edit_command.specs.Loaded.{GivesNone, GivesValue, HasNoError, IsLackAfter, IsValueOf, StopsOn, load_of}
+use Rattle.dotenvy_edit_command.specs.Loaded.{GivesNone, GivesValue, HasNoError, IsLackAfter, IsValueOf}
+use Rattle.dotenvy_edit_command.specs.Loaded.{StopsOn, load_of}
 use Rattle.std.specs.Str.{chars}
 
 -- what a source of these bytes tells
@@ -180,7 +181,8 @@ no_error dialect bytes new answer short loads ok =
             let through = says_ok _ answer ok left.is_answer in
             elim (load_ends_failed front Memory) [
               | inl ends ↦ cc
-              | inr before ↦ let ends = run-stops Keep no_values no_values front (Fails Memory ∷ []) before.0 before.1 in
+              | inr before ↦
+                  let ends = run-stops Keep no_values no_values front (Fails Memory ∷ []) before.0 before.1 in
                   let same = (run-keep no_values no_values (front ++ Fails Memory ∷ [])).answer in
                   let fails : (run Keep no_values no_values (front ++ Fails Memory ∷ [])).answer ≡ Err before.0 =
                   ap (λ loaded. loaded.answer) ends ∙ before.1 in cc

@@ -9,8 +9,11 @@ use Rattle.dotenvy_edit_command.specs.Warnings.{warning_lines, warning_text}
 line_behind : (text front warning end rest : List ℕ) →
     (text ++ (front ++ (warning ++ end))) ++ rest ≡ text ++ (front ++ (warning ++ (end ++ rest)))
 line_behind text front warning end rest =
-    rw (append_assoc text (front ++ (warning ++ end)) rest, append_assoc front (warning ++ end) rest, append_assoc warning end rest)
-    refl
+    rw (
+      append_assoc text (front ++ (warning ++ end)) rest,
+      append_assoc front (warning ++ end) rest,
+      append_assoc warning end rest,
+    ) refl
 
 -- the line of one warning more
 pub line_said : {A : Type 0} (file name : Text) (warnings : List (Warning A)) (n : ℕ) (d : Warning A)

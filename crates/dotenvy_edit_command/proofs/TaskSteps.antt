@@ -1,5 +1,6 @@
 -- What becomes of a file that has some bytes already, and which words are taken.
-use Rattle.std.proofs.Common.{◌≡◌, ◌≢◌, ◌⊎◌, ◌<◌, ◌≤◌, ◌++◌, ◌∙◌, ℕ, suc, zero, List, [], ◌∷◌, Option, Some, Ok, Err, Result, ap, arith, codes, inl, inr, length, refl, sym, true, false, subst}
+use Rattle.std.proofs.Common.{◌≡◌, ◌≢◌, ◌⊎◌, ◌<◌, ◌≤◌, ◌++◌, ◌∙◌, ℕ, suc, zero, List, [], ◌∷◌, Option, Some, Ok}
+use Rattle.std.proofs.Common.{Err, Result, ap, arith, codes, inl, inr, length, refl, sym, true, false, subst}
 use Rattle.std.proofs.lemmas.Bool.{cases_Bool}
 use Rattle.std.proofs.lemmas.Slice.Eq.{bytes_eq-Decides}
 use Rattle.std.specs.Prelude.{slice_get, string_bytes}
@@ -12,7 +13,8 @@ use Rattle.dotenvy_words.specs.Refused.{HasMistake}
 use Rattle.dotenvy_base.specs.Source.{SinkTold}
 use Rattle.dotenvy_edit_command.specs.declared.failure.Failure.{Failure}
 use Rattle.dotenvy_edit_command.specs.declared.failure.Failure.TheVariants as failure
-use Rattle.dotenvy_edit_command.specs.Ends.{IsWrongCall, RefusesCall, Says, SaysFailure, memory_line}
+use Rattle.dotenvy_streams.specs.Telling.{Says}
+use Rattle.dotenvy_edit_command.specs.Ends.{IsWrongCall, RefusesCall, SaysFailure, memory_line}
 use Rattle.dotenvy_edit_command.specs.Failures.{IsMemoryEnd, failure_status}
 use Rattle.dotenvy_edit_command.specs.declared.failure.Lacked.TheVariants as lacked
 use Rattle.dotenvy_edit_command.specs.declared.failure.Usage.{Usage}
@@ -22,7 +24,8 @@ use Rattle.dotenvy_edit_command.specs.declared.words.Request.TheVariants.{Act}
 use Rattle.dotenvy_edit_command.specs.declared.words.Task.{Task}
 use Rattle.dotenvy_edit_command.specs.declared.words.Task.TheVariants as task
 use Rattle.dotenvy_edit_command.specs.declared.words.Words.{Words}
-use Rattle.dotenvy_edit_command.specs.Answers.{AreTaken, IsCommandUsage, IsRequestOf, IsTaskOf, IsUsageEnd, IsUsageOf, Takes}
+use Rattle.dotenvy_edit_command.specs.Answers.{AreTaken, IsCommandUsage, IsRequestOf, IsTaskOf, IsUsageEnd}
+use Rattle.dotenvy_edit_command.specs.Answers.{IsUsageOf, Takes}
 use Rattle.dotenvy_edit_command.specs.Replacing.{Known, Replaces}
 use Rattle.dotenvy_edit_command.specs.Tasks.{PutsBytes}
 use Rattle.dotenvy_edit_command.specs.Words.{command_of, editor, is_command, words_of}

@@ -1,6 +1,7 @@
 -- Names that are removed, one after another.
 use Rattle.std.proofs.Common.{◌≡◌, ◌≢◌, ◌<◌, ◌+◌, ◌++◌, ℕ, Bool, true, false, ◌||◌, List, [], ◌∷◌, Ok, Err}
-use Rattle.std.proofs.Common.{ap, append_assoc, arith, drop, get_or, inl, inr, length, refl, string_bytes, sym, take, ◌∙◌}
+use Rattle.std.proofs.Common.{ap, append_assoc, arith, drop, get_or, inl, inr, length, refl, string_bytes, sym}
+use Rattle.std.proofs.Common.{take, ◌∙◌}
 use Rattle.std.specs.Prelude.{bytes_eq, encode_utf8_all}
 use Rattle.std.specs.Str.{IsUtf8, chars}
 use Rattle.std.proofs.lemmas.Slice.Eq.{bytes_eq-Decides}

@@ -5,7 +5,6 @@ pub mod Diffs
 pub mod Failures
 pub mod Answers
 pub mod Help
-pub mod Reads
 pub mod Edited
 pub mod Loaded
 pub mod Warnings

@@ -25,7 +25,7 @@ use Rattle.dotenvy_edit_command.specs.Edited.{AnswersRename, AnswersSet, Answers
 use Rattle.dotenvy_edit_command.specs.Ends.{PrintsAs}
 use Rattle.dotenvy_edit_command.specs.Failures.{IsMemoryEnd}
 use Rattle.dotenvy_edit_command.specs.Loaded.{LoadsValue}
-use Rattle.dotenvy_edit_command.specs.Reads.{IsWhole}
+use Rattle.dotenvy_streams.specs.Reads.{IsWhole}
 use Rattle.dotenvy_edit_command.specs.Replacing.{HasRead, Known, Locates, Replaces}
 
 -- these are all bytes of a source, if it says what is still to be read

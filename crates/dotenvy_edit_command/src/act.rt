@@ -12,13 +12,13 @@ use crate::diff::{Texts, diff};
 use crate::edits::{Edit, Old, place, rename_name, set_name, unset_names};
 use crate::failure::Failure;
 use crate::loaded::value_in;
-use crate::reading::read_all;
 use crate::replacement::{Replaceable, Unreplaced, replace};
 use crate::run::Streams;
 use crate::words::{Task, Words};
 use dotenvy::{Sink, Source};
 use dotenvy_base::output::{MOST_WRITES, write_all};
 use dotenvy_reports::one_line::one_line;
+use dotenvy_streams::reading::read_all;
 use std::alloc::Allocator;
 use std::str::from_utf8;
 
@@ -282,7 +282,7 @@ fn read_value<A: Allocator + Clone, S: Source>(
         (S.told reader.old) result }
     ensures right { IfErr result (λ failure. ¬ (IsWrongCall failure)) }
 {
-    match read_all(alloc.clone()?, reader) {
+    match read_all(alloc.clone()?, 0, reader) {
         Ok(bytes) => value_from(alloc, old, name, bytes.as_slice()),
         Err(error) => Err(Failure::Input(error)),
     }

@@ -108,8 +108,9 @@ pub fn unset_names<A: Allocator + Clone>(
     'names: while index < names.len() {
         let name = names[index].as_str();
         if !is_among(&names[..index], name) {
-            let told = unset_name(&alloc, old, old.bytes(), name)?;
-            all.said.push_str(told.said.as_str())?;
+            // The bytes of this edit, which may be as many as the file has, are freed before the next one is made.
+            let said = unset_name(&alloc, old, old.bytes(), name)?.said;
+            all.said.push_str(said.as_str())?;
             all.bytes = unset_name(&alloc, old, all.bytes.as_slice(), name)?.bytes;
         }
         index += 1;

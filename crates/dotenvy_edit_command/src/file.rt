@@ -2,11 +2,11 @@
 
 ghost use Rattle.std.specs.Prelude.{◌≡◌, false, is_some};
 
-use crate::reading::read_all;
 use crate::replacement::Replaceable;
 use dotenvy::{Error, Plain};
 use dotenvy_base::errors::or_memory;
 use dotenvy_base::output::{MOST_WRITES, write_all};
+use dotenvy_streams::reading::read_all;
 use std::alloc::{Alloc, Allocator};
 use std::fs::{File, Files, OpenFile, OpenOptions, Permissions};
 use std::io::{ErrorKind, Write};
@@ -135,6 +135,14 @@ fn absent_path<A: Allocator + Clone, R: Files + Alloc<A = A>>(
     Ok(Some(path.into_string()))
 }
 
+// How many bytes an open file has, or 0 if that can't be known. It may grow before it is read.
+fn length_of<F: OpenFile>(file: &F) -> usize {
+    match file.metadata() {
+        Ok(metadata) => metadata.len() as usize,
+        Err(_) => 0,
+    }
+}
+
 // Writes all bytes to a file.
 fn write_file<A: Allocator, F: Write>(file: &mut F, bytes: &[u8]) -> io::Result<()> {
     let written: Result<(), Error<A>> = write_all(&mut Plain::new(file), bytes, MOST_WRITES);
@@ -160,7 +168,10 @@ impl<'r, A: Allocator + Clone, R: Files + Alloc<A = A>> Replaceable for RealFile
             return Ok(None);
         }
         match File::open(self.rt, self.path.as_str()) {
-            Ok(file) => Ok(Some(read_all(alloc, &mut Plain::new(file))?)),
+            Ok(file) => {
+                let room = length_of(&file);
+                Ok(Some(read_all(alloc, room, &mut Plain::new(file))?))
+            }
             Err(fault) => Err(or_memory(Error::Io(fault))),
         }
     }

@@ -9,7 +9,6 @@ pub mod failure;
 pub mod file;
 mod help;
 mod loaded;
-mod reading;
 pub mod replacement;
 pub mod run;
 mod step;

@@ -15,12 +15,13 @@ use crate::act::act;
 use crate::failure::{Failure, Usage};
 use crate::help::{help, version};
 use crate::replacement::Replaceable;
-use crate::told::{say, say_failure};
+use crate::told::say_failure;
 use crate::words::{How, Request, Task, Words, read_words};
 use dotenvy::{Error, Sink, Source};
 use dotenvy_base::errors::or_memory;
 use dotenvy_base::output::{MOST_WRITES, write_all};
 use dotenvy_reports::one_line::one_line;
+use dotenvy_streams::telling::say;
 use std::alloc::{Allocator, Global};
 
 /// Standard input, output and error of a run.

@@ -27,7 +27,8 @@ use Rattle.dotenvy_export_command.specs.declared.inputs.Inputs.{Inputs}
 use Rattle.dotenvy_exporter.specs.declared.declared.Stopped.{Stopped}
 use Rattle.dotenvy_export_command.specs.declared.words.How.{How}
 use Rattle.dotenvy_export_command.specs.Answers.{IsFailureOf}
-use Rattle.dotenvy_export_command.specs.Ends.{memory_line, EndsBy, IsUnread, IsWrongCall, Prints, RefusesCall, Says}
+use Rattle.dotenvy_streams.specs.Telling.{Says}
+use Rattle.dotenvy_export_command.specs.Ends.{memory_line, EndsBy, IsUnread, IsWrongCall, Prints, RefusesCall}
 use Rattle.dotenvy_export_command.specs.Ends.{SaysFailure}
 use Rattle.dotenvy_export_command.specs.Exports.{Exports, IsWrite, WritesKept, WritesLoaded}
 use Rattle.dotenvy_export_command.specs.Words.{AreTaken}

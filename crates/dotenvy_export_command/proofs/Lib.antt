@@ -1,4 +1,3 @@
 mod Endings
 mod KeptPairs
 mod MergedFiles
-mod WholeReads

@@ -1,12 +1,11 @@
 -- How a run ends: what is written, what is said, and the status.
-use Rattle.std.specs.Prelude.{ℕ, ◌≡◌, ◌++◌, ◌⊎◌, Bool, true, List, [], Option}
-use Rattle.std.specs.Prelude.{Result, Ok, Err, IfSome, IsErrAnd, codes, string_bytes}
+use Rattle.std.specs.Prelude.{ℕ, ◌≡◌, ◌⊎◌, Bool, true, List, [], Result, Ok, Err, IsErrAnd, codes, string_bytes}
 use Rattle.std.specs.FinMap as fin
 use Rattle.std.specs.declared.string.String.{String}
 use Rattle.clap.specs.Words.{Text, matches_of}
 use Rattle.dotenvy_base.specs.Output.{Sends, most_writes}
 use Rattle.dotenvy_base.specs.Source.{SinkTold}
-use Rattle.dotenvy_base.specs.declared.errors.Error.{Error}
+use Rattle.dotenvy_streams.specs.Telling.{Says, SaysLine}
 use Rattle.dotenvy_export_command.specs.declared.failure.Failure.{Failure}
 use Rattle.dotenvy_export_command.specs.declared.failure.Failure.TheVariants as failure
 use Rattle.dotenvy_export_command.specs.declared.failure.Usage.{Usage}
@@ -17,24 +16,14 @@ use Rattle.dotenvy_export_command.specs.Exports.{Exports}
 use Rattle.dotenvy_export_command.specs.Failures.{failure_text}
 use Rattle.dotenvy_export_command.specs.Words.{asked_of, exporter}
 
--- a text is sent to a sink; whether all of it is makes no difference
-abbrev pub Says : (A : Type 0) {E : Type 0} → (E → SinkTold) → E → E → Text → Type 0
-Says A told old new text =
-    (answer : Result (Unit {0}) (Error A)) × Sends told most_writes old new text answer
-
 -- what is said where the line of a failure can't be built
 abbrev pub memory_line : Text
 memory_line = codes "dotenvy_export: error: out of memory\n"
 
--- a line of the program with this text; nothing is said of one whose text is not specified
-abbrev pub IsLine : Option Text → Text → Type 0
-IsLine told line = IfSome told (λ text. line ≡ codes "dotenvy_export: " ++ (text ++ codes "\n"))
-
 -- a failure is said on one line; if this can't be built, that an allocation failed
 abbrev pub SaysFailure : {A E : Type 0} → (E → SinkTold) → E → E → Failure A → Type 0
 SaysFailure {A = A} told old new failure =
-    (line : Text) × ((line ≡ memory_line) ⊎ IsLine (failure_text failure) line)
-    × Says A told old new line
+    SaysLine A told old new (codes "dotenvy_export: ") (failure_text failure) memory_line
 
 -- the status, and what is said, after this was done
 abbrev pub Tells : {A E : Type 0} → (E → SinkTold) → E → E → Result (String A) (Failure A) → ℕ →

@@ -8,5 +8,4 @@ pub mod Help
 pub mod WorkedWords
 pub mod Laws
 pub mod Exports
-pub mod Reads
 pub mod Ends

@@ -1,10 +1,8 @@
 //! The reading of the files that the words name, before anything is written.
 
-ghost use Rattle.std.specs.Prelude.{◌≡◌, IfErr, IfOk, Some, true};
+ghost use Rattle.std.specs.Prelude.{◌≡◌, IfErr, IfOk, true};
 ghost use Rattle.std.specs.FinMap as fin;
-ghost use Rattle.dotenvy_base.specs.Source.{Ahead};
 ghost use Rattle.dotenvy_export_command.specs.Ends.{IsUnread};
-ghost use Rattle.dotenvy_export_command.specs.Reads.{IsWhole};
 
 use crate::failure::Failure;
 use crate::inputs::Inputs;
@@ -12,10 +10,10 @@ use crate::words::{Named, Words};
 use dotenvy::{Environment, Error, Plain, Source, find_filename};
 use dotenvy_base::errors::or_memory;
 use dotenvy_reports::one_line::one_line;
+use dotenvy_streams::reading::read_all;
 use std::alloc::{Alloc, AllocError, Allocator};
 use std::env::Env;
 use std::fs::{File, Files};
-use std::io;
 use std::io::ErrorKind;
 use std::path::{Path, PathBuf};
 
@@ -88,7 +86,7 @@ impl<A: Allocator + Clone> Inputs<A> {
         ensures env { self.new.env ≡ self.old.env }
         ensures unread { IfErr result IsUnread }
     {
-        let contents = read_all(alloc, reader);
+        let contents = read_all(alloc, 0, reader);
         self.push("<stdin>", contents)
     }
 
@@ -109,7 +107,7 @@ impl<A: Allocator + Clone> Inputs<A> {
         };
         match File::open(rt, path.as_path()) {
             Ok(file) => {
-                let contents = read_all(rt.alloc(), &mut Plain::new(file));
+                let contents = read_all(rt.alloc(), 0, &mut Plain::new(file));
                 self.push(path.as_path().as_str(), contents)
             }
             Err(fault) if optional && fault.kind() == ErrorKind::NotFound => Ok(()),
@@ -145,25 +143,4 @@ fn path_of<A: Allocator + Clone, R: Files + Env + Alloc<A = A>>(
     } else {
         find_filename(rt, Path::new(name))
     }
-}
-
-// All bytes of a source. A read that is interrupted is tried again.
-fn read_all<A: Allocator, S: Source>(alloc: A, source: &mut S) -> Result<Vec<u8, A>, Error<A>>
-    ensures { (ahead : Ahead) → (S.told source.old).ahead ≡ Some ahead
-        → IfOk result (λ bytes. IsWhole ahead bytes.items) }
-{
-    let mut bytes = Vec::new(alloc);
-    let mut buffer = [0u8; 8192];
-    'reads: for _ in 0..u64::MAX {
-        match source.read_some(&mut buffer) {
-            Ok(0) => return Ok(bytes),
-            Ok(n) => bytes.extend_from_slice(&buffer[..n])?,
-            Err(fault) => {
-                if fault.kind() != ErrorKind::Interrupted {
-                    return Err(or_memory(Error::Io(fault)));
-                }
-            }
-        }
-    }
-    Err(Error::Io(io::Error::other("too many reads")))
 }

@@ -46,15 +46,18 @@ returns g c =
       trail = texts trail;
       after = texts (drop c.min-2.result (drop removed (drop front old)));
     }) =
-    rw (count_before old front before c.same_front-front.ensures.in_old (omega arith), count_shown lead removed_lines trail, count_shown lead added_lines trail)
-    counts in
+    rw (
+      count_before old front before c.same_front-front.ensures.in_old (omega arith),
+      count_shown lead removed_lines trail,
+      count_shown lead added_lines trail,
+    ) counts in
     on_ok_weaker c.push_lines-4.result
     (λ written. (
       _,
       is_hunk,
       parts_pushed c.args.text.now.items _ _ _ _ _ _ _ _ _ _
-          (rw (c.as_bytes.ensures.value, head) at c.in_ok-extend_from_slice.ensures.items) (rw lead_is at c.in_ok-push_lines.ensures)
-          (rw removed_is at c.in_ok-push_lines-2.ensures) (rw added_is at c.in_ok-push_lines-3.ensures)
-          (rw trail_is at written),
+          (rw (c.as_bytes.ensures.value, head) at c.in_ok-extend_from_slice.ensures.items)
+          (rw lead_is at c.in_ok-push_lines.ensures) (rw removed_is at c.in_ok-push_lines-2.ensures)
+          (rw added_is at c.in_ok-push_lines-3.ensures) (rw trail_is at written),
     ))
     c.push_lines-4.ensures

@@ -10,7 +10,8 @@ use Rattle.dotenvy_edit_command.proofs.KeptUnsets.{could_unset}
 use Rattle.dotenvy_edit_command.proofs.UnsetNames.{keeps_next, keeps_passed, made_next, memory_only, passed}
 use Rattle.dotenvy_edit_command.proofs.UnsetNames.{refused_later, refused_next, texts_from, texts_to}
 use Rattle.dotenvy_edit_command.proofs.edits.unset_names.Goals as goal
-use Rattle.dotenvy_edit_command.proofs.edits.unset_names.Goals.{then-not-is_among+in_ok-told+in_ok-push_str+in_ok-all, else-not-is_among}
+use Rattle.dotenvy_edit_command.proofs.edits.unset_names.Goals.{then-not-is_among+in_ok-said+in_ok-push_str+in_ok-all}
+use Rattle.dotenvy_edit_command.proofs.edits.unset_names.Goals.{else-not-is_among}
 
 pub names-init : goal.names-init
 names-init g c =
@@ -22,9 +23,9 @@ names-init g c =
       keeps = λ other utf8 not can. rw (bytes, c.bytes.ensures) can;
     }
 
-pub returns-in_err-told-clause-unsets : goal.returns-in_err-told-clause-unsets
-returns-in_err-told-clause-unsets g c =
-    let refused = err_from_is_err_and c.from_residual-in_err-told.result c.from_residual-in_err-told.ensures.1 in
+pub returns-in_err-said-clause-unsets : goal.returns-in_err-said-clause-unsets
+returns-in_err-said-clause-unsets g c =
+    let refused = err_from_is_err_and c.from_residual-in_err-said.result c.from_residual-in_err-said.ensures.1 in
     let name = c.as_str-name.ensures.value in
     let from =
     texts_from c.args.names.now c.names.index c.index-names-index.result c.names-test.true c.index-names-index.is in
@@ -35,7 +36,7 @@ returns-in_err-told-clause-unsets g c =
     (inr (refused_next c.args.old.now.how (string_bytes c.args.old.now.file) (bytes_of c.args.old.now.bytes)
     earlier later (each_once [] (texts c.args.names.now))
     (string_bytes c.index-names-index.result) (rw name at not) (rw from at c.names.invariant.refused) _
-    (rw (c.bytes-then-not-is_among.ensures, name) at c.in_err-told.ensures.unsets)))
+    (rw (c.bytes-then-not-is_among.ensures, name) at c.in_err-said.ensures.unsets)))
 
 pub returns-in_err-all-clause-unsets : goal.returns-in_err-all-clause-unsets
 returns-in_err-all-clause-unsets g c =
@@ -47,10 +48,10 @@ returns-in_err-all-clause-unsets g c =
     let later = texts (drop (c.names.index + 1) c.args.names.now) in
     let not : is_among earlier c.as_str-name.result.now ≡ false = search rules in
     let unset : IsUnset c.args.old.now.how (string_bytes c.args.old.now.file) (bytes_of c.args.old.now.bytes)
-    (string_bytes c.index-names-index.result) c.in_ok-told.told =
-    rw (c.bytes-then-not-is_among.ensures, name) at c.in_ok-told.ensures.unsets in
+    (string_bytes c.index-names-index.result) c.in_ok-said.field-0 =
+    rw (c.bytes-then-not-is_among.ensures, name) at c.in_ok-said.ensures.unsets in
     let can = could_unset c.args.old.now.how.dialect (chars (string_bytes c.index-names-index.result))
-    (bytes_of c.args.old.now.bytes) c.in_ok-told.told.bytes.items unset.0 in
+    (bytes_of c.args.old.now.bytes) c.in_ok-said.field-0.bytes.items unset.0 in
     let still = c.names.invariant.keeps (string_bytes c.index-names-index.result)
     (IsUtf8-string_bytes c.index-names-index.result) (rw name at not) can in
     rw (refused.1, refused.2)
@@ -68,7 +69,7 @@ names-preserved g c =
     let earlier = texts (take c.names.index c.args.names.now) in
     let later = texts (drop (c.names.index + 1) c.args.names.now) in
     elim c.if-not-is_among.branch [
-      | then-not-is_among+in_ok-told+in_ok-push_str+in_ok-all w ↦ (
+      | then-not-is_among+in_ok-said+in_ok-push_str+in_ok-all w ↦ (
           let not : is_among earlier c.as_str-name.result.now ≡ false = search rules in
           record {
             inside = omega (arith, c.names-test.true);
@@ -76,15 +77,15 @@ names-preserved g c =
                 (made_next c.args.old.now.how (string_bytes c.args.old.now.file) (bytes_of c.args.old.now.bytes)
                 c.names.all.bytes.items w.in_ok-all.field-0.bytes.items earlier later
                 (each_once [] (texts c.args.names.now)) (string_bytes c.index-names-index.result)
-                (string_bytes c.names.all.said) w.in_ok-told.told (rw name at not)
-                (rw (w.bytes-then-not-is_among.ensures, name) at w.in_ok-told.ensures.unsets)
+                (string_bytes c.names.all.said) w.in_ok-said.field-0 (rw name at not)
+                (rw (w.bytes-then-not-is_among.ensures, name) at w.in_ok-said.ensures.unsets)
                 (rw (w.as_slice.ensures.value, name) at w.in_ok-all.ensures.unsets).0
                 (rw from at c.names.invariant.made));
             refused = rw to
                 (refused_later c.args.old.now.how (string_bytes c.args.old.now.file) (bytes_of c.args.old.now.bytes)
                 earlier later (each_once [] (texts c.args.names.now)) (string_bytes c.index-names-index.result)
-                w.in_ok-told.told (rw name at not)
-                (rw (w.bytes-then-not-is_among.ensures, name) at w.in_ok-told.ensures.unsets)
+                w.in_ok-said.field-0 (rw name at not)
+                (rw (w.bytes-then-not-is_among.ensures, name) at w.in_ok-said.ensures.unsets)
                 (rw from at c.names.invariant.refused));
             keeps = rw (to, w.all-is)
                 (keeps_next c.args.old.now.how.dialect (bytes_of c.args.old.now.bytes) c.names.all.bytes.items

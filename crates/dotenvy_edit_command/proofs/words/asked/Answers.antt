@@ -4,7 +4,8 @@ use Rattle.clap.specs.Words.{found_of, rows_of}
 use Rattle.dotenvy_words.proofs.FoundValues.{first_by, values_by}
 use Rattle.dotenvy_edit_command.proofs.CommandWords.{found_refused}
 use Rattle.dotenvy_edit_command.proofs.words.asked.Goals as goal
-use Rattle.dotenvy_edit_command.proofs.words.asked.Goals.{in-Some-get_strs+in_ok-task_of-in-Some-get_strs, in-None+in_ok-file-in-None}
+use Rattle.dotenvy_edit_command.proofs.words.asked.Goals.{in-Some-get_strs+in_ok-task_of-in-Some-get_strs}
+use Rattle.dotenvy_edit_command.proofs.words.asked.Goals.{in-None+in_ok-file-in-None}
 
 pub returns-in_default : goal.returns-in_default
 returns-in_default g c =

@@ -1,8 +1,8 @@
 //! Reads a source to its end.
 
-ghost use Rattle.std.specs.Prelude.{◌≡◌, IfOk, Some};
+ghost use Rattle.std.specs.Prelude.{◌≡◌, ◌≤◌, IfErr, IfOk, Some, vec_capacity};
 ghost use Rattle.dotenvy_base.specs.Source.{Ahead};
-ghost use Rattle.dotenvy_edit_command.specs.Reads.{IsWhole};
+ghost use Rattle.dotenvy_streams.specs.Reads.{IsReadFault, IsWhole};
 
 use dotenvy::{Error, Source};
 use dotenvy_base::errors::or_memory;
@@ -10,15 +10,20 @@ use std::alloc::Allocator;
 use std::io;
 use std::io::ErrorKind;
 
-/// All bytes of a source. A read that is interrupted is tried again.
-pub(crate) fn read_all<A: Allocator, S: Source>(
+/// All bytes of a source, which are read into room for so many. It grows if the source has more. A read that is
+/// interrupted is tried again.
+pub fn read_all<A: Allocator, S: Source>(
     alloc: A,
+    room: usize,
     source: &mut S,
 ) -> Result<Vec<u8, A>, Error<A>>
-    ensures { (ahead : Ahead) → (S.told source.old).ahead ≡ Some ahead
+    ensures whole { (ahead : Ahead) → (S.told source.old).ahead ≡ Some ahead
         → IfOk result (λ bytes. IsWhole ahead bytes.items) }
+    ensures fault { (ahead : Ahead) → (S.told source.old).ahead ≡ Some ahead
+        → IfErr result (IsReadFault ahead) }
+    ensures room { IfOk result (λ bytes. room ≤ vec_capacity bytes) }
 {
-    let mut bytes = Vec::new(alloc);
+    let mut bytes = Vec::with_capacity(alloc, room)?;
     let mut buffer = [0u8; 8192];
     'reads: for _ in 0..u64::MAX {
         match source.read_some(&mut buffer) {
