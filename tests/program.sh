@@ -2,7 +2,7 @@
 # Refuses each request for memory of the whole program dotenvy_run in turn, and then many of those of dotenvy_export and
 # dotenvy_edit, and sees what they answer: all that was asked for; or status 1, the text of that refusal on standard error
 # and nothing on standard output. Where dotenvy_export can't take its words, and always of dotenvy_edit, the status is 2.
-# It takes some five minutes, and no proof. The last line is `N passed, M failed`.
+# It takes some ten minutes of a processor, and no proof. The last line is `N passed, M failed`.
 #
 # `rt try` builds the program with checks, and the build fixes the number of the request that is refused. Builds take
 # nearly all of the time. So one build serves for all requests but the first ones, and what changes are the words: with
@@ -34,6 +34,16 @@ sh
 -c
 echo "$A $B"
 END
+}
+
+# Makes a case that starts a command with this many files, from 1.env on. The command prints how many of their names it
+# has.
+make_files() {
+    : >"$room/cases/files-$1"
+    {
+        seq "$1" | sed 's/.*/-f\n&.env/'
+        printf '%s\n' sh -c 'env | grep -c "^[ABC][0-9]"'
+    } >"$room/cases/files-$1.args"
 }
 
 # Makes a case of dotenvy_export with this many words `--next`: it writes a small file, and leaves a name out.
@@ -90,15 +100,17 @@ make_edit() {
 }
 
 # Runs the cases of this many words up to that many, each with the request of this number refused: `refuse MAKER NUMBER
-# FEWEST MOST`.
+# FEWEST MOST`. Options of `rt try` may come after these.
 refuse() {
     rm -rf "$room/cases"
     mkdir "$room/cases"
     for words in $(seq "$3" "$4"); do
         "$1" "$words"
     done
+    number=$2
+    shift 4
     # Its status tells nothing that the lines of the cases do not.
-    rt try --fail-alloc "$2" --cases "$room/cases" </dev/null >"$room/output" 2>"$room/errors" || :
+    rt try --fail-alloc "$number" --cases "$room/cases" "$@" </dev/null >"$room/output" 2>"$room/errors" || :
     grep -q '^cases=' "$room/errors" || cat "$room/errors"
 }
 
@@ -154,6 +166,32 @@ for words in $(seq $((fewest + 1)) $((most - 1))); do
 done
 check list-$most $request "$no_words"
 check start-$most $request "$no_words"
+
+# Many files, each with three names that no other has. Twice the requests must suffice for twice the files: so what a file
+# takes doesn't grow with the files and names before it.
+mkdir "$room/files"
+set --
+for file in $(seq 80); do
+    printf 'A%s=1\nB%s=2\nC%s=3\n' "$file" "$file" "$file" >"$room/files/$file.env"
+    set -- "$@" --data "$file.env=$room/files/$file.env"
+done
+few=0 most=0
+for request in 500 1000; do
+    refuse make_files $request 1 80 "$@"
+    few=$most
+    for files in $(seq 80); do
+        whole="run=ended status=0 $((3 * files))"
+        check "files-$files" $request "$whole" "$no_start" "$no_load" "$no_words"
+        [ "$found" != "$whole" ] || most=$files
+    done
+done
+if [ "$few" -gt 0 ] && [ "$most" -ge $((2 * few)) ]; then
+    passed=$((passed + 1))
+    echo "passed: $few files before request 500, $most before request 1000"
+else
+    failed=$((failed + 1))
+    echo "FAILED: $few files before request 500, $most before request 1000"
+fi
 
 # Of dotenvy_export, the first request, and then one that lies behind the last of the fewest words, and among the words of
 # the most. A word takes several requests, so not every one is refused.

@@ -5,8 +5,7 @@ ghost use Rattle.dotenvy.specs.Dialect.{Dialect as Rules};
 ghost use Rattle.dotenvy.specs.Environment.{Texts};
 ghost use Rattle.dotenvy_command.specs.Answers.{texts};
 
-use dotenvy::{Dialect, Environment, Result};
-use env_layers::Layers;
+use dotenvy::{Dialect, Environment, Result, from_filename_with};
 use std::alloc::{Alloc, Allocator};
 use std::env::Env;
 use std::fs::Files;
@@ -26,13 +25,13 @@ pub trait Loader<A: Allocator> {
 
 impl<A: Allocator + Clone, R: Files + Env + Alloc<A = A>> Loader<A> for R {
     fn load(&self, files: &[String<A>], dialect: Dialect) -> Result<Environment<A>, A> {
-        let mut layers = Layers::new(Environment::from_process(self)?);
+        let mut env = Environment::from_process(self)?;
         if files.is_empty() {
-            layers.add_file(self, Path::new(".env"), dialect)?;
+            from_filename_with(self, Path::new(".env"), dialect, &mut env)?;
         }
         'files: for file in files {
-            layers.add_file(self, Path::new(file.as_str()), dialect)?;
+            from_filename_with(self, Path::new(file.as_str()), dialect, &mut env)?;
         }
-        Ok(layers.into_environment())
+        Ok(env)
     }
 }
