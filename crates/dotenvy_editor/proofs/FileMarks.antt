@@ -26,7 +26,7 @@ ends_split (c ∷ []) h = let e = eqb-true c line_feed h in ([], rw e refl)
 ends_split (c ∷ d ∷ text) h = let rest = ends_split (d ∷ text) h in (c ∷ rest.0, ap (◌∷◌ c) rest.1)
 
 -- bytes with a mark begin with it
-mark_first : (bytes : List ℕ) → has_mark bytes ≡ true → bytes ≡ byte_order_mark ++ drop 3 bytes
+pub mark_first : (bytes : List ℕ) → has_mark bytes ≡ true → bytes ≡ byte_order_mark ++ drop 3 bytes
 mark_first bytes h =
     let e = same_text byte_order_mark (take 3 bytes) (sym h) in
     sym (take-append-drop 3 bytes) ∙ ap (λ x. x ++ drop 3 bytes) (sym e)

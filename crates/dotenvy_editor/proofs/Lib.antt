@@ -40,6 +40,11 @@ pub mod ToldLines
 pub mod ToldSlices
 pub mod TriedLines
 pub mod TrimmedTexts
+pub mod VerbatimLines
+pub mod VerbatimPasses
+pub mod VerbatimSteps
 pub mod WhiteSpaces
+pub mod WholeLines
+pub mod WholeStays
 pub mod WrittenAlone
 pub mod WrittenLater

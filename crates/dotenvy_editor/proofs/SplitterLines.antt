@@ -36,7 +36,7 @@ abbrev pub ahead : List ℕ → Ahead
 ahead left = record { bytes = left; fault = None }
 
 -- a splitter is open or not
-stage_cases : (stage : Stage) → (stage ≡ stage_open) ⊎ (stage ≢ stage_open)
+pub stage_cases : (stage : Stage) → (stage ≡ stage_open) ⊎ (stage ≢ stage_open)
 stage_cases stage_open = inl refl
 stage_cases Ended = inr (λ e. cc)
 stage_cases Failed = inr (λ e. cc)
@@ -147,7 +147,7 @@ broken_taken None (Io fault) reads is behind other refused (inl (count, (kind, t
 }
 
 -- there are no more lines than bytes
-lines_short : (bytes : List ℕ) → line_count bytes ≤ length bytes
+pub lines_short : (bytes : List ℕ) → line_count bytes ≤ length bytes
 lines_short [] = omega arith
 lines_short (c ∷ bytes) = grind (arith, lines_short bytes)
 

@@ -47,26 +47,26 @@ pass_run r passes step k (c ∷ front) h =
     pass_then {a = c ∷ []} {b = front} (pass_one (step c are.0) k) (pass_run r passes step k front are.1)
 
 -- where a part begins, a plain character is read alone
-plain_after : (q : Quoting) (c : ℕ) → is_plain q c ≡ true → after_base q c ≡ Base q
+pub plain_after : (q : Quoting) (c : ℕ) → is_plain q c ≡ true → after_base q c ≡ Base q
 plain_after q c h = grind arith
 
 -- a backslash begins an escape
-backslash_after : (q : Quoting) → after_base q backslash ≡ Escaping q
+pub backslash_after : (q : Quoting) → after_base q backslash ≡ Escaping q
 backslash_after Unquoted = refl
 backslash_after DoubleQuoted = refl
 
 -- a dollar begins a name
-dollar_after : (q : Quoting) → after_base q dollar ≡ Dollar q
+pub dollar_after : (q : Quoting) → after_base q dollar ≡ Dollar q
 dollar_after Unquoted = refl
 dollar_after DoubleQuoted = refl
 
 -- a first character of a bare name is read
-name_first : (dialect : Dialect) (q : Quoting) (c : ℕ) → is_name_character dialect c ≡ true →
+pub name_first : (dialect : Dialect) (q : Quoting) (c : ℕ) → is_name_character dialect c ≡ true →
     after dialect (Dollar q) c ≡ Name q
 name_first dialect q c h = let none = no_names dialect in grind (arith, nat_tests, none)
 
 -- a further character of a bare name is read
-name_more : (dialect : Dialect) (q : Quoting) (c : ℕ) → is_name_character dialect c ≡ true →
+pub name_more : (dialect : Dialect) (q : Quoting) (c : ℕ) → is_name_character dialect c ≡ true →
     after dialect (Name q) c ≡ Name q
 name_more dialect q c h = rw h refl
 
@@ -84,7 +84,7 @@ name_end {dialect} {q} (d ∷ name) c h ends =
     (pass_run (Name q) (is_name_character dialect) (name_more dialect q) refl name are.1) (pass_one goes refl))
 
 -- the reading right after a dollar and a bare name
-abbrev named : Quoting → List ℕ → Reading
+abbrev pub named : Quoting → List ℕ → Reading
 named q [] = Dollar q
 named q (c ∷ name) = Name q
 
@@ -98,7 +98,7 @@ name_read {dialect} {q} (c ∷ name) h =
     (pass_run (Name q) (is_name_character dialect) (name_more dialect q) refl name are.1)
 
 -- a character that a bare name leaves begins a part
-left_after : (dialect : Dialect) (q : Quoting) (name : List ℕ) (c : ℕ) (cs : List ℕ) →
+pub left_after : (dialect : Dialect) (q : Quoting) (name : List ℕ) (c : ℕ) (cs : List ℕ) →
     is_before_left dialect q (c ∷ cs) ≡ true → after dialect (named q name) c ≡ after_base q c
 left_after dialect q [] c cs h = let none = no_names dialect in grind (arith, nat_tests, none)
 left_after dialect q (d ∷ name) c cs h = let none = no_names dialect in grind (arith, nat_tests, none)

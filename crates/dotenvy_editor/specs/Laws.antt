@@ -1,5 +1,6 @@
 -- Laws of edits: what they do to the lines and the entries of a file.
-use Rattle.std.specs.Prelude.{ℕ, ◌≡◌, ◌≢◌, ◌⊎◌, ◌↔◌, List, [], ◌∷◌, ◌++◌, map, IsTrue}
+use Rattle.std.specs.Prelude.{ℕ, ◌≡◌, ◌≢◌, ◌⊎◌, ◌↔◌, List, [], ◌∷◌, ◌++◌, drop, map, take}
+use Rattle.std.specs.Prelude.{IsTrue}
 use Rattle.dotenvy.specs.Dialect.{Dialect}
 use Rattle.dotenvy.specs.Characters.{line_feed}
 use Rattle.dotenvy.specs.Entries.{Entry, Declares, Fails, AreLogicalLines, Gives, HasEntries}
@@ -14,6 +15,7 @@ use Rattle.dotenvy_editor.specs.Edits.{Renames, Sets, Unsets, has_mark}
 use Rattle.dotenvy_editor.specs.Ends.{ends_in}
 use Rattle.dotenvy_editor.specs.Lines.{MeansText}
 use Rattle.dotenvy_editor.specs.Slices.{Slice, AreSlices, IsNextSlice}
+use Rattle.dotenvy_editor.specs.Whole.{IsWholeLen}
 
 -- a line with its line feed, if it isn't open, is the same logical line alone and before any later bytes
 abbrev pub StandsAlone : Type 0
@@ -26,6 +28,15 @@ abbrev pub HasOneCut : Type 0
 HasOneCut =
     (bytes : List ℕ) → (slices : List Slice) × AreSlices bytes slices
     × ((others : List Slice) → AreSlices bytes others → others ≡ slices)
+
+-- the entries of whole lines that are counted stay, whatever follows: they come first, and those of what is after these
+-- lines later
+abbrev pub WholeStays : Type 0
+WholeStays =
+    (dialect : Dialect) (bytes more : List ℕ) (count : ℕ) (front after : List Entry) →
+    IsWholeLen bytes count → HasEntries dialect (take count bytes) front →
+    HasEntries dialect (drop count bytes ++ more) after →
+    HasEntries dialect (bytes ++ more) (front ++ after)
 
 -- an entry of a file, marked: of a line that assigns the key, or of another line
 pub data Marked : Type 0 where

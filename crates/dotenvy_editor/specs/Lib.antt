@@ -7,7 +7,9 @@ pub mod Lines
 pub mod Ends
 pub mod Edits
 pub mod Refusals
+pub mod Verbatim
 pub mod Warnings
+pub mod Whole
 pub mod Tails
 pub mod Told
 pub mod Laws

@@ -3,7 +3,7 @@
 //! A law is the contract of a function that does nothing: a call of it has no effect.
 
 ghost use Rattle.dotenvy_editor.specs.Laws.{HasOneCut, HasOneMarking, KeepsMark, RenamesEach};
-ghost use Rattle.dotenvy_editor.specs.Laws.{SetsOneEntry, StandsAlone, UnsetsAll};
+ghost use Rattle.dotenvy_editor.specs.Laws.{SetsOneEntry, StandsAlone, UnsetsAll, WholeStays};
 
 /// A line with its line feed is the same logical line alone and before any later bytes, unless it stays open.
 pub fn stands_alone()
@@ -13,6 +13,18 @@ pub fn stands_alone()
 /// A file is cut into its logical lines in one way.
 pub fn one_cut()
     ensures { HasOneCut }
+{}
+
+/// The entries of whole lines stay, whatever follows: a reader that has so many bytes can take them, and go on after
+/// these bytes.
+///
+/// ```
+/// // of `A=1\nB='x\n` 4 bytes are whole: before any more bytes the entry of A comes first, then those of `B='x\n` and
+/// // the bytes after it
+/// whole_stays();
+/// ```
+pub fn whole_stays()
+    ensures { WholeStays }
 {}
 
 /// Each entry of a file is marked in one way: of a line that assigns the key, or of another. A declaration is marked

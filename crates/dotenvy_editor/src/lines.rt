@@ -68,8 +68,8 @@ impl<'b, A: Allocator> Model for Lines<'b, A> {
         × NothingBehind s.unclosed (drop s.place s.bytes.now) };
 }
 
-// The bytes after the first physical line.
-fn after_line(bytes: &[u8]) -> &[u8]
+/// The bytes after the first physical line.
+pub fn after_line(bytes: &[u8]) -> &[u8]
     ensures { SkipsLines bytes.now 1 result.now }
 {
     match memchr(b'\n', bytes) {

@@ -65,7 +65,7 @@ fn after_name(dialect: Dialect, quoting: Quoting, c: char) -> Reading
 
 impl Reading {
     // What follows a character of a value.
-    fn after(self, dialect: Dialect, c: char) -> Reading
+    pub(crate) fn after(self, dialect: Dialect, c: char) -> Reading
         ensures { result ≡ after dialect self c }
     {
         match self {

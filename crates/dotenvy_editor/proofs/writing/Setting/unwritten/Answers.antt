@@ -1,7 +1,7 @@
-use Rattle.std.proofs.Common.{◌≡◌, ◌∙◌, false, true, inl, inr, refl, sym}
+use Rattle.std.proofs.Common.{◌≡◌, ◌∙◌, false, inl, inr, refl, sym}
 use Rattle.std.specs.Str.{chars}
 use Rattle.dotenvy_editor.specs.Portable.{has_white_space}
-use Rattle.dotenvy_editor.specs.inside.Tried.{has_form, texts_of}
+use Rattle.dotenvy_editor.specs.inside.Tried.{texts_of}
 use Rattle.dotenvy_editor.proofs.TriedLines.{no_portable, some_portable, spaced_forms}
 use Rattle.dotenvy_editor.proofs.writing.Setting.unwritten.Goals as goal
 
