@@ -10,10 +10,15 @@ int main(int argc, char **argv) {
     static uint8_t file[MOST], out[2 * MOST];
     static struct dotenvy_item items[MOST / 16];
     size_t length = fread(file, 1, sizeof file, stdin);
-    uint8_t empty = 0;
-    if (argc == 2 && strcmp(argv[1], "items") == 0)
-        return !dotenvy_items(file, length, &empty, 0, 0, items, sizeof items / sizeof items[0], out, sizeof out).fits;
-    if (argc == 2 && strcmp(argv[1], "load") == 0)
-        return !dotenvy_load(file, length, &empty, 0, 0, out, sizeof out).fits;
+    if (argc == 2 && strcmp(argv[1], "items") == 0) {
+        struct dotenvy_counts counts;
+        dotenvy_items(file, length, NULL, 0, 0, &counts, items, sizeof items / sizeof items[0], out, sizeof out);
+        return !counts.fits;
+    }
+    if (argc == 2 && strcmp(argv[1], "load") == 0) {
+        struct dotenvy_answer answer;
+        dotenvy_load(file, length, NULL, 0, 0, &answer, out, sizeof out);
+        return !answer.fits;
+    }
     return 2;
 }

@@ -1,6 +1,6 @@
 #!/usr/bin/env bash
-# How many instructions the calls of the library for C take a byte, by valgrind's callgrind: `items` and `load` over files
-# of about 200 kB. What the caller does besides isn't counted.
+# How many instructions the calls of the library for C take a byte, by valgrind's callgrind: `items` and `load` over
+# files of about 200 kB. What the caller does besides isn't counted.
 #
 # usage: bench/c_calls.sh [KIND]..
 #

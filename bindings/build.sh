@@ -1,6 +1,6 @@
 #!/usr/bin/env bash
-# Proves and builds the library for C: bindings/out/libdotenvy.a, and bindings/out/libdotenvy.so.1 for callers that load it
-# while they run, as the Python package does. It needs `rt`, the command of the toolchain, and `objcopy` of binutils.
+# Proves and builds the library for C: bindings/out/libdotenvy.a, and bindings/out/libdotenvy.so.1 for callers that load
+# it while they run, as the Python package does. It needs `rt`, the command of the toolchain, and `objcopy` of binutils.
 #
 # usage: bindings/build.sh
 set -euo pipefail

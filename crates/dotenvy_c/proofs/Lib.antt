@@ -3,6 +3,11 @@ mod Answered
 mod Answering
 mod Telling
 mod ReadBack
+mod Standing
+mod ItemLines
+mod MarkLines
+mod AskedItems
 mod SaidItems
 mod SaidLoads
 mod Warned
+mod WholeFits

@@ -19,9 +19,9 @@ use Rattle.dotenvy.specs.Meaning.{values_of}
 use Rattle.dotenvy.specs.NextItem.{Item, SaysItem}
 use Rattle.dotenvy_items.proofs.Iterations.{items_in_order}
 use Rattle.dotenvy_c.specs.File.{file_told, fresh_file}
-use Rattle.dotenvy_c.specs.Items.{TellsItems, ToldItem}
+use Rattle.dotenvy_c.specs.Items.{TellsItems}
 use Rattle.dotenvy_c.specs.Said.{SayTold, SaysTold}
-use Rattle.dotenvy_c.specs.Told.{ToldResult, error_told, item_told, kind_status}
+use Rattle.dotenvy_c.specs.Told.{ToldItem, ToldResult, error_told, item_told, kind_status}
 
 -- the items that C is told of
 given_of : (names : Texts) (s : IterState) (told : List ToldItem) → TellsItems names s told → List (Item Global)
@@ -54,7 +54,7 @@ none_refused names s (first ∷ later) (t, tells, others) =
     (not_refused tells.item first.0 tells.tells, none_refused names t later others)
 
 -- what is told is what is said to be told
-told_is : {one told : ToldResult} → Some one ≡ Some told → one ≡ told
+pub told_is : {one told : ToldResult} → Some one ≡ Some told → one ≡ told
 told_is e = cc
 
 -- an error as it is told says the failure that the error says

@@ -1,5 +1,6 @@
 -- What an edit tells C, and what it writes.
-use Rattle.std.specs.Prelude.{ℕ, ◌≡◌, ◌≤◌, ◌⊎◌, ◌↔◌, false, IsTrue, List, length, Result, Ok, Err}
+use Rattle.std.specs.Prelude.{ℕ, ◌≡◌, ◌≤◌, ◌⊎◌, ◌↔◌, false, IsTrue, List, [], ◌∷◌, length}
+use Rattle.std.specs.Prelude.{Result, Ok, Err}
 use Rattle.std.specs.declared.alloc.Global.{Global}
 use Rattle.dotenvy_editor.specs.declared.refusal.Reason.{Reason}
 use Rattle.dotenvy_editor.specs.declared.refusal.Unedited.{Unedited}
@@ -29,6 +30,7 @@ refused_edit status line = record {
   file_len = 0;
   names_len = 0;
   warnings = 0;
+  reserved = 0 ∷ 0 ∷ [];
 }
 
 -- an edit is refused, for the reason that this status names, at this line, and writes nothing
@@ -43,6 +45,7 @@ pub record TellsEdited (edited : Edited Global) (edit : Edit) (old new : Buffers
   pub file_len : edit.file_len ≡ length edited.bytes.items
   pub names_len : edit.names_len ≡ length (warning_names edited.warnings.items)
   pub warnings : edit.warnings ≡ length edited.warnings.items
+  pub reserved : edit.reserved ≡ 0 ∷ 0 ∷ []
   pub fits :
       IsTrue edit.fits
       ↔ ((length edited.warnings.items ≤ length old.warnings)

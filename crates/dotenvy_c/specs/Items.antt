@@ -13,12 +13,10 @@ use Rattle.dotenvy_c.specs.declared.items.Records.{Records}
 use Rattle.dotenvy_c.specs.Block.{block_names}
 use Rattle.dotenvy_c.specs.File.{fresh_file}
 use Rattle.dotenvy_c.specs.Options.{bytes_asked, dialect_of}
+use Rattle.dotenvy_c.specs.Places.{lines_at, lines_bytes}
 use Rattle.dotenvy_c.specs.Buffer.{written_if}
-use Rattle.dotenvy_c.specs.Told.{ToldResult, item_told}
-
--- what C is told of an item, and the first and the last physical line that it is on
-abbrev pub ToldItem : Type 0
-ToldItem = ToldResult × (ℕ × ℕ)
+use Rattle.dotenvy_c.specs.Told.{ToldItem, ToldResult, item_told}
+use Rattle.dotenvy_c.specs.Asked.{AreAsked}
 
 -- what C is told of a call of `next_item` from s to t
 pub record TellsItem (names : Texts) (s : IterState) (told : ToldItem) (t : IterState)
@@ -38,65 +36,89 @@ TellsItems names s (told ∷ later) =
 abbrev pub item_text : ToldItem → List ℕ
 item_text told = told.0.key ++ told.0.text
 
--- the record of an item whose key begins here
-abbrev pub record_at : ℕ → ToldItem → rust.Item
-record_at at (told, (first, last)) = record {
-  status = told.status;
+-- the record of an item whose key begins here, and whose lines have this place in the file
+abbrev pub record_at : ℕ → ToldItem → ℕ × ℕ → rust.Item
+record_at at told place = record {
+  status = told.0.status;
   key_at = at;
-  key_len = length told.key;
-  text_len = length told.text;
-  index = told.index;
-  first_line = first;
-  last_line = last;
+  key_len = length told.0.key;
+  text_len = length told.0.text;
+  index = told.0.index;
+  first_line = told.1.0;
+  last_line = told.1.1;
+  file_at = place.0;
+  file_len = place.1;
+  reserved = 0 ∷ 0 ∷ [];
 }
 
--- the records of items whose texts begin here
-abbrev pub records_from : ℕ → List ToldItem → List rust.Item
-records_from at [] = []
-records_from at (told ∷ later) = record_at at told ∷ records_from (at + length (item_text told)) later
+-- the place of the lines of an item in the file
+abbrev pub place_in : List ℕ → ToldItem → ℕ × ℕ
+place_in file told = (lines_at file told.1, lines_bytes file told.1)
+
+-- the records of items of a file whose texts begin here
+abbrev pub records_from : List ℕ → ℕ → List ToldItem → List rust.Item
+records_from file at [] = []
+records_from file at (told ∷ later) =
+    record_at at told (place_in file told) ∷ records_from file (at + length (item_text told)) later
 
 -- the keys and texts of items
 abbrev pub texts_of : List ToldItem → List ℕ
 texts_of = flat_map item_text
 
--- the records of the items that are left of s, under these names
-pub record HasRecords (names : Texts) (s : IterState) (records : Records) : Type 0 where
+-- the records of the items of a file under the environment of a block, as the options ask
+pub record HasRecords (options : ℕ) (file block : List ℕ) (records : Records) : Type 0 where
+  pub given : List ToldItem
+  pub tells :
+      TellsItems (block_names block) (fresh_file (bytes_asked options file) (dialect_of options))
+      given
   pub told : List ToldItem
-  pub tells : TellsItems names s told
-  pub items : records.items.items ≡ records_from 0 told
+  pub asked : AreAsked options file given told
+  pub items : records.items.items ≡ records_from file 0 told
   pub text : records.text.items ≡ texts_of told
 
 -- no items were written, for the reason that this status names
 abbrev pub refused_items : ℕ → Counts
-refused_items status = record { status = status; fits = false; items = 0; text_len = 0 }
+refused_items status = record {
+  status = status;
+  fits = false;
+  items = 0;
+  text_len = 0;
+  reserved = 0 ∷ 0 ∷ [];
+}
 
 -- a call for items is refused, for the reason that this status names, and writes nothing
 abbrev pub RefusesItems : ℕ → Counts → List rust.Item → List rust.Item → List ℕ → List ℕ → Type 0
 RefusesItems status counts old_items new_items old new =
     (counts ≡ refused_items status) × (new_items ≡ old_items) × (new ≡ old)
 
--- an item that is on these lines was added to records, as it is told
-pub record AddsItem (item : Item Global) (lines : ℕ × ℕ) (old new : Records) : Type 0 where
+-- an item that is on these lines, which have this place, was added to records, as it is told
+pub record AddsItem (item : Item Global) (lines place : ℕ × ℕ) (old new : Records)
+    : Type 0 where
   pub told : ToldResult
   pub tells : item_told item ≡ Some told
   pub items :
-      new.items.items ≡ old.items.items ++ record_at (length old.text.items) (told, lines) ∷ []
+      new.items.items
+      ≡ old.items.items ++ record_at (length old.text.items) (told, lines) place ∷ []
   pub text : new.text.items ≡ old.text.items ++ item_text (told, lines)
 
 -- the answer to a call for the items of a file under the environment of a block: their records and
 -- their texts stand in the buffers where both fit, and their numbers are told
 pub record AnswersItems (options : ℕ) (file block : List ℕ) (counts : Counts)
     (old_items new_items : List rust.Item) (old new : List ℕ) : Type 0 where
-  pub told : List ToldItem
+  pub given : List ToldItem
   pub tells :
-      TellsItems (block_names block) (fresh_file (bytes_asked options file) (dialect_of options)) told
+      TellsItems (block_names block) (fresh_file (bytes_asked options file) (dialect_of options))
+      given
+  pub told : List ToldItem
+  pub asked : AreAsked options file given told
   pub status : counts.status ≡ 0
   pub items : counts.items ≡ length told
   pub text_len : counts.text_len ≡ length (texts_of told)
+  pub reserved : counts.reserved ≡ 0 ∷ 0 ∷ []
   pub fits :
       IsTrue counts.fits
       ↔ ((length told ≤ length old_items) × (length (texts_of told) ≤ length old))
-  pub records : new_items ≡ written_if counts.fits (records_from 0 told) old_items
+  pub records : new_items ≡ written_if counts.fits (records_from file 0 told) old_items
   pub texts : new ≡ written_if counts.fits (texts_of told) old
 
 -- the answer to a call for items; or the call is refused, for the reason that this status names

@@ -9,11 +9,11 @@ use Rattle.dotenvy.specs.Marks.{without_mark}
 use Rattle.dotenvy.specs.Meaning.{values_of}
 use Rattle.dotenvy_c.specs.Block.{FitsBlock, block_names, block_of}
 use Rattle.dotenvy_c.specs.File.{fresh_file}
-use Rattle.dotenvy_c.specs.Items.{TellsItems, ToldItem}
+use Rattle.dotenvy_c.specs.Items.{TellsItems}
 use Rattle.dotenvy_c.specs.Load.{LoadsFile}
 use Rattle.dotenvy_c.specs.Options.{dialect_of, rule_asked}
 use Rattle.dotenvy_c.specs.Said.{SaysLoad, SayTold}
-use Rattle.dotenvy_c.specs.Told.{ToldResult}
+use Rattle.dotenvy_c.specs.Told.{ToldItem, ToldResult}
 
 -- the block of an environment stands for that environment
 abbrev pub BlockReadsBack : Type 0
@@ -22,7 +22,8 @@ BlockReadsBack = (names : Texts) → FitsBlock names → block_names (block_of n
 -- of a file of fewer than 2^32 bytes the items are told that it has: all, in order, and no others
 abbrev pub ItemsAreTold : Type 0
 ItemsAreTold =
-    (dialect : Dialect) (file : List ℕ) (names : Texts) (entries : List Entry) (told : List ToldItem) →
+    (dialect : Dialect) (file : List ℕ) (names : Texts) (entries : List Entry)
+    (told : List ToldItem) →
     length file < most_reads → HasEntries dialect file entries →
     TellsItems names (fresh_file file dialect) told →
     SayTold told (items (values_of names) entries)

@@ -1,3 +1,4 @@
+pub mod Asked
 pub mod Block
 pub mod Buffer
 pub mod Edit
@@ -6,7 +7,11 @@ pub mod Items
 pub mod Laws
 pub mod Load
 pub mod Options
+pub mod Places
 pub mod Refused
 pub mod Said
+pub mod Texts
 pub mod Told
 pub mod Warnings
+pub mod Whole
+pub mod Write

@@ -1,5 +1,6 @@
 -- What a load tells C, and what it writes.
-use Rattle.std.specs.Prelude.{ℕ, ◌≡◌, ◌≤◌, ◌↔◌, false, IsTrue, List, ◌++◌, length, Some, Result}
+use Rattle.std.specs.Prelude.{ℕ, ◌≡◌, ◌≤◌, ◌↔◌, false, IsTrue, List, [], ◌∷◌, ◌++◌, length}
+use Rattle.std.specs.Prelude.{Some, Result}
 use Rattle.std.specs.declared.alloc.Global.{Global}
 use Rattle.dotenvy.specs.Error.{Error}
 use Rattle.dotenvy.specs.Environment.{Texts}
@@ -14,7 +15,14 @@ use Rattle.dotenvy_c.specs.Told.{ToldResult, outcome_told}
 
 -- nothing was written, for the reason that this status names
 abbrev pub refusal : ℕ → Answer
-refusal status = record { status = status; fits = false; index = 0; block_len = 0; text_len = 0 }
+refusal status = record {
+  status = status;
+  fits = false;
+  index = 0;
+  block_len = 0;
+  text_len = 0;
+  reserved = 0 ∷ 0 ∷ [];
+}
 
 -- a load of a file over the environment of a block, as the options ask, leaves these names and
 -- tells this of its result
@@ -50,5 +58,6 @@ pub record AnswersLoad (options : ℕ) (file block : List ℕ) (answer : Answer)
   pub index : answer.index ≡ told.index
   pub block_len : answer.block_len ≡ length (block_of names)
   pub text_len : answer.text_len ≡ length told.text
+  pub reserved : answer.reserved ≡ 0 ∷ 0 ∷ []
   pub fits : IsTrue answer.fits ↔ (length (block_of names ++ told.text) ≤ length old)
   pub written : new ≡ written_if answer.fits (block_of names ++ told.text) old

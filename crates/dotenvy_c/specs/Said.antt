@@ -5,8 +5,7 @@ use Rattle.dotenvy.specs.Entries.{Failure, LineParse, Io, Nul, Memory}
 use Rattle.dotenvy.specs.Environment.{Texts}
 use Rattle.dotenvy.specs.Meaning.{values_of}
 use Rattle.dotenvy.specs.Run.{Loaded}
-use Rattle.dotenvy_c.specs.Items.{ToldItem}
-use Rattle.dotenvy_c.specs.Told.{ToldResult, kind_status}
+use Rattle.dotenvy_c.specs.Told.{ToldItem, ToldResult, kind_status}
 
 -- this is told of a pair, by its characters, or of a failure; refused memory is told of no item
 abbrev pub SaysTold : ToldResult → Result (List ℕ × List ℕ) Failure → Type 0

@@ -15,6 +15,10 @@ pub record ToldResult : Type 0 where
   pub text : List ℕ
   pub index : ℕ
 
+-- what C is told of an item, and the first and the last physical line that it is on
+abbrev pub ToldItem : Type 0
+ToldItem = ToldResult × (ℕ × ℕ)
+
 -- what the record of the code says
 abbrev pub told_of : rust.Told → ToldResult
 told_of told = record {

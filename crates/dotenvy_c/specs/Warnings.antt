@@ -54,6 +54,7 @@ told_at at noted = record {
   name_len = length noted.name;
   first_line = noted.first_line;
   last_line = noted.last_line;
+  reserved = 0 ∷ 0 ∷ [];
 }
 
 -- the records of warnings whose names begin here

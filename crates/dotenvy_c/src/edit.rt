@@ -33,6 +33,8 @@ pub struct Edit {
     pub names_len: usize,
     /// How many warnings there are.
     pub warnings: usize,
+    /// 0. A later version can tell more here.
+    pub reserved: [u64; 2],
 }
 
 // Nothing was written, for this reason.
@@ -46,6 +48,7 @@ fn refused_edit(status: u32, line: u64) -> Edit
         file_len: 0,
         names_len: 0,
         warnings: 0,
+        reserved: [0; 2],
     }
 }
 
@@ -80,17 +83,12 @@ fn answer_edit(
         file_len,
         names_len: told.bytes.len() - file_len,
         warnings: told.warnings.len(),
+        reserved: [0; 2],
     }
 }
 
-/// Sets a key of a file to a value, and writes the new file to `out`, and the names of the warnings after it. The first
-/// line that assigns the key has the value, and later ones are gone; where none does, one is appended. Every other byte
-/// stays (docs/CONTRACTS.md, "The library for C").
-///
-/// Where `warnings` is too short for all warnings, or `out` for the file and the names, nothing is written, and the
-/// answer tells how long both have to be.
-#[unsafe(no_mangle)]
-pub extern "C" fn dotenvy_set(
+// Sets as `dotenvy_set` does, and tells what came of it.
+fn answer_set(
     alloc: Global,
     file: &[u8],
     key: &[u8],
@@ -130,12 +128,52 @@ pub extern "C" fn dotenvy_set(
     answer_edit(alloc, outcome, warnings, out)
 }
 
-/// Unsets a key of a file, and writes the new file to `out`, and the names of the warnings after it. The lines that
-/// assign the key are gone, with their comments. Every other byte stays (docs/CONTRACTS.md, "The library for C").
+/// Sets a key of a file to a value, and writes the new file to `out`, and the names of the warnings after it. The first
+/// line that assigns the key has the value, and later ones are gone; where none does, one is appended. Every other byte
+/// stays (docs/CONTRACTS.md, "The library for C").
 ///
-/// Where a buffer is too short, it is as in `dotenvy_set`.
+/// Where `warnings` is too short for all warnings, or `out` for the file and the names, nothing is written, and the
+/// answer tells how long both have to be.
+///
+/// What came of it is written to `answer`, and its status is returned, too.
 #[unsafe(no_mangle)]
-pub extern "C" fn dotenvy_unset(
+pub extern "C" fn dotenvy_set(
+    alloc: Global,
+    file: &[u8],
+    key: &[u8],
+    value: &[u8],
+    options: u32,
+    answer: &mut Edit,
+    warnings: &mut [ToldWarning],
+    out: &mut [u8],
+) -> u32
+    ensures option { are_among options (NEXT_DIALECT + PORTABLE) ≡ false →
+        RefusesEdit BAD_OPTION 0 answer.new (buffers warnings.old out.old)
+        (buffers warnings.new out.new) }
+    ensures key { are_among options (NEXT_DIALECT + PORTABLE) ≡ true → is_utf8 key.now ≡ false →
+        RefusesEdit NO_KEY 0 answer.new (buffers warnings.old out.old)
+        (buffers warnings.new out.new) }
+    ensures value { are_among options (NEXT_DIALECT + PORTABLE) ≡ true → is_utf8 key.now ≡ true →
+        is_utf8 value.now ≡ false →
+        RefusesEdit NOT_UTF8 0 answer.new (buffers warnings.old out.old)
+        (buffers warnings.new out.new) }
+    ensures sets { are_among options (NEXT_DIALECT + PORTABLE) ≡ true → is_utf8 key.now ≡ true →
+        is_utf8 value.now ≡ true →
+        AnswersEdit
+        (λ edited. Sets (how_asked options) (chars key.now) (chars value.now) file.now
+        edited.bytes.items)
+        (RefusesSet (how_asked options) (chars key.now) (chars value.now) file.now)
+        answer.new (buffers warnings.old out.old) (buffers warnings.new out.new) }
+    ensures status { result ≡ answer.new.status }
+{
+    let told = answer_set(alloc, file, key, value, options, warnings, out);
+    let status = told.status;
+    *answer = told;
+    status
+}
+
+// Unsets as `dotenvy_unset` does, and tells what came of it.
+fn answer_unset(
     alloc: Global,
     file: &[u8],
     key: &[u8],
@@ -163,4 +201,39 @@ pub extern "C" fn dotenvy_unset(
     };
     let outcome = unset(alloc, file, key, dialect_of(options));
     answer_edit(alloc, outcome, warnings, out)
+}
+
+/// Unsets a key of a file, and writes the new file to `out`, and the names of the warnings after it. The lines that
+/// assign the key are gone, with their comments. Every other byte stays (docs/CONTRACTS.md, "The library for C").
+///
+/// Where a buffer is too short, it is as in `dotenvy_set`.
+///
+/// What came of it is written to `answer`, and its status is returned, too.
+#[unsafe(no_mangle)]
+pub extern "C" fn dotenvy_unset(
+    alloc: Global,
+    file: &[u8],
+    key: &[u8],
+    options: u32,
+    answer: &mut Edit,
+    warnings: &mut [ToldWarning],
+    out: &mut [u8],
+) -> u32
+    ensures option { are_among options NEXT_DIALECT ≡ false →
+        RefusesEdit BAD_OPTION 0 answer.new (buffers warnings.old out.old)
+        (buffers warnings.new out.new) }
+    ensures key { are_among options NEXT_DIALECT ≡ true → is_utf8 key.now ≡ false →
+        RefusesEdit NO_KEY 0 answer.new (buffers warnings.old out.old)
+        (buffers warnings.new out.new) }
+    ensures unsets { are_among options NEXT_DIALECT ≡ true → is_utf8 key.now ≡ true →
+        AnswersEdit
+        (λ edited. Unsets (dialect_of options) (chars key.now) file.now edited.bytes.items)
+        (RefusesUnset (dialect_of options) (chars key.now) file.now)
+        answer.new (buffers warnings.old out.old) (buffers warnings.new out.new) }
+    ensures status { result ≡ answer.new.status }
+{
+    let told = answer_unset(alloc, file, key, options, warnings, out);
+    let status = told.status;
+    *answer = told;
+    status
 }

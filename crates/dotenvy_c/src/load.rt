@@ -26,6 +26,8 @@ pub struct Answer {
     pub block_len: usize,
     /// How many bytes the text of the error takes, after the block.
     pub text_len: usize,
+    /// 0. A later version can tell more here.
+    pub reserved: [u64; 2],
 }
 
 // What is to be written of a load: the bytes of its block and of the text of its error, and how long each is.
@@ -48,6 +50,7 @@ fn refusal(status: u32) -> Answer
         index: 0,
         block_len: 0,
         text_len: 0,
+        reserved: [0; 2],
     }
 }
 
@@ -78,18 +81,8 @@ fn load_over(alloc: Global, file: &[u8], block: &[u8], options: u32) -> Result<L
     })
 }
 
-/// Loads a file over the environment of a block, and writes the new block, and after it the text of the error, to
-/// `out`. docs/GRAMMAR.md, "Loading", says what a load does; it stops at the first error, and what is before it counts.
-///
-/// Where `out` is too short for both, nothing is written, and the answer tells how long both are.
-#[unsafe(no_mangle)]
-pub extern "C" fn dotenvy_load(
-    alloc: Global,
-    file: &[u8],
-    block: &[u8],
-    options: u32,
-    out: &mut [u8],
-) -> Answer
+// Loads as `dotenvy_load` does, and tells what came of it.
+fn answer_load(alloc: Global, file: &[u8], block: &[u8], options: u32, out: &mut [u8]) -> Answer
     ensures option { are_among options (OVERRIDE + NEXT_DIALECT) ≡ false →
         (result ≡ refusal BAD_OPTION) × (out.new ≡ out.old) }
     ensures loads { are_among options (OVERRIDE + NEXT_DIALECT) ≡ true →
@@ -110,5 +103,34 @@ pub extern "C" fn dotenvy_load(
         index: loaded.index,
         block_len: loaded.block_len,
         text_len: loaded.text_len,
+        reserved: [0; 2],
     }
+}
+
+/// Loads a file over the environment of a block, and writes the new block, and after it the text of the error, to
+/// `out`. docs/GRAMMAR.md, "Loading", says what a load does; it stops at the first error, and what is before it counts.
+///
+/// Where `out` is too short for both, nothing is written, and the answer tells how long both are.
+///
+/// What came of it is written to `answer`, and its status is returned, too.
+#[unsafe(no_mangle)]
+pub extern "C" fn dotenvy_load(
+    alloc: Global,
+    file: &[u8],
+    block: &[u8],
+    options: u32,
+    answer: &mut Answer,
+    out: &mut [u8],
+) -> u32
+    ensures option { are_among options (OVERRIDE + NEXT_DIALECT) ≡ false →
+        (answer.new ≡ refusal BAD_OPTION) × (out.new ≡ out.old) }
+    ensures loads { are_among options (OVERRIDE + NEXT_DIALECT) ≡ true →
+        AnswersLoad options file.now block.now answer.new out.old out.new
+        ⊎ ((answer.new ≡ refusal NO_MEMORY) × (out.new ≡ out.old)) }
+    ensures status { result ≡ answer.new.status }
+{
+    let told = answer_load(alloc, file, block, options, out);
+    let status = told.status;
+    *answer = told;
+    status
 }

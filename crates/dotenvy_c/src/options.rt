@@ -9,14 +9,17 @@ use dotenvy_editor::writing::How;
 /// `dotenvy_load`: a name that is there gets the value that the file gives it.
 pub const OVERRIDE: u32 = 1;
 
-/// All calls: the file is read in the second dialect.
+/// All calls on a file: it is read in the second dialect.
 pub const NEXT_DIALECT: u32 = 2;
 
-/// `dotenvy_items`: a byte order mark at the start of the file is dropped. A load always drops it.
+/// `dotenvy_items`, `dotenvy_whole`: a byte order mark at the start of the file is dropped. A load always drops it.
 pub const DROP_MARK: u32 = 4;
 
 /// `dotenvy_set`: the readers of Python, Node and Ruby have to give the value, too.
 pub const PORTABLE: u32 = 8;
+
+/// `dotenvy_items`: the text of a pair is its value with each name in it as it is written.
+pub const AS_WRITTEN: u32 = 16;
 
 /// Whether no option is set but these.
 pub fn are_among(options: u32, known: u32) -> bool

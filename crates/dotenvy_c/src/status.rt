@@ -14,7 +14,7 @@ pub const DONE: u32 = 0;
 /// A line of the file is wrong.
 pub const LINE_PARSE: u32 = 1;
 
-/// A line of the file, or a value that was to be set, is not UTF-8.
+/// A line of the file, or a value that was to be set or written, is not UTF-8.
 pub const NOT_UTF8: u32 = 2;
 
 /// A value that was to be set has a NUL.

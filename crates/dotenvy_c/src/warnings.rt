@@ -32,6 +32,8 @@ pub struct ToldWarning {
     pub first_line: u64,
     /// The physical line on which it ends.
     pub last_line: u64,
+    /// 0. A later version can tell more here.
+    pub reserved: [u64; 2],
 }
 
 /// A new file, and the names of its warnings after it; and the records of the warnings.
@@ -87,6 +89,7 @@ pub fn told_file(alloc: Global, edited: Edited) -> Result<ToldFile, AllocError>
             name_len: noted.name.len(),
             first_line: noted.first_line,
             last_line: noted.last_line,
+            reserved: [0; 2],
         })?;
         bytes.extend_from_slice(noted.name)?;
     }

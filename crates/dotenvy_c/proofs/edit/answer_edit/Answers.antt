@@ -21,6 +21,7 @@ returns c =
       file_len = file;
       names_len = omega (arith, measured, whole, parts, file);
       warnings = counted ∙ size;
+      reserved = refl;
       fits = rw (← size, ← whole) (elim c.if-len-warnings.branch [
         | then-len-warnings w ↦ search rules
         | else-len-warnings w ↦ search rules

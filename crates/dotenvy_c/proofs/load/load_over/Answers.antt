@@ -8,7 +8,8 @@ use Rattle.dotenvy_c.proofs.load.load_over.Goals as goal
 pub returns-clause-ok : goal.returns-clause-ok
 returns-clause-ok c =
     let fresh = c.in_ok-file.ensures.ok ∙ rw (c.new.ensures, c.dialect_of.ensures) refl in
-    let loads : LoadsFile c.args.options c.args.file.now c.args.block.now c.if-has_option.environment.names (told_of c.in-Some.told) =
+    let loads : LoadsFile c.args.options c.args.file.now c.args.block.now c.if-has_option.environment.names
+    (told_of c.in-Some.told) =
     elim c.if-has_option.branch [
       | then-has_option w ↦
           let rule = rule_by c.args.options true (sym w.if-has_option.true ∙ c.has_option.ensures) in

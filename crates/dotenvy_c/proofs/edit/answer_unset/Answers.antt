@@ -1,5 +1,5 @@
 use Rattle.dotenvy_c.proofs.Answered.{answered, no_text_is_text, text_is_text}
-use Rattle.dotenvy_c.proofs.edit.dotenvy_unset.Goals as goal
+use Rattle.dotenvy_c.proofs.edit.answer_unset.Goals as goal
 
 pub returns-in_default-clause-unsets : goal.returns-in_default-clause-unsets
 returns-in_default-clause-unsets c = λ known key.

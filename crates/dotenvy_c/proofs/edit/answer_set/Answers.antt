@@ -1,5 +1,5 @@
 use Rattle.dotenvy_c.proofs.Answered.{answered, no_text_is_text, text_is_text}
-use Rattle.dotenvy_c.proofs.edit.dotenvy_set.Goals as goal
+use Rattle.dotenvy_c.proofs.edit.answer_set.Goals as goal
 
 pub returns-in_default-clause-value : goal.returns-in_default-clause-value
 returns-in_default-clause-value c = λ known key value.
