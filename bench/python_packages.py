@@ -1,5 +1,5 @@
 #!/usr/bin/env python3
-"""How long the Python package takes to read a file, and python-dotenv, if it is installed: wall time, alternated.
+"""How long the Python package takes to read a file, and python-dotenv, if it is installed: processor time, alternated.
 
 usage: bench/python_packages.py [KIND] [KILOBYTES]
 
@@ -19,9 +19,9 @@ ROUNDS = 9
 
 
 def seconds(call):
-    start = time.perf_counter()
+    start = time.process_time()
     call()
-    return time.perf_counter() - start
+    return time.process_time() - start
 
 
 def main():

@@ -43,16 +43,31 @@ def taken(path):
     return path.read_bytes()
 
 
-def metadata(project):
-    """The file METADATA."""
-    return (
-        "Metadata-Version: 2.1\n"
-        f"Name: {project['name']}\nVersion: {project['version']}\nSummary: {project['description']}\n"
-        f"License: {project['license']['text']}\nLicense-File: LICENSE\nLicense-File: NOTICES\n"
-        "Classifier: Operating System :: POSIX :: Linux\n"
-        "Classifier: Programming Language :: Python :: 3\nClassifier: Typing :: Typed\n"
-        f"Requires-Python: {project['requires-python']}\n"
-    )
+def metadata(project, papers=("LICENSE", "NOTICES")):
+    """The file METADATA, of a wheel with these papers."""
+    lines = [
+        "Metadata-Version: 2.1",
+        f"Name: {project['name']}",
+        f"Version: {project['version']}",
+        f"Summary: {project['description']}",
+        f"License: {project['license']['text']}",
+        *(f"License-File: {paper}" for paper in papers),
+        "Classifier: Operating System :: POSIX :: Linux",
+        "Classifier: Programming Language :: Python :: 3",
+        "Classifier: Typing :: Typed",
+        f"Requires-Python: {project['requires-python']}",
+        *(f"Requires-Dist: {name}" for name in project.get("dependencies", [])),
+    ]
+    for extra, names in project.get("optional-dependencies", {}).items():
+        lines.append(f"Provides-Extra: {extra}")
+        lines += [f"Requires-Dist: {name}; extra == '{extra}'" for name in names]
+    return "".join(f"{line}\n" for line in lines)
+
+
+def sources_of(package):
+    """The files of a package and of its parts, by their names below the folder that has it."""
+    kept = (path for path in package.rglob("*") if path.suffix == ".py" or path.name == "py.typed")
+    return {path.relative_to(package.parent).as_posix(): (path.read_bytes(), 0o644) for path in sorted(kept)}
 
 
 def files_of(tree, project):
@@ -62,10 +77,7 @@ def files_of(tree, project):
     shared = taken(tree / "lib" / SHARED)
     programs = {program: taken(tree / "bin" / program) for program in PROGRAMS}
     tag = f"py3-none-manylinux_2_{glibc_of([shared, *programs.values()])}_x86_64"
-    files = {f"{name}/{SHARED}": (shared, 0o755)}
-    for path in sorted((HERE / name).iterdir()):
-        if path.suffix == ".py" or path.name == "py.typed":
-            files[f"{name}/{path.name}"] = (path.read_bytes(), 0o644)
+    files = {f"{name}/{SHARED}": (shared, 0o755), **sources_of(HERE / name)}
     for program, code in programs.items():
         files[f"{data}/scripts/{program}"] = (code, 0o755)
         page = f"share/man/man1/{program}.1"
@@ -91,7 +103,11 @@ def write_wheel(tree, folder):
     """Writes the wheel into a folder, and returns its name."""
     project = tomllib.loads((HERE / "pyproject.toml").read_text())["project"]
     files, tag = files_of(Path(tree), project)
-    stem = f"{project['name']}-{project['version']}"
+    return write_files(files, f"{project['name']}-{project['version']}", tag, folder)
+
+
+def write_files(files, stem, tag, folder):
+    """Writes the wheel with these files and a list of them, and returns its name."""
     info = f"{stem}.dist-info"
     files[f"{info}/RECORD"] = (listed(files, info).encode(), 0o644)
     moment = time.gmtime(max(int(os.environ.get("SOURCE_DATE_EPOCH", FIRST_TIME)), FIRST_TIME))[:6]

@@ -11,14 +11,17 @@ which value counts, and what an edit makes of bytes; searching for files, readin
 from __future__ import annotations
 
 import enum
+import errno
 import os
+import stat
 from collections.abc import Iterator, Mapping
 from dataclasses import dataclass
 from pathlib import Path
-from typing import Union
+from typing import Tuple, Union
 
-from . import _library
-from ._edit import EditError, Refusal, UnsupportedError, check_encoding, check_form, edit_file
+from . import _environment, _library
+from ._edit import AnyPath, EditError, Refusal, UnsupportedError, check_encoding, check_form, edit_file
+from ._errors import DotenvError, LineParseError, NotUtf8Error, NulError, error_of
 
 __all__ = [
     "Dialect",
@@ -40,7 +43,8 @@ __all__ = [
     "unset_key",
 ]
 
-Source = Union[str, "os.PathLike[str]", bytes]
+Source = Union[str, "os.PathLike[str]", "os.PathLike[bytes]", bytes, bytearray, memoryview]
+"""A path, or the bytes of a file. A path that is itself given as bytes has to be a `PathLike`."""
 
 
 class Dialect(enum.Enum):
@@ -53,38 +57,6 @@ class Dialect(enum.Enum):
     """A name may have `_`, and in double quotes it may be right before the closing quote."""
 
 
-class DotenvError(ValueError):
-    """A file is wrong. It is one of the three classes below, unless the library read for too long."""
-
-    def __init__(
-        self, message: str, *, file: str | None, line: int, last_line: int, text: str = "", index: int = 0
-    ) -> None:
-        where = [part for part in (file, str(line) if line else None) if part]
-        super().__init__(f"{':'.join(where)}: {message}" if where else message)
-        self.file = file
-        """The path of the file, or None for bytes."""
-        self.line = line
-        """The physical line on which the error begins, counted from 1; 0 if it is on none."""
-        self.last_line = last_line
-        """The physical line on which it ends."""
-        self.text = text
-        """The text at fault, or for `NulError` the key."""
-        self.index = index
-        """The place in the text where a reader has to give up, counted from 0."""
-
-
-class LineParseError(DotenvError):
-    """A line is no `KEY=value`, or its value is wrong."""
-
-
-class NotUtf8Error(DotenvError):
-    """A line is not UTF-8."""
-
-
-class NulError(DotenvError):
-    """The value of a key has a NUL, which no environment can hold."""
-
-
 @dataclass(frozen=True)
 class Pair:
     """A key with its value, and the physical lines that it is on, counted from 1."""
@@ -95,45 +67,31 @@ class Pair:
     last_line: int
 
 
-def _error(status: int, text: bytes, index: int, file: str | None, lines: tuple[int, int]) -> DotenvError:
-    place = {"file": file, "line": lines[0], "last_line": lines[1]}
-    said = text.decode()
-    if status == _library.LINE_PARSE:
-        message = f"Error parsing line: '{said}', error at line index: {index}"
-        return LineParseError(message, text=said, index=index, **place)
-    if status == _library.NOT_UTF8:
-        return NotUtf8Error("stream did not contain valid UTF-8", **place)
-    if status == _library.NUL:
-        return NulError(f"value of '{said}' contains a NUL", text=said, **place)
-    return DotenvError("too many reads", **place)
+_Asked = Tuple[bytes, bytes, int]
+"""A file, the block of what its values can mention, and options: what the library is asked for its items with."""
 
 
-def _error_of(record: _library.Record, file: str | None) -> DotenvError:
-    lines = record.first_line, record.last_line
-    return _error(record.status, record.text, record.index, file, lines)
+def _asked(
+    path_or_bytes: Source, environment: Mapping[str, str] | None, dialect: Dialect
+) -> tuple[_Asked, str | None]:
+    file, name = _read(path_or_bytes)
+    block = _library.block_of(_environment.seen_by(file, environment).items())
+    return (file, block, dialect.value | _library.DROP_MARK), name
 
 
 def _records(
     path_or_bytes: Source, environment: Mapping[str, str] | None, dialect: Dialect
 ) -> tuple[list[_library.Record], str | None]:
-    file, name = _read(path_or_bytes)
-    options = dialect.value | _library.DROP_MARK
-    return _library.items(file, _block(environment), options), name
+    asked, name = _asked(path_or_bytes, environment, dialect)
+    return _library.items(*asked), name
 
 
 def _read(path_or_bytes: Source) -> tuple[bytes, str | None]:
-    if isinstance(path_or_bytes, bytes):
-        return path_or_bytes, None
-    path = os.fspath(path_or_bytes)
-    return Path(path).read_bytes(), path
-
-
-def _block(environment: Mapping[str, str] | None) -> bytes:
-    if environment is None:
-        return _library.block_of(os.environb.items())
-    return _library.block_of(
-        (os.fsencode(name), os.fsencode(value)) for name, value in environment.items()
-    )
+    if isinstance(path_or_bytes, (bytes, bytearray, memoryview)):
+        return bytes(path_or_bytes), None
+    path = os.fsdecode(path_or_bytes)
+    with open(path, "rb") as file:
+        return file.read(), path
 
 
 def is_key(text: str) -> bool:
@@ -153,19 +111,24 @@ def dotenv_items(
     """The pairs and the errors of a file, in order; an error is given and not raised.
 
     The file is given by its path, or as bytes. A name that a value mentions means its value in `environment`, else the
-    last one declared before it in the file. `environment` is that of the process unless it is given.
+    last one declared before it in the file. `environment` is that of the process unless it is given. The file is read
+    by this call, and not when the first item is asked for.
 
     >>> list(dotenv_items(b"A=1\\nB=${A}0\\n", {}))[1]
     Pair(key='B', value='10', first_line=2, last_line=2)
     """
     records, name = _records(path_or_bytes, environment, dialect)
+    return _items(records, name)
+
+
+def _items(records: list[_library.Record], name: str | None) -> Iterator[Pair | DotenvError]:
     for record in records:
         if record.status == _library.OK:
             yield Pair(
                 record.key.decode(), record.text.decode(), record.first_line, record.last_line
             )
         else:
-            yield _error_of(record, name)
+            yield error_of(record, name)
 
 
 def dotenv_values(
@@ -183,12 +146,10 @@ def dotenv_values(
     """
     if path_or_bytes is None:
         path_or_bytes = find_dotenv() or b""
-    records, name = _records(path_or_bytes, environment, dialect)
-    values = {}
-    for record in records:
-        if record.status != _library.OK:
-            raise _error_of(record, name)
-        values[record.key.decode()] = record.text.decode()
+    asked, name = _asked(path_or_bytes, environment, dialect)
+    values = _library.values(*asked)
+    if values is None:
+        raise next(error_of(it, name) for it in _library.items(*asked) if it.status != _library.OK)
     return values
 
 
@@ -203,54 +164,70 @@ def load_dotenv(
     its value, unless `override` is set; then each name gets the last value that the file gives it. A path at which
     there is no file raises `FileNotFoundError`.
 
-    The first error of the file is raised, and what is before it was set.
+    The first error of the file is raised, and what is before it was set. Only variables that the file declares are
+    written: what another thread changes meanwhile stays.
     """
     if path is None:
         path = find_dotenv()
         if not path:
             return False
     file, name = _read(path)
-    block = _block(None)
+    seen = _environment.seen_by_load(file)
+    block = _library.block_of(seen.items())
     options = dialect.value | (_library.OVERRIDE if override else 0)
     loaded = _library.load(file, block, options)
-    for key, value in loaded.pairs.items():
-        if os.environb.get(key) != value:
-            os.environb[key] = value
+    _environment.set_loaded(loaded.pairs, seen, override)
     if loaded.status != _library.OK:
-        lines = _lines_of(loaded, file, block, dialect)
-        raise _error(loaded.status, loaded.text, loaded.index, name, lines)
+        records = _library.items(file, block, dialect.value | _library.DROP_MARK)
+        raise error_of(_record_of(loaded, records), name)
     return True
 
 
-def _lines_of(loaded: _library.Loaded, file: bytes, block: bytes, dialect: Dialect) -> tuple[int, int]:
-    """The lines of the error at which a load stopped: it is the first error of the file, or a value with a NUL."""
-    for record in _library.items(file, block, dialect.value | _library.DROP_MARK):
+def _record_of(loaded: _library.Loaded, records: list[_library.Record]) -> _library.Record:
+    """The error at which a load stopped, on its lines: those of the first error, or of the value with a NUL."""
+    lines = 0, 0
+    for record in records:
         if loaded.status == _library.NUL:
             is_it = record.key == loaded.text and b"\0" in record.text
         else:
             is_it = record.status == loaded.status
         if is_it:
-            return record.first_line, record.last_line
-    return 0, 0
+            lines = record.first_line, record.last_line
+            break
+    return _library.Record(loaded.status, b"", loaded.text, loaded.place, *lines)
 
 
 def find_dotenv(filename: str = ".env", raise_error_if_not_found: bool = False) -> str:
     """The path of the file of this name in the current directory, or in the nearest directory above that has it.
 
-    It is the empty text if there is none, or `FileNotFoundError` is raised where that is asked for.
+    A named pipe counts as a file. It is the empty text if there is none, or `FileNotFoundError` is raised where that is
+    asked for.
     """
     here = Path.cwd()
     for directory in (here, *here.parents):
-        path = directory / filename
-        if path.is_file():
-            return str(path)
+        path = str(directory / filename)
+        if is_file_or_pipe(path):
+            return path
     if raise_error_if_not_found:
         raise FileNotFoundError(f"no {filename} in {here} or above it")
     return ""
 
 
+def is_file_or_pipe(path: AnyPath) -> bool:
+    """Whether a regular file or a named pipe is there, or a link that leads to one."""
+    try:
+        mode = os.stat(path).st_mode
+    except OSError as error:
+        if error.errno in (errno.ENOENT, errno.ENOTDIR, errno.ELOOP):
+            return False
+        raise
+    except ValueError:  # a NUL in the path
+        return False
+    return stat.S_ISREG(mode) or stat.S_ISFIFO(mode)
+
+
 def set_key(
-    dotenv_path: str | os.PathLike[str],
+    dotenv_path: AnyPath,
     key_to_set: str,
     value_to_set: str,
     quote_mode: str = "always",
@@ -285,7 +262,7 @@ def set_key(
 
 
 def unset_key(
-    dotenv_path: str | os.PathLike[str],
+    dotenv_path: AnyPath,
     key_to_unset: str,
     quote_mode: str = "always",
     encoding: str | None = "utf-8",
@@ -307,7 +284,7 @@ def unset_key(
 
 
 def get_key(
-    dotenv_path: str | os.PathLike[str],
+    dotenv_path: AnyPath,
     key_to_get: str,
     encoding: str | None = "utf-8",
     *,

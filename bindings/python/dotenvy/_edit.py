@@ -7,11 +7,14 @@ import enum
 import logging
 import os
 from collections.abc import Callable
+from typing import Union
 
 from . import _library
 from ._replace import read_old, replace
 
 logger = logging.getLogger("dotenvy")
+
+AnyPath = Union[str, bytes, "os.PathLike[str]", "os.PathLike[bytes]"]
 
 
 class Refusal(enum.Enum):
@@ -92,10 +95,9 @@ SAID = {
 class EditError(ValueError):
     """An edit is refused, and the file is as it was."""
 
-    def __init__(self, reason: Refusal, *, file: str, key: str, line: int) -> None:
-        where = f"{file}:{line}" if line else key
-        said = SAID[reason].replace("{key}", key)
-        super().__init__(f"{where}: {said}")
+    def __init__(self, reason: Refusal, file: str, key: str, line: int) -> None:
+        # All of them, so that a copy can be made of them: `copy` and `pickle` call the class with `args`.
+        super().__init__(reason, file, key, line)
         self.reason = reason
         """Why."""
         self.file = file
@@ -104,6 +106,10 @@ class EditError(ValueError):
         """The key that was to be edited."""
         self.line = line
         """The physical line at fault, counted from 1; 0 if it is of none."""
+
+    def __str__(self) -> str:
+        where = f"{self.file}:{self.line}" if self.line else self.key
+        return f"{where}: {SAID[self.reason].replace('{key}', self.key)}"
 
 
 class UnsupportedError(ValueError):
@@ -124,8 +130,17 @@ def check_form(quote_mode: str, export: bool) -> None:
         raise UnsupportedError("export=True: a line keeps its export, and a new one has none")
 
 
+def is_made(edited: _library.Edited, file: str, key: str) -> bool:
+    """Whether an edit is made: it isn't if no line assigns the key. A refusal raises `EditError`."""
+    if edited.status == _library.ABSENT:
+        return False
+    if edited.status != _library.OK:
+        raise EditError(Refusal(edited.status), file, key, edited.line)
+    return True
+
+
 def edit_file(
-    path: str | os.PathLike[str], key: str, follow_symlinks: bool, edit: Callable[[bytes], _library.Edited]
+    path: AnyPath, key: str, follow_symlinks: bool, edit: Callable[[bytes], _library.Edited]
 ) -> bool:
     """Edits a file, and logs what the edit warns of. It is false if no line assigns the key; then nothing is written.
 
@@ -135,10 +150,8 @@ def edit_file(
     target = os.path.realpath(file) if follow_symlinks else file
     old = read_old(target, follow_symlinks)
     edited = edit(old.content)
-    if edited.status == _library.ABSENT:
+    if not is_made(edited, file, key):
         return False
-    if edited.status != _library.OK:
-        raise EditError(Refusal(edited.status), file=file, key=key, line=edited.line)
     if old.state is None or edited.file != old.content:
         replace(target, edited.file, old.state)
     for note in edited.notes:

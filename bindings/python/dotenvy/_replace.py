@@ -39,7 +39,11 @@ def replace(path: str, content: bytes, old: os.stat_result | None) -> None:
     the old file is as it was, and nothing is left; only where the last one fails, of the folder, the new file is there.
     """
     folder = os.path.dirname(os.path.abspath(path))
-    place, beside = tempfile.mkstemp(prefix=".dotenvy_", dir=folder)
+    try:
+        place, beside = tempfile.mkstemp(prefix=".dotenvy_", dir=folder)
+    except OSError as error:
+        # It has the name of the file beside, which tells nobody anything.
+        raise OSError(error.errno, error.strerror, path) from None
     try:
         with open(place, "wb") as file:
             if old is not None:

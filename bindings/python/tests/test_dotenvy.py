@@ -1,17 +1,22 @@
 """Tests of the package: its calls on files, bytes and the process, its errors, and the layout of its structs."""
 
-import contextlib
+import copy
 import ctypes
 import doctest
 import os
+import pickle
+import socket
 import struct
-import tempfile
+import subprocess
+import sys
+import threading
 import unittest
 from pathlib import Path
 from unittest import mock
 
 import dotenvy
 from dotenvy import _library
+from dotenvy._errors import error_of
 from dotenvy import (
     Dialect,
     DotenvError,
@@ -25,6 +30,8 @@ from dotenvy import (
     is_key,
     load_dotenv,
 )
+
+from .in_folder import InFolder
 
 SYMBOL = struct.Struct("<IBBHQQ")
 SECTION = struct.Struct("<IIQQQQIIQQ")
@@ -52,28 +59,14 @@ def defined_names(elf):
 LAYOUT = Path(__file__).resolve().parents[2] / "rust" / "layout.txt"
 
 
-class InFolder(unittest.TestCase):
-    """A test that has the current directory and `os.environ` to itself."""
+class PathObject:
+    """A path-like object whose path is a text, or bytes."""
 
-    def setUp(self):
-        self.folder = Path(self.enterContext(tempfile.TemporaryDirectory())).resolve()
-        before = Path.cwd()
-        os.chdir(self.folder)
-        self.addCleanup(os.chdir, before)
-        self.enterContext(mock.patch.dict(os.environ, {}, clear=True))
+    def __init__(self, path):
+        self.path = path
 
-    if not hasattr(unittest.TestCase, "enterContext"):  # Python 3.10 and before
-
-        def enterContext(self, context):
-            stack = contextlib.ExitStack()
-            self.addCleanup(stack.close)
-            return stack.enter_context(context)
-
-    def write(self, path, text):
-        path = self.folder / path
-        path.parent.mkdir(parents=True, exist_ok=True)
-        path.write_bytes(text.encode())
-        return path
+    def __fspath__(self):
+        return self.path
 
 
 class Values(InFolder):
@@ -92,6 +85,26 @@ class Values(InFolder):
         self.assertEqual(dotenv_values(), {})
         self.write(".env", "A=1\n")
         self.assertEqual(dotenv_values(), {"A": "1"})
+        # Bytes without a line are a file, too.
+        self.assertEqual(dotenv_values(b""), {})
+
+    def test_bytes_of_each_kind(self):
+        for kind in (bytes, bytearray, memoryview):
+            source = kind(b"A=1\nB=x y\n")
+            with self.subTest(kind):
+                self.assertEqual(next(dotenv_items(source)), Pair("A", "1", 1, 1))
+                self.assertEqual(dotenv_values(kind(b"A=1\n")), {"A": "1"})
+                self.assertTrue(load_dotenv(kind(b"A=1\n")))
+        self.assertEqual(dotenv_values(memoryview(b"xA=1\nx")[1:5]), {"A": "1"})
+
+    def test_paths_of_each_kind(self):
+        path = self.write("a.env", "A=1\nB=x y\n")
+        for place in (os.fspath(path), os.fsencode(path)):
+            with self.subTest(place):
+                with self.assertRaises(LineParseError) as raised:
+                    dotenv_values(PathObject(place))
+                self.assertEqual(raised.exception.file, str(path))
+                self.assertEqual(next(dotenv_items(PathObject(place))), Pair("A", "1", 1, 1))
 
     def test_what_names_mean(self):
         os.environ["HOME"] = "/root"
@@ -115,8 +128,20 @@ class Values(InFolder):
         self.assertEqual(dotenv_values(b"A=$LONG$LONG\n", environment), {"A": "x" * 200_000})
 
     def test_no_file(self):
-        with self.assertRaises(FileNotFoundError):
-            dotenv_values("absent.env")
+        for call in (dotenv_values, dotenv_items):
+            for path in ("absent.env", ""):
+                with self.subTest(call=call, path=path), self.assertRaises(FileNotFoundError):
+                    call(path)
+
+    def test_values_that_are_no_text(self):
+        os.environb[b"B"] = b"\xff"
+        self.assertEqual(dotenv_values(b"A=x$B\n"), {"A": "x"})
+        self.assertEqual(dotenv_values(b"A=x$B\n", dict(os.environ)), {"A": "x"})
+
+    def test_an_environment_of_all_kinds_of_values(self):
+        self.assertEqual(dotenv_values(b"A=$B$C\n", {"B": "1", "C": None}), {"A": "1"})
+        # A letter of another script asks for the whole environment.
+        self.assertEqual(dotenv_values("A=$B$é\n".encode(), {"B": "1", "C": None}), {"A": "1"})
 
     def test_items(self):
         found = list(dotenv_items(b"\nA=1\nB=x y\nC=\"2\n3\"\n"))
@@ -124,6 +149,25 @@ class Values(InFolder):
         self.assertIsInstance(found[1], LineParseError)
         self.assertEqual(found[2], Pair("C", "2\n3", 4, 5))
         self.assertEqual(len(found), 3)
+        self.assertEqual(list(dotenv_items("A=é\n".encode())), [Pair("A", "é", 1, 1)])
+
+    def test_what_items_are_read_with(self):
+        found = list(dotenv_items(b"A=$B_C\n", {"B": "1", "B_C": "2"}, Dialect.NEXT))
+        self.assertEqual(found, [Pair("A", "2", 1, 1)])
+        os.environ["B"] = "3"
+        self.assertEqual(list(dotenv_items(b"A=$B\n", {"B": "1"})), [Pair("A", "1", 1, 1)])
+        self.assertEqual(list(dotenv_items(b"A=$B\n")), [Pair("A", "3", 1, 1)])
+
+    def test_the_file_is_read_by_the_call(self):
+        path = self.write("a.env", "A=1\n")
+        items = dotenv_items(path)
+        path.unlink()
+        self.assertEqual(list(items), [Pair("A", "1", 1, 1)])
+
+    def test_many_items(self):
+        lines = b"".join(b"wrong %d\n" % number for number in range(5000))
+        self.assertEqual(len(list(dotenv_items(lines))), 5000)
+        self.assertEqual(len(list(dotenv_items(b"\n" * 5000 + lines))), 5000)
 
 
 class Errors(InFolder):
@@ -143,6 +187,15 @@ class Errors(InFolder):
                 str(error), f"{path}:2: Error parsing line: 'x y', error at line index: 2"
             )
 
+    def test_the_lines_of_an_error(self):
+        for call in (dotenv_values, load_dotenv):
+            error = self.error_of(b'A=1\nB="x\ny" z\n', call)
+            self.assertEqual((error.line, error.last_line), (2, 3))
+
+    def test_the_first_error_is_raised(self):
+        for call in (dotenv_values, load_dotenv):
+            self.assertEqual(self.error_of(b"A=1\nB=x y\nC=z z\n", call).line, 2)
+
     def test_bytes_have_no_file(self):
         error = self.error_of(b"\nB=x y\n")
         self.assertIsNone(error.file)
@@ -153,6 +206,45 @@ class Errors(InFolder):
             error = self.error_of(b"A=1\nB=\xff\n", call)
             self.assertIsInstance(error, NotUtf8Error)
             self.assertEqual((error.line, error.text), (2, ""))
+            self.assertEqual(str(error), "2: stream did not contain valid UTF-8")
+
+    def test_texts_of_errors(self):
+        for call in (dotenv_values, load_dotenv):
+            error = self.error_of("B=é é\n".encode(), call)
+            self.assertEqual((error.text, error.index), ("é é", 2))
+            self.assertEqual(str(error), "1: Error parsing line: 'é é', error at line index: 2")
+
+    def test_the_file_of_an_error_is_the_path_that_was_given(self):
+        self.write("a.env", "B=x y\n")
+        for path in ("a.env", Path("a.env"), "./a.env"):
+            self.assertEqual(self.error_of(path).file, str(path))
+            self.assertEqual(self.error_of(path, load_dotenv).file, str(path))
+        (error,) = dotenv_items("a.env")
+        self.assertEqual(error.file, "a.env")
+
+    def test_lines_of_a_load(self):
+        self.assertEqual(self.error_of(b"\xef\xbb\xbfA=1\nB=x y\n", load_dotenv).line, 2)
+
+        def next_dialect(source):
+            load_dotenv(source, dialect=Dialect.NEXT)
+
+        # The first line is an error in the first dialect alone.
+        self.assertEqual(self.error_of(b'A="$B"\nC=x y\n', next_dialect).line, 2)
+        error = self.error_of(b'A=1\nA="x\0"\n', lambda source: load_dotenv(source, override=True))
+        self.assertEqual((error.line, error.text), (2, "A"))
+
+    def test_copies(self):
+        self.write("a.env", 'A=1\nB="x\ny" z\n')
+        errors = [self.error_of("a.env"), self.error_of(b"A=\xff\n"), self.error_of(b'A="\0"\n', load_dotenv)]
+        errors.append(dotenvy.EditError(dotenvy.Refusal.END_OPEN, "a.env", "A", 3))
+        errors.append(dotenvy.UnsupportedError("export"))
+        for error in errors:
+            made = [copy.copy(error), copy.deepcopy(error)]
+            made += [pickle.loads(pickle.dumps(error, number)) for number in range(pickle.HIGHEST_PROTOCOL + 1)]
+            for other in made:
+                self.assertIs(type(other), type(error))
+                self.assertEqual(str(other), str(error))
+                self.assertEqual(vars(other), vars(error))
 
     def test_a_nul(self):
         self.assertEqual(dotenv_values(b'A="x\0y"\n'), {"A": "x\0y"})
@@ -166,15 +258,25 @@ class Errors(InFolder):
         self.error_of(b"A=1\nB=x y\nC=3\n", load_dotenv)
         self.assertEqual(dict(os.environ), {"A": "1"})
 
+    def test_other_errors(self):
+        for status, said in ((_library.TOO_MANY_READS, "too many reads"), (99, "unknown")):
+            error = error_of(_library.Record(status, b"", b"", 0, 3, 4), "a.env")
+            self.assertIs(type(error), DotenvError)
+            self.assertEqual((str(error), error.last_line), (f"a.env:3: {said}", 4))
+
     def test_bad_options_and_refused_memory(self):
-        with self.assertRaises(ValueError):
-            _library.load(b"", b"", _library.DROP_MARK)
-        with self.assertRaises(ValueError):
-            _library.items(b"", b"", _library.OVERRIDE)
+        for call, option in ((_library.load, _library.DROP_MARK), (_library.items, _library.OVERRIDE)):
+            with self.assertRaisesRegex(ValueError, "an option that this call does not have"):
+                call(b"", b"", option)
         with mock.patch.object(_library._library, "dotenvy_load") as call:
-            call.return_value = _library.Answer(status=_library.NO_MEMORY)
+            call.return_value = _library.NO_MEMORY
             with self.assertRaises(MemoryError):
                 load_dotenv(b"A=1\n")
+        with mock.patch.object(_library._library, "dotenvy_items") as call:
+            call.return_value = _library.NO_MEMORY
+            for read in (dotenv_values, dotenv_items):
+                with self.assertRaises(MemoryError):
+                    read(b"A=1\n")
 
 
 class Loads(InFolder):
@@ -195,6 +297,64 @@ class Loads(InFolder):
         self.assertEqual(os.environb[b"\xff"], b"1")
         self.assertEqual(os.environb[b"B"], b"\xff")
         self.assertEqual(os.environ["A"], "1")
+        load_dotenv(b"A=2\n", override=True)
+        self.assertEqual(dict(os.environb), {b"\xff": b"1", b"B": b"\xff", b"A": b"2"})
+
+    def test_what_is_no_text_is_no_value(self):
+        os.environb[b"B"] = b"\xff"
+        load_dotenv(b"A=x$B\nB=1\nC=$B\n")
+        self.assertEqual(dict(os.environ), {"A": "x", "B": "1", "C": "1"})
+
+    def test_signs_in_values(self):
+        os.environ["C"] = "=c="
+        load_dotenv(b"A=http://host/?a=b&c=d\nB==\nD=$C\n")
+        self.assertEqual(dict(os.environ), {"A": "http://host/?a=b&c=d", "B": "=", "C": "=c=", "D": "=c="})
+
+    def test_what_exists_and_is_empty(self):
+        os.environ["A"] = ""
+        load_dotenv(b"A=1\nB=x$A\n")
+        self.assertEqual(dict(os.environ), {"A": "", "B": "x"})
+
+    def test_the_first_value_counts(self):
+        load_dotenv(b"A=1\nA=2\nB=$A\n")
+        self.assertEqual(dict(os.environ), {"A": "1", "B": "1"})
+
+    def test_names_with_case(self):
+        os.environ["A"] = "9"
+        load_dotenv(b"A=1\na=2\n", override=True)
+        self.assertEqual(dict(os.environ), {"A": "1", "a": "2"})
+
+    def test_the_dialects(self):
+        os.environ.update({"A": "5", "A_B": "7"})
+        load_dotenv(b"C=$A_B\n")
+        load_dotenv(b"D=$A_B\n", dialect=Dialect.NEXT)
+        self.assertEqual((os.environ["C"], os.environ["D"]), ("5_B", "7"))
+
+    def test_a_nul_over_a_value_that_is_kept(self):
+        os.environ["A"] = "9"
+        self.assertTrue(load_dotenv(b'A="x\0"\nB=$A\n'))
+        self.assertEqual(dict(os.environ), {"A": "9", "B": "9"})
+
+    def test_a_file_without_names(self):
+        self.write(".env", "")
+        self.assertTrue(load_dotenv())
+        self.assertTrue(load_dotenv(b""))
+        self.assertEqual(dict(os.environ), {})
+
+    def test_override_of_the_file_that_is_found(self):
+        self.write(".env", "A=1\n")
+        os.environ["A"] = "9"
+        load_dotenv()
+        self.assertEqual(os.environ["A"], "9")
+        load_dotenv(override=True)
+        self.assertEqual(os.environ["A"], "1")
+
+    def test_other_locales(self):
+        lines = "import dotenvy, os; dotenvy.load_dotenv(b'A=\\xc3\\xa9'); print(os.environb[b'A'])"
+        locale = {"LC_ALL": "C", "PYTHONCOERCECLOCALE": "0", "PYTHONUTF8": "0"}
+        environment = {**self.programs_environment, **locale}
+        said = subprocess.run([sys.executable, "-c", lines], env=environment, stdout=subprocess.PIPE, check=True)
+        self.assertEqual(said.stdout, b"b'\\xc3\\xa9'\n")
 
     def test_a_search(self):
         self.assertFalse(load_dotenv())
@@ -211,12 +371,74 @@ class Loads(InFolder):
 
     def test_a_search_that_finds_none(self):
         self.assertEqual(find_dotenv("no such file.env"), "")
+        self.assertEqual(find_dotenv("a\0b"), "")
         with self.assertRaises(FileNotFoundError):
             find_dotenv("no such file.env", raise_error_if_not_found=True)
 
-    def test_no_file_at_a_path(self):
         with self.assertRaises(FileNotFoundError):
-            load_dotenv("absent.env")
+            find_dotenv(raise_error_if_not_found=True)
+
+    def test_a_search_for_a_name(self):
+        self.write(".env", "A=1\n")
+        path = self.write("x.env", "A=2\n")
+        self.assertEqual(find_dotenv("x.env"), str(path))
+        self.assertEqual(find_dotenv("y.env"), "")
+
+    def test_a_search_up_to_the_root(self):
+        folder = self.folder / "a/b/c/d/e/f"
+        folder.mkdir(parents=True)
+        os.chdir(folder)
+        asked = []
+        with mock.patch("dotenvy.is_file_or_pipe", lambda path: asked.append(path)):
+            self.assertEqual(find_dotenv(), "")
+        self.assertEqual(asked, [str(above / ".env") for above in (folder, *folder.parents)])
+        self.assertEqual(asked[-1], "/.env")
+
+    def test_a_search_begins_in_the_current_directory(self):
+        self.write("a/.env", "A=1\n")
+        path = self.write("b/.env", "A=2\n")
+        os.chdir("b")
+        os.environ["PWD"] = str(self.folder / "a")
+        self.assertEqual(find_dotenv(), str(path))
+
+    def test_what_counts_as_a_file(self):
+        above = self.write(".env", "A=1\n")
+        (self.folder / "a").mkdir()
+        os.chdir("a")
+        Path(".env").symlink_to("/dev/null")
+        self.assertEqual(find_dotenv(), str(above))
+        Path(".env").unlink()
+        with socket.socket(socket.AF_UNIX) as here:
+            here.bind(".env")
+        self.assertEqual(find_dotenv(), str(above))
+        Path(".env").unlink()
+        Path(".env").symlink_to(".env")
+        self.assertEqual(find_dotenv(), str(above))
+        Path(".env").unlink()
+        Path(".env").symlink_to("../.env")
+        self.assertEqual(find_dotenv(), str(self.folder / "a/.env"))
+
+    def test_a_pipe_counts_as_a_file(self):
+        path = self.folder / ".env"
+        os.mkfifo(path)
+        self.assertEqual(find_dotenv(), str(path))
+        writer = threading.Thread(target=path.write_bytes, args=(b"A=1\n",))
+        writer.start()
+        self.assertTrue(load_dotenv())
+        writer.join()
+        self.assertEqual(os.environ["A"], "1")
+
+    def test_a_place_that_cannot_be_looked_at(self):
+        with mock.patch("dotenvy.os.stat", side_effect=PermissionError(13, "denied")):
+            with self.assertRaises(PermissionError):
+                find_dotenv()
+
+    def test_no_file_at_a_path(self):
+        self.write(".env", "A=1\n")
+        for path in ("absent.env", ""):
+            with self.assertRaises(FileNotFoundError):
+                load_dotenv(path)
+        self.assertEqual(dict(os.environ), {})
 
 
 class Library(unittest.TestCase):
@@ -230,7 +452,7 @@ class Library(unittest.TestCase):
 
     def test_the_shared_object_exports_the_calls_alone(self):
         names = defined_names(Path(_library.__file__).with_name("libdotenvy.so.1").read_bytes())
-        calls = {"is_key", "items", "load", "set", "unset", "version"}
+        calls = ["is_key", "items", "load", "set", "status_text", "unset", "version", "whole", "write"]
         self.assertEqual(names, {f"dotenvy_{call}" for call in calls})
 
     def test_lesser_processors(self):
@@ -246,11 +468,21 @@ class Library(unittest.TestCase):
             with self.assertRaisesRegex(ImportError, "x86-64-v2, and this one lacks sse4_1, ssse3"):
                 _library._check_processor()
 
+    def test_a_system_that_does_not_tell_its_processor(self):
+        with mock.patch.object(Path, "read_text", side_effect=FileNotFoundError):
+            self.assertIsNone(_library._check_processor())
+
+    def test_a_shared_object_that_is_missing(self):
+        with mock.patch.object(_library, "__file__", "/nx/_library.py"):
+            with self.assertRaisesRegex(ImportError, "/nx/libdotenvy.so.1 is missing: bindings/build.sh builds it"):
+                _library._open()
+
     def test_layout(self):
         structs = {
             "answer": _library.Answer,
             "item": _library.Item,
             "counts": _library.Counts,
+            "text": _library.Text,
             "edit": _library.Edit,
             "warning": _library.ToldWarning,
         }
@@ -264,8 +496,52 @@ class Library(unittest.TestCase):
                 for field, _ in type_._fields_
             ]
             self.assertEqual(" ".join([name, str(ctypes.sizeof(type_)), *fields]), line)
-        item = _library.Item(*range(1, 8))
-        self.assertEqual(list(_library._ITEM.iter_unpack(bytes(item))), [(1, 2, 3, 4, 5, 6, 7)])
+        item = _library.Item(*range(1, 10))
+        self.assertEqual(list(_library._ITEM.iter_unpack(bytes(item))), [(1, 2, 3, 4, 5, 6, 7, 8, 9)])
+        warning = _library.ToldWarning(*range(1, 6))
+        self.assertEqual(list(_library._WARNING.iter_unpack(bytes(warning))), [(1, 2, 3, 4, 5)])
+
+    def test_the_bytes_of_items(self):
+        file = b"\xef\xbb\xbf# c\nA=1\n\nB='x\ny' # it\nC D\nE=\xff\nF=2"
+        for options in (_library.DROP_MARK, 0):
+            places = [(record.file_at, record.file_len) for record in _library.items(file, b"", options)]
+            told = [file[at:at + length] for at, length in places]
+            # Without the option the mark makes an error of the first line.
+            first = [] if options else [b"\xef\xbb\xbf# c\n"]
+            self.assertEqual(told, [*first, b"A=1\n", b"B='x\ny' # it\n", b"C D\n", b"E=\xff\n", b"F=2"])
+        (record,) = _library.items(b"\xef\xbb\xbfA=1\n", b"", _library.DROP_MARK)
+        self.assertEqual((record.file_at, record.file_len), (0, 7))
+
+    def test_a_library_that_needs_more_each_time(self):
+        # Neither a status nor a struct is written, so each call seems not to fit.
+        calls = [
+            ("dotenvy_load", lambda: _library.load(b"A=1\n", b"")),
+            ("dotenvy_items", lambda: _library.items(b"A=1\n", b"")),
+            ("dotenvy_set", lambda: _library.set_value(b"", b"A", b"1")),
+            ("dotenvy_unset", lambda: _library.unset(b"A=1\n", b"A")),
+            ("dotenvy_write", lambda: _library.line_of(b"A", b"1")),
+        ]
+        for name, call in calls:
+            with mock.patch.object(_library._library, name, return_value=_library.OK) as library_call:
+                with self.subTest(name), self.assertRaisesRegex(RuntimeError, "needs more than it told"):
+                    call()
+                self.assertEqual(library_call.call_count, 2)
+
+    def test_a_line_of_a_pair(self):
+        for value in (b"", b"x y", b"it's", b'"$A" \\', b"1\n2\r", "é".encode()):
+            line = _library.line_of(b"a.B", value)
+            self.assertTrue(line.endswith(b"\n"))
+            for options in (0, _library.NEXT_DIALECT):
+                (record,) = _library.items(line, b"A=5\0", options)
+                self.assertEqual((record.status, record.key, record.text), (_library.OK, b"a.B", value))
+        for key, value, said in ((b"1A", b"", "this can't be a key"), (b"A", b"\xff", "is not UTF-8")):
+            with self.assertRaisesRegex(ValueError, said):
+                _library.line_of(key, value)
+
+    def test_what_statuses_say(self):
+        texts = [_library.status_text(status) for status in range(24)]
+        self.assertEqual((texts[0], texts[23]), ("done", "unknown"))
+        self.assertEqual(len(set(texts)), 24)
 
     def test_examples(self):
         self.assertEqual(doctest.testmod(dotenvy).failed, 0)

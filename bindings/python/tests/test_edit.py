@@ -14,6 +14,8 @@ from dotenvy import Dialect, DotenvError, EditError, Refusal, UnsupportedError
 from dotenvy import _library, _replace
 from dotenvy import get_key, set_key, unset_key
 
+from .in_folder import InFolder
+
 MARK = b"\xef\xbb\xbf"
 # The examples of the program's page, if this is a clone of the repository.
 EXAMPLES = Path(__file__).resolve().parents[3] / "tests/edit_examples.tsv"
@@ -66,17 +68,12 @@ REFUSALS = {
 }
 
 
-class InFolder(unittest.TestCase):
-    """A test with a folder of its own, and no variables but those that it sets."""
+class Edits(InFolder):
+    """A test with the path of a file that isn't there."""
 
     def setUp(self):
-        folder = tempfile.TemporaryDirectory()
-        self.addCleanup(folder.cleanup)
-        self.folder = Path(folder.name).resolve()
+        super().setUp()
         self.path = self.folder / "a.env"
-        patch = mock.patch.dict(os.environ, clear=True)
-        patch.start()
-        self.addCleanup(patch.stop)
         # So that warnings which a test doesn't look at are not printed.
         silent = logging.NullHandler()
         logging.getLogger("dotenvy").addHandler(silent)
@@ -104,7 +101,7 @@ class InFolder(unittest.TestCase):
         return stat.S_IMODE(self.path.stat().st_mode)
 
 
-class LikePythonDotenv(InFolder):
+class LikePythonDotenv(Edits):
     def test_sets(self):
         for before, key, value, after in SAME_SETS:
             with self.subTest(before=before, value=value):
@@ -183,7 +180,7 @@ def _sign(escape):
     return {"\\n": b"\n", "\\r": b"\r", "\\t": b"\t", "\\\\": b"\\"}[escape]
 
 
-class Examples(InFolder):
+class Examples(Edits):
     def play(self, verb, key, value):
         if verb == "set":
             return set_key(self.path, key, value)
@@ -219,7 +216,7 @@ class Examples(InFolder):
         self.assertEqual(self.left(), bytes_of(before))
 
 
-class Values(InFolder):
+class Values(Edits):
     def test_every_value_reads_back(self):
         signs = ["'", '"', "\\", " ", "#", "\n", "$x", "\r", "\t", "é", "${x}", "\U0001f511", "\u2028", "="]
         for first in signs:
@@ -259,7 +256,7 @@ class Values(InFolder):
         return mock.patch("dotenvy._edit.logger.warning", side_effect=AssertionError("a warning was logged"))
 
 
-class Replaced(InFolder):
+class Replaced(Edits):
     def test_a_new_file_is_for_its_owner(self):
         before = os.umask(0)
         self.addCleanup(os.umask, before)
@@ -386,7 +383,7 @@ class Replaced(InFolder):
         self.assertEqual(_replace.read_old(str(self.folder / "absent"), False), (b"", None))
 
 
-class Refused(InFolder):
+class Refused(Edits):
     def error_of(self, content, value="2", key="A", **how):
         self.has(content)
         with self.assertRaises(EditError) as raised:
@@ -460,7 +457,7 @@ class Refused(InFolder):
     def test_refused_memory_and_bad_options(self):
         self.has(b"A=1\n")
         with mock.patch.object(_library._library, "dotenvy_set") as call:
-            call.return_value = _library.Edit(status=_library.NO_MEMORY)
+            call.return_value = _library.NO_MEMORY
             with self.assertRaises(MemoryError):
                 set_key(self.path, "A", "2")
         with self.assertRaises(ValueError):
@@ -470,7 +467,7 @@ class Refused(InFolder):
         self.assertEqual(self.left(), b"A=1\n")
 
 
-class Warned(InFolder):
+class Warned(Edits):
     def logged(self, content, call):
         self.has(content)
         with self.assertLogs("dotenvy", "WARNING") as logs:

@@ -20,15 +20,11 @@ class Rows(unittest.TestCase):
 
     def test_recorded_files(self):
         for name in FILES:
-            compared, differ = 0, []
-            for row in rows.file_rows(name):
-                for difference in rows.differences(row):
-                    compared += 1
-                    if difference:
-                        differ.append(difference)
-            print(f"{name}: {compared} comparisons, {len(differ)} differ")
+            compared = [difference for row in rows.file_rows(name) for difference in rows.differences(row)]
+            differ = [difference for difference in compared if difference]
+            print(f"{name}: {len(compared)} comparisons, {len(differ)} differ")
             with self.subTest(name):
-                self.assertGreaterEqual(compared, 100)
+                self.assertGreaterEqual(len(compared), 100)
                 self.assertEqual(differ, [])
 
 
