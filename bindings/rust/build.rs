@@ -1,5 +1,5 @@
-//! Links libdotenvy.a: from the folder that DOTENVY_LIB_DIR names, else from lib/ of this crate, as its package has it, else
-//! from bindings/out of the repository.
+//! Links libdotenvy.a: from the folder that DOTENVY_LIB_DIR names, else from lib/ of this crate, as its package has it,
+//! else from bindings/out of the repository.
 
 use std::{env, path::PathBuf};
 
@@ -11,7 +11,9 @@ fn main() {
     let target = env::var("TARGET").expect("cargo sets it");
     assert!(
         target == ONLY_TARGET,
-        "libdotenvy.a has code for {ONLY_TARGET}, and none for {target}"
+        "libdotenvy.a has code for {}, and none for {}",
+        ONLY_TARGET,
+        target
     );
     let top = PathBuf::from(env::var_os("CARGO_MANIFEST_DIR").expect("cargo sets it"));
     let packed = top.join("lib");

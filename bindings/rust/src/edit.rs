@@ -9,23 +9,16 @@
 //! # Ok::<(), edit::Error>(())
 //! ```
 //!
-//! What an edit makes of the bytes is proved, in the library that this crate links. That a file is replaced as a whole is
-//! done here, in ordinary Rust.
+//! What an edit makes of the bytes is proved, in the library that this crate links. That a file is replaced as a whole
+//! is done here, in ordinary Rust.
 
+use crate::header;
 use crate::library::{self, Edited as Found, Note};
 use crate::replace;
 use std::path::Path;
 use std::{error, fmt, io};
 
-/// How substitutions without braces are read.
-#[derive(Clone, Copy, Debug, Default, PartialEq, Eq)]
-pub enum Dialect {
-    /// As dotenvy 0.15: a name ends before `_`, and can't be right before a closing double quote.
-    #[default]
-    V15,
-    /// A name may have `_`, and in double quotes it may be right before the closing quote.
-    Next,
-}
+pub use crate::dialect::Dialect;
 
 /// How a key is set.
 #[derive(Clone, Copy, Debug, Default, PartialEq, Eq)]
@@ -49,12 +42,25 @@ pub struct Edited {
 #[derive(Clone, Debug, PartialEq, Eq)]
 #[non_exhaustive]
 pub enum Warning {
-    /// The value of this name, which the line declares, mentions the key, directly or through other names.
-    Mentions { name: String, line: u64 },
-    /// A load stops at this line, before it comes to the key.
-    StopsBefore { line: u64 },
-    /// These lines went: a later one of the key, or lines of a value with a fault.
-    Removed { first: u64, last: u64 },
+    /// A value mentions the key, directly or through other names.
+    Mentions {
+        /// The name of that value.
+        name: String,
+        /// The line that declares it.
+        line: u64,
+    },
+    /// A load stops before it comes to the key.
+    StopsBefore {
+        /// The line at which it stops.
+        line: u64,
+    },
+    /// Lines went: a later one of the key, or those of a value with a fault.
+    Removed {
+        /// The first of them.
+        first: u64,
+        /// The last of them.
+        last: u64,
+    },
     /// The value has a dollar before a name or a brace. It is text in the file.
     Dollar,
 }
@@ -154,7 +160,7 @@ impl fmt::Display for Unportable {
             Unportable::LastBackslash => "a backslash at its end",
             Unportable::Substitution => "a dollar and braces",
         };
-        write!(f, "the value has no portable form, since it has {what}")
+        write!(f, "the value has no portable form, since it has {}", what)
     }
 }
 
@@ -162,7 +168,7 @@ impl fmt::Display for Error {
     fn fmt(&self, f: &mut fmt::Formatter<'_>) -> fmt::Result {
         match self {
             Error::Refused { reason, line: 0 } => reason.fmt(f),
-            Error::Refused { reason, line } => write!(f, "line {line}: {reason}"),
+            Error::Refused { reason, line } => write!(f, "line {}: {}", line, reason),
             Error::Io(error) => error.fmt(f),
         }
     }
@@ -183,14 +189,14 @@ impl From<io::Error> for Error {
     }
 }
 
-/// Sets a key of a file to a value: the first line that assigns it has the value, and later ones are gone. Where no line
-/// does, one is appended.
+/// Sets a key of a file to a value: the first line that assigns it has the value, and later ones are gone. Where no
+/// line does, one is appended.
 ///
 /// The value is text: it reads back as it is, in quotes where it needs them, and no name in it is substituted.
 pub fn set(file: &[u8], key: &str, value: &str, how: How) -> Result<Edited, Error> {
-    library::check_processor(library::runs_here())?;
-    let portable = if how.portable { library::PORTABLE } else { 0 };
-    let options = options_of(how.dialect) | portable;
+    library::check_processor()?;
+    let portable = if how.portable { header::PORTABLE } else { 0 };
+    let options = how.dialect.option() | portable;
     outcome(library::set(
         file,
         key.as_bytes(),
@@ -199,8 +205,8 @@ pub fn set(file: &[u8], key: &str, value: &str, how: How) -> Result<Edited, Erro
     ))
 }
 
-/// Unsets a key of a file: the lines that assign it are gone, with their comments. One empty line is left where the file
-/// would else begin with a byte order mark that it had not.
+/// Unsets a key of a file: the lines that assign it are gone, with their comments. One empty line is left where the
+/// file would else begin with a byte order mark that it had not.
 ///
 /// ```
 /// use dotenvy::edit::{self, Dialect};
@@ -210,15 +216,24 @@ pub fn set(file: &[u8], key: &str, value: &str, how: How) -> Result<Edited, Erro
 /// # Ok::<(), edit::Error>(())
 /// ```
 pub fn unset(file: &[u8], key: &str, dialect: Dialect) -> Result<Edited, Error> {
-    library::check_processor(library::runs_here())?;
-    outcome(library::unset(file, key.as_bytes(), options_of(dialect)))
+    library::check_processor()?;
+    outcome(library::unset(file, key.as_bytes(), dialect.option()))
 }
 
 /// As [`set`], of the file at this path, which has to be there. A link is followed to its file.
 ///
-/// The file is replaced as a whole: whoever reads it sees the old one or the new one. Its owner and its permissions stay.
-/// Where nothing changes, no file is written. Where a step fails, the old file is as it was, and nothing is left beside it;
-/// only where the last one fails, to sync the folder, the new file is there.
+/// The file is replaced as a whole: whoever reads it sees the old one or the new one. Its owner and its permissions
+/// stay. Where nothing changes, no file is written. Where a step fails, the old file is as it was, and nothing is left
+/// beside it; only where the last one fails, to sync the folder, the new file is there.
+///
+/// ```no_run
+/// use dotenvy::edit::{self, How};
+///
+/// for warning in edit::set_in_file("service.env", "PORT", "8080", How::default())? {
+///     eprintln!("{:?}", warning);
+/// }
+/// # Ok::<(), edit::Error>(())
+/// ```
 pub fn set_in_file<P: AsRef<Path>>(
     path: P,
     key: &str,
@@ -249,20 +264,13 @@ fn edit_file(
     Ok(edited.warnings)
 }
 
-fn options_of(dialect: Dialect) -> u32 {
-    match dialect {
-        Dialect::V15 => 0,
-        Dialect::Next => library::NEXT_DIALECT,
-    }
-}
-
 fn outcome(found: Found) -> Result<Edited, Error> {
     match found.status {
-        library::OK => Ok(Edited {
+        header::OK => Ok(Edited {
             bytes: found.file,
             warnings: found.notes.into_iter().map(warning_of).collect(),
         }),
-        library::NO_MEMORY => Err(Error::Io(io::ErrorKind::OutOfMemory.into())),
+        header::NO_MEMORY => Err(Error::Io(io::ErrorKind::OutOfMemory.into())),
         status => Err(Error::Refused {
             reason: reason_of(status),
             line: found.line,
@@ -272,28 +280,28 @@ fn outcome(found: Found) -> Result<Edited, Error> {
 
 fn reason_of(status: u32) -> Reason {
     match status {
-        library::NO_KEY => Reason::NoKey,
-        library::NUL => Reason::Nul,
-        library::ABSENT => Reason::Absent,
-        library::QUOTE_OPEN => Reason::QuoteOpen,
-        library::END_OPEN => Reason::EndOpen,
-        library::UNREADABLE => Reason::Unreadable,
-        library::LONG_COMMENT => Reason::LongComment,
+        header::NO_KEY => Reason::NoKey,
+        header::NUL => Reason::Nul,
+        header::ABSENT => Reason::Absent,
+        header::QUOTE_OPEN => Reason::QuoteOpen,
+        header::END_OPEN => Reason::EndOpen,
+        header::UNREADABLE => Reason::Unreadable,
+        header::LONG_COMMENT => Reason::LongComment,
         _ => Reason::Unportable(unportable_of(status)),
     }
 }
 
 fn unportable_of(status: u32) -> Unportable {
     match status {
-        library::UNPORTABLE_MARK => Unportable::Mark,
-        library::UNPORTABLE_CARRIAGE_RETURN => Unportable::CarriageReturn,
-        library::UNPORTABLE_APOSTROPHE => Unportable::Apostrophe,
-        library::UNPORTABLE_LINE_FEED => Unportable::LineFeed,
-        library::UNPORTABLE_BACKSLASHES => Unportable::Backslashes,
-        library::UNPORTABLE_LAST_BACKSLASH => Unportable::LastBackslash,
-        library::UNPORTABLE_SUBSTITUTION => Unportable::Substitution,
-        library::UNPORTABLE_WHITE_SPACE => Unportable::WhiteSpace,
-        library::UNPORTABLE_COMMENT => Unportable::Comment,
+        header::UNPORTABLE_MARK => Unportable::Mark,
+        header::UNPORTABLE_CARRIAGE_RETURN => Unportable::CarriageReturn,
+        header::UNPORTABLE_APOSTROPHE => Unportable::Apostrophe,
+        header::UNPORTABLE_LINE_FEED => Unportable::LineFeed,
+        header::UNPORTABLE_BACKSLASHES => Unportable::Backslashes,
+        header::UNPORTABLE_LAST_BACKSLASH => Unportable::LastBackslash,
+        header::UNPORTABLE_SUBSTITUTION => Unportable::Substitution,
+        header::UNPORTABLE_WHITE_SPACE => Unportable::WhiteSpace,
+        header::UNPORTABLE_COMMENT => Unportable::Comment,
         _ => unreachable!("these options are known, and texts are UTF-8"),
     }
 }
@@ -306,12 +314,12 @@ fn warning_of(note: Note) -> Warning {
         last_line,
     } = note;
     match kind {
-        library::MENTIONS => Warning::Mentions {
-            name: String::from_utf8(name).expect("the library writes UTF-8"),
+        header::MENTIONS => Warning::Mentions {
+            name,
             line: first_line,
         },
-        library::STOPS_BEFORE => Warning::StopsBefore { line: first_line },
-        library::REMOVED => Warning::Removed {
+        header::STOPS_BEFORE => Warning::StopsBefore { line: first_line },
+        header::REMOVED => Warning::Removed {
             first: first_line,
             last: last_line,
         },

@@ -10,8 +10,8 @@ pub enum Error {
     /// A line of the file is wrong: the text at fault, and the place in it where a reader has to give up, counted from
     /// 0. docs/GRAMMAR.md, "Faults and their places", says which text that is.
     LineParse(String, usize),
-    /// A file or a reader failed. It is of kind `InvalidData` for a line that is not UTF-8, of kind `NotFound` where no file
-    /// was found, and of kind `Unsupported` on a processor below x86-64-v2, for which the library has no code.
+    /// A file or a reader failed. It is of kind `InvalidData` for a line that is not UTF-8, of kind `NotFound` where no
+    /// file was found, and of kind `Unsupported` on a processor below x86-64-v2, for which the library has no code.
     Io(io::Error),
     /// A variable is not set, or is no text.
     EnvVar(env::VarError),
@@ -32,12 +32,13 @@ impl fmt::Display for Error {
             Error::LineParse(line, index) => {
                 write!(
                     f,
-                    "Error parsing line: '{line}', error at line index: {index}"
+                    "Error parsing line: '{}', error at line index: {}",
+                    line, index
                 )
             }
             Error::Io(error) => error.fmt(f),
             Error::EnvVar(error) => error.fmt(f),
-            Error::Nul(key) => write!(f, "value of '{key}' contains a NUL"),
+            Error::Nul(key) => write!(f, "value of '{}' contains a NUL", key),
         }
     }
 }

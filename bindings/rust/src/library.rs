@@ -1,140 +1,19 @@
 //! The calls of libdotenvy.a, made safe: bytes in, bytes out. bindings/c/dotenvy.h says what each does.
+//!
+//! All that this crate has in unsafe code is here.
 
-use std::arch::is_x86_feature_detected;
+use crate::header::*;
+use std::fs::File;
 use std::io;
+use std::is_x86_feature_detected;
 use std::ops::Range;
-
-pub const OK: u32 = 0;
-pub const LINE_PARSE: u32 = 1;
-pub const NOT_UTF8: u32 = 2;
-pub const NUL: u32 = 3;
-pub const NO_MEMORY: u32 = 5;
-pub const NO_KEY: u32 = 7;
-pub const ABSENT: u32 = 8;
-pub const QUOTE_OPEN: u32 = 9;
-pub const END_OPEN: u32 = 10;
-pub const UNREADABLE: u32 = 11;
-pub const LONG_COMMENT: u32 = 12;
-pub const UNPORTABLE_MARK: u32 = 13;
-pub const UNPORTABLE_CARRIAGE_RETURN: u32 = 14;
-pub const UNPORTABLE_APOSTROPHE: u32 = 15;
-pub const UNPORTABLE_LINE_FEED: u32 = 16;
-pub const UNPORTABLE_BACKSLASHES: u32 = 17;
-pub const UNPORTABLE_LAST_BACKSLASH: u32 = 18;
-pub const UNPORTABLE_SUBSTITUTION: u32 = 19;
-pub const UNPORTABLE_COMMENT: u32 = 20;
-pub const UNPORTABLE_WHITE_SPACE: u32 = 22;
-
-/// `dotenvy_load`: a name that is there gets the value of the file.
-pub const OVERRIDE: u32 = 1;
-
-/// The second dialect.
-pub const NEXT_DIALECT: u32 = 2;
-
-/// `dotenvy_set`: a line that the readers of Python, Node and Ruby read alike.
-pub const PORTABLE: u32 = 8;
-
-pub const MENTIONS: u32 = 1;
-pub const STOPS_BEFORE: u32 = 2;
-pub const REMOVED: u32 = 3;
-
-#[repr(C)]
-struct Answer {
-    status: u32,
-    fits: bool,
-    index: usize,
-    block_len: usize,
-    text_len: usize,
-}
-
-#[repr(C)]
-#[derive(Clone, Copy, Default)]
-struct Item {
-    status: u32,
-    key_at: usize,
-    key_len: usize,
-    text_len: usize,
-    index: usize,
-    first_line: u64,
-    last_line: u64,
-}
-
-#[repr(C)]
-struct Counts {
-    status: u32,
-    fits: bool,
-    items: usize,
-    text_len: usize,
-}
-
-#[repr(C)]
-struct Edit {
-    status: u32,
-    fits: bool,
-    line: u64,
-    file_len: usize,
-    names_len: usize,
-    warnings: usize,
-}
-
-#[repr(C)]
-#[derive(Clone, Copy, Default)]
-struct ToldWarning {
-    kind: u32,
-    name_at: usize,
-    name_len: usize,
-    first_line: u64,
-    last_line: u64,
-}
+use std::os::raw::c_int;
+use std::os::unix::io::AsRawFd;
+use std::str;
 
 extern "C" {
-    fn dotenvy_load(
-        file: *const u8,
-        file_len: usize,
-        block: *const u8,
-        block_len: usize,
-        options: u32,
-        out: *mut u8,
-        out_len: usize,
-    ) -> Answer;
-
-    fn dotenvy_items(
-        file: *const u8,
-        file_len: usize,
-        block: *const u8,
-        block_len: usize,
-        options: u32,
-        items: *mut Item,
-        items_len: usize,
-        out: *mut u8,
-        out_len: usize,
-    ) -> Counts;
-
-    fn dotenvy_set(
-        file: *const u8,
-        file_len: usize,
-        key: *const u8,
-        key_len: usize,
-        value: *const u8,
-        value_len: usize,
-        options: u32,
-        warnings: *mut ToldWarning,
-        warnings_len: usize,
-        out: *mut u8,
-        out_len: usize,
-    ) -> Edit;
-
-    fn dotenvy_unset(
-        file: *const u8,
-        file_len: usize,
-        key: *const u8,
-        key_len: usize,
-        options: u32,
-        warnings: *mut ToldWarning,
-        warnings_len: usize,
-        out: *mut u8,
-        out_len: usize,
-    ) -> Edit;
+    // The C library's.
+    fn fchown(file: c_int, owner: u32, group: u32) -> c_int;
 }
 
 /// What a load leaves, and the error at which it stopped, if its status is not `OK`.
@@ -147,32 +26,34 @@ pub struct Loaded {
 
 impl Loaded {
     /// The names and values that the load leaves.
-    pub fn pairs(&self) -> impl Iterator<Item = (&[u8], &[u8])> {
-        let entries = self.bytes[..self.block_len].split(|byte| *byte == 0);
-        entries.filter_map(|entry| {
-            let at = entry.iter().position(|byte| *byte == b'=')?;
-            Some((&entry[..at], &entry[at + 1..]))
-        })
+    pub fn pairs(&self) -> impl Iterator<Item = (&str, &str)> {
+        let entries = text(&self.bytes[..self.block_len]).split('\0');
+        entries.filter_map(|entry| entry.split_once('='))
     }
 
     /// The text of the error.
-    pub fn text(&self) -> &[u8] {
-        &self.bytes[self.block_len..]
+    pub fn text(&self) -> &str {
+        text(&self.bytes[self.block_len..])
     }
 }
 
 /// An item of a file: a pair if its status is `OK`, else an error.
 pub struct Record {
     pub status: u32,
-    pub key: Vec<u8>,
-    pub text: Vec<u8>,
+    pub key: String,
+    pub text: String,
     pub index: usize,
+    /// The lines that it is on, counted from 1.
+    pub first_line: u64,
+    pub last_line: u64,
+    /// Where the bytes of these lines are in the file.
+    pub place: Range<usize>,
 }
 
 /// A warning of an edit.
 pub struct Note {
     pub kind: u32,
-    pub name: Vec<u8>,
+    pub name: String,
     pub first_line: u64,
     pub last_line: u64,
 }
@@ -185,9 +66,21 @@ pub struct Edited {
     pub notes: Vec<Note>,
 }
 
-/// Whether the processor has what the code of the library needs (x86-64-v2). On a lesser one a call would end the process
-/// by an illegal instruction.
-pub fn runs_here() -> bool {
+// What the library writes, other than the file of an edit.
+fn text(bytes: &[u8]) -> &str {
+    str::from_utf8(bytes).expect("the library writes UTF-8")
+}
+
+/// How many items there is room for at first, at most. A call that needs more is made again.
+const ITEMS: usize = 8193;
+
+/// The error of a processor that lacks what the code of the library needs (x86-64-v2). A call would end the process
+/// there, by an illegal instruction: so this is asked before the others here.
+pub fn check_processor() -> io::Result<()> {
+    or_unsupported(runs_here())
+}
+
+fn runs_here() -> bool {
     is_x86_feature_detected!("sse3")
         && is_x86_feature_detected!("ssse3")
         && is_x86_feature_detected!("sse4.1")
@@ -196,8 +89,7 @@ pub fn runs_here() -> bool {
         && is_x86_feature_detected!("cmpxchg16b")
 }
 
-/// The error of a processor on which the library doesn't run.
-pub fn check_processor(runs: bool) -> io::Result<()> {
+fn or_unsupported(runs: bool) -> io::Result<()> {
     if runs {
         return Ok(());
     }
@@ -210,20 +102,23 @@ pub fn check_processor(runs: bool) -> io::Result<()> {
 /// Loads a file over the environment of a block.
 pub fn load(file: &[u8], block: &[u8], options: u32) -> Loaded {
     let mut out = vec![0; 2 * (file.len() + block.len()) + 64];
+    let mut answer = Answer::default();
     loop {
-        // SAFETY: each pointer is that of a slice or a vector, with its length, so none is NULL. `out` is a vector of
-        // its own. `Answer` is the struct of the header, as a test compares.
-        let answer = unsafe {
+        // SAFETY: each pointer is that of a slice, a vector or a variable, and each length is that of what the pointer
+        // before it leads to. What is written to is borrowed by nothing else: `out` is a vector of its own. `Answer` is
+        // the struct of the header, as a test compares.
+        unsafe {
             dotenvy_load(
                 file.as_ptr(),
                 file.len(),
                 block.as_ptr(),
                 block.len(),
                 options,
+                &mut answer,
                 out.as_mut_ptr(),
                 out.len(),
-            )
-        };
+            );
+        }
         let need = answer.block_len + answer.text_len;
         if answer.status == NO_MEMORY || answer.fits {
             out.truncate(need);
@@ -241,23 +136,25 @@ pub fn load(file: &[u8], block: &[u8], options: u32) -> Loaded {
 
 /// The items of a file under the environment of a block, or `None` if an allocation failed.
 pub fn items(file: &[u8], block: &[u8], options: u32) -> Option<Vec<Record>> {
-    let mut items = vec![Item::default(); file.iter().filter(|byte| **byte == b'\n').count() + 1];
+    let mut items = vec![Item::default(); (count_lines(file) + 1).min(ITEMS)];
     let mut out = vec![0; 2 * file.len() + 64];
+    let mut counts = Counts::default();
     loop {
-        // SAFETY: as in `load`; `items` is a vector of its own, of the header's struct.
-        let counts = unsafe {
+        // SAFETY: as in `load`; `items` is a vector of its own, too, of the header's struct.
+        unsafe {
             dotenvy_items(
                 file.as_ptr(),
                 file.len(),
                 block.as_ptr(),
                 block.len(),
                 options,
+                &mut counts,
                 items.as_mut_ptr(),
                 items.len(),
                 out.as_mut_ptr(),
                 out.len(),
-            )
-        };
+            );
+        }
         if counts.status == NO_MEMORY {
             return None;
         }
@@ -276,24 +173,97 @@ pub fn items(file: &[u8], block: &[u8], options: u32) -> Option<Vec<Record>> {
 
 fn record(item: &Item, out: &[u8]) -> Record {
     let text_at = item.key_at + item.key_len;
-    let bytes = |range: Range<usize>| out[range].to_vec();
     Record {
         status: item.status,
-        key: bytes(item.key_at..text_at),
-        text: bytes(text_at..text_at + item.text_len),
+        key: text(&out[item.key_at..text_at]).to_owned(),
+        text: text(&out[text_at..text_at + item.text_len]).to_owned(),
         index: item.index,
+        first_line: item.first_line,
+        last_line: item.last_line,
+        place: item.file_at..item.file_at + item.file_len,
+    }
+}
+
+/// The items of a file, with their lines and places, which both dialects have alike. What is told of one that has a
+/// dollar is not what it says: no value grows by what its names mean, so that this takes no more memory than the file
+/// does. `None` if an allocation failed.
+pub fn places(file: &[u8], options: u32) -> Option<Vec<Record>> {
+    // For where lines begin and end, a dollar is a character like a letter. DOTENVY_AS_WRITTEN would not do: with it,
+    // too, the library makes each value with what its names mean, and drops it.
+    let plain: Vec<u8> = file
+        .iter()
+        .map(|byte| if *byte == b'$' { b'x' } else { *byte })
+        .collect();
+    items(&plain, b"", options)
+}
+
+/// How many of these bytes are whole statements, whatever follows them. `None` if an allocation failed.
+pub fn whole(bytes: &[u8]) -> Option<usize> {
+    let mut whole = 0;
+    // SAFETY: as in `load`; `whole` is a variable of its own.
+    let status = unsafe { dotenvy_whole(bytes.as_ptr(), bytes.len(), 0, &mut whole) };
+    if status == OK {
+        Some(whole)
+    } else {
+        None
+    }
+}
+
+/// The quote that is open at the end of these lines, which are no whole statement. `None` if an allocation failed.
+pub fn open_quote(lines: &[u8]) -> Option<u8> {
+    let is_single = whole(&[lines, b"'\n"].concat())? > 0;
+    Some(if is_single { b'\'' } else { b'"' })
+}
+
+/// The line that declares a pair, and reads back as it, whatever the environment has. `None` if the key can be none, or
+/// if an allocation failed.
+pub fn written(key: &str, value: &str) -> Option<String> {
+    let mut out = vec![0; key.len() + 2 * value.len() + 4];
+    let mut text = Text::default();
+    // SAFETY: as in `load`.
+    unsafe {
+        dotenvy_write(
+            key.as_ptr(),
+            key.len(),
+            value.as_ptr(),
+            value.len(),
+            0,
+            &mut text,
+            out.as_mut_ptr(),
+            out.len(),
+        );
+    }
+    if !text.fits {
+        return None;
+    }
+    out.truncate(text.text_len);
+    String::from_utf8(out).ok()
+}
+
+/// How many line feeds there are.
+pub fn count_lines(bytes: &[u8]) -> usize {
+    bytes.iter().filter(|byte| **byte == b'\n').count()
+}
+
+/// Whether an environment can have a variable of this name.
+pub fn is_name(name: &str) -> bool {
+    !name.is_empty() && !name.contains(&['=', '\0'][..])
+}
+
+/// Appends an entry to a block. The name has no `=`, and neither has a NUL.
+pub fn push_entry(block: &mut Vec<u8>, name: &str, value: &str) {
+    for part in &[name, "=", value, "\0"] {
+        block.extend_from_slice(part.as_bytes());
     }
 }
 
 // What an edit leaves, by a call that writes to these buffers: so many bytes are likely to do.
-fn edited(
-    room: usize,
-    mut call: impl FnMut(&mut Vec<ToldWarning>, &mut Vec<u8>) -> Edit,
-) -> Edited {
-    let mut warnings = vec![ToldWarning::default(); 16];
+fn edited(room: usize, mut call: impl FnMut(&mut Edit, &mut Vec<Warning>, &mut Vec<u8>)) -> Edited {
+    let mut warnings = vec![Warning::default(); 16];
     let mut out = vec![0; room + 256];
+    let mut edit = Edit::default();
     loop {
-        let edit = call(&mut warnings, &mut out);
+        call(&mut edit, &mut warnings, &mut out);
         if edit.fits || edit.status != OK {
             let told = &warnings[..edit.warnings];
             let notes = told.iter().map(|warning| note(warning, &out)).collect();
@@ -310,15 +280,15 @@ fn edited(
             edit.warnings > warnings.len() || need > out.len(),
             "more room is asked for"
         );
-        warnings.resize(edit.warnings.max(warnings.len()), ToldWarning::default());
+        warnings.resize(edit.warnings.max(warnings.len()), Warning::default());
         out.resize(need.max(out.len()), 0);
     }
 }
 
-fn note(warning: &ToldWarning, out: &[u8]) -> Note {
+fn note(warning: &Warning, out: &[u8]) -> Note {
     Note {
         kind: warning.kind,
-        name: out[warning.name_at..warning.name_at + warning.name_len].to_vec(),
+        name: text(&out[warning.name_at..warning.name_at + warning.name_len]).to_owned(),
         first_line: warning.first_line,
         last_line: warning.last_line,
     }
@@ -327,8 +297,8 @@ fn note(warning: &ToldWarning, out: &[u8]) -> Note {
 /// Sets a key of a file to a value.
 pub fn set(file: &[u8], key: &[u8], value: &[u8], options: u32) -> Edited {
     let room = file.len() + key.len() + 2 * value.len();
-    // SAFETY: as in `load`; the two buffers are vectors of their own, one of them of the header's struct.
-    edited(room, |warnings, out| unsafe {
+    // SAFETY: as in `load`; `warnings` and `out` are vectors of their own, and the structs are the header's.
+    edited(room, |edit, warnings, out| unsafe {
         dotenvy_set(
             file.as_ptr(),
             file.len(),
@@ -337,80 +307,170 @@ pub fn set(file: &[u8], key: &[u8], value: &[u8], options: u32) -> Edited {
             value.as_ptr(),
             value.len(),
             options,
+            edit,
             warnings.as_mut_ptr(),
             warnings.len(),
             out.as_mut_ptr(),
             out.len(),
-        )
+        );
     })
 }
 
 /// Unsets a key of a file.
 pub fn unset(file: &[u8], key: &[u8], options: u32) -> Edited {
     // SAFETY: as in `set`.
-    edited(file.len(), |warnings, out| unsafe {
+    edited(file.len(), |edit, warnings, out| unsafe {
         dotenvy_unset(
             file.as_ptr(),
             file.len(),
             key.as_ptr(),
             key.len(),
             options,
+            edit,
             warnings.as_mut_ptr(),
             warnings.len(),
             out.as_mut_ptr(),
             out.len(),
-        )
+        );
     })
+}
+
+/// 1000000 times the major version, 1000 times the minor one, and the number of the patch.
+pub fn version() -> u32 {
+    // SAFETY: nothing is passed, and a number comes back.
+    unsafe { dotenvy_version() }
+}
+
+/// Gives an open file to an owner and a group.
+pub fn change_owner(file: &File, owner: u32, group: u32) -> io::Result<()> {
+    // SAFETY: the descriptor is that of an open file, and no memory is passed.
+    if unsafe { fchown(file.as_raw_fd(), owner, group) } == 0 {
+        Ok(())
+    } else {
+        Err(io::Error::last_os_error())
+    }
 }
 
 #[cfg(test)]
 mod tests {
     use super::*;
-    use std::mem::{offset_of, size_of};
-
-    // A line of layout.txt: each field with its offset and its size.
-    macro_rules! layout {
-        ($name:literal, $type:ident: $($field:ident),*) => {{
-            let size_of_field = |at: usize, size: usize, name: &str| format!(" {name}={at}:{size}");
-            let mut line = format!("{} {}", $name, size_of::<$type>());
-            $(line += &size_of_field(offset_of!($type, $field), field_size(|it: &$type| &it.$field), stringify!($field));)*
-            line
-        }};
-    }
-
-    fn field_size<T, F>(_: fn(&T) -> &F) -> usize {
-        size_of::<F>()
-    }
-
-    #[test]
-    fn structs_have_the_layout_of_the_header() {
-        let lines = [
-            layout!("answer", Answer: status, fits, index, block_len, text_len),
-            layout!("item", Item: status, key_at, key_len, text_len, index, first_line, last_line),
-            layout!("counts", Counts: status, fits, items, text_len),
-            layout!("edit", Edit: status, fits, line, file_len, names_len, warnings),
-            layout!("warning", ToldWarning: kind, name_at, name_len, first_line, last_line),
-        ];
-        assert_eq!(lines.join("\n") + "\n", include_str!("../layout.txt"));
-    }
+    use std::os::unix::fs::MetadataExt;
 
     #[test]
     fn a_lesser_processor_is_an_error() {
-        assert!(check_processor(true).is_ok());
-        let error = check_processor(false).unwrap_err();
+        assert!(or_unsupported(true).is_ok());
+        let error = or_unsupported(false).unwrap_err();
         assert_eq!(error.kind(), io::ErrorKind::Unsupported);
         assert!(error.to_string().contains("x86-64-v2"));
-        assert!(runs_here(), "the tests run here");
+        assert!(check_processor().is_ok(), "the tests run here");
+    }
+
+    #[test]
+    fn an_owner_is_changed() {
+        let path = std::env::temp_dir().join(format!("dotenvy-owner-{}", std::process::id()));
+        let file = File::create(&path).unwrap();
+        let state = file.metadata().unwrap();
+        change_owner(&file, state.uid(), state.gid()).unwrap();
+        if state.uid() == 0 {
+            change_owner(&file, 1, 2).unwrap();
+            let state = file.metadata().unwrap();
+            assert_eq!((state.uid(), state.gid()), (1, 2));
+        } else {
+            assert!(change_owner(&file, 0, 0).is_err());
+        }
+        std::fs::remove_file(path).unwrap();
+    }
+
+    #[test]
+    fn statements_are_whole_until_a_quote_is_open() {
+        for (bytes, len) in [
+            (&b""[..], 0),
+            (b"A=1", 0),
+            (b"\n#'\n \nA=", 6),
+            (b"A=1\nB=x y\n\nC='\n", 11),
+            (b"A=\\\nB=1 \nC=1 # '\nD", 17),
+            (b"A='\n\xff\nB=\"\nC='\n", 6),
+            (b"A=$B'\nB='\nC=", 10),
+        ] {
+            assert_eq!(whole(bytes), Some(len), "{bytes:?}");
+        }
+    }
+
+    #[test]
+    fn a_quote_is_open_until_it_comes_again() {
+        for (lines, quote) in [
+            (&b"A='\n"[..], b'\''),
+            (b"A=\"\n", b'"'),
+            (b"A='\"\n\"\n", b'\''),
+            (b"A=\"'\n'\n", b'"'),
+            (b"A='\n'\"\n", b'"'),
+            (b"A=\"\n\"'\n", b'\''),
+            (b"A='\\'\n\\\n", b'\''),
+            (b"A=\"\\\"\n\\\n", b'"'),
+        ] {
+            assert_eq!(whole(lines), Some(0));
+            assert_eq!(open_quote(lines), Some(quote), "{lines:?}");
+        }
+    }
+
+    #[test]
+    fn a_written_pair_reads_back() {
+        for value in [
+            "",
+            "a",
+            "\\",
+            "'\"$A${A}\\\"\n # é",
+            "\0\r\n \u{feff}é#",
+            "\\n$",
+        ] {
+            let line = written("A", value).expect("it can be written");
+            for options in [0, NEXT_DIALECT] {
+                let items = items(line.as_bytes(), b"A=9\0", options).expect("there is memory");
+                assert_eq!((items.len(), items[0].status), (1, OK));
+                assert_eq!((&items[0].key[..], &items[0].text[..]), ("A", value));
+            }
+        }
+        assert_eq!(written("1A", ""), None);
+    }
+
+    #[test]
+    fn places_are_those_of_the_items() {
+        let file = b"\xef\xbb\xbf#'\nA=$\n\n#$'\nB='$A\n$\n'\n$C=1\nD=\"$A\"\n\nE='\n\xff$\nF=\\$ # '\nG=$$'\n";
+        let standing = |items: Option<Vec<Record>>| -> Vec<_> {
+            let items = items.expect("there is memory").into_iter();
+            let standing = items.map(|item| (item.first_line, item.last_line, item.place));
+            standing.collect()
+        };
+        for mark in [0, DROP_MARK] {
+            let found = standing(places(file, mark));
+            for dialect in [0, NEXT_DIALECT] {
+                assert_eq!(found, standing(items(file, b"", mark | dialect)));
+            }
+        }
+        assert_eq!(standing(places(file, DROP_MARK)).len(), 7);
+    }
+
+    #[test]
+    fn items_are_of_lines() {
+        let file = b"\n# c\nA='x\ny'\n\nB=x y\r\nC=3";
+        let items = items(file, b"", 0).expect("there is memory");
+        let places: Vec<_> = items.iter().map(|item| &file[item.place.clone()]).collect();
+        assert_eq!(places, [&b"A='x\ny'\n"[..], b"B=x y\r\n", b"C=3"]);
+        let lines: Vec<_> = items
+            .iter()
+            .map(|item| (item.first_line, item.last_line))
+            .collect();
+        assert_eq!(lines, [(3, 4), (6, 6), (7, 7)]);
     }
 
     #[test]
     fn a_load_leaves_pairs_and_the_text_of_its_error() {
         let loaded = load(b"B=$A\nC=x y\n", b"A=9=8\0", 0);
         let pairs: Vec<_> = loaded.pairs().collect();
-        assert_eq!(pairs, [(&b"A"[..], &b"9=8"[..]), (&b"B"[..], &b"9=8"[..])]);
+        assert_eq!(pairs, [("A", "9=8"), ("B", "9=8")]);
         assert_eq!(
             (loaded.status, loaded.text(), loaded.index),
-            (LINE_PARSE, &b"x y"[..], 2)
+            (LINE_PARSE, "x y", 2)
         );
     }
 
@@ -449,10 +509,7 @@ mod tests {
         assert_eq!((edited.status, edited.file.len()), (OK, file.len() - 4));
         let last = edited.notes.last().expect("there are warnings");
         assert_eq!((edited.notes.len(), last.kind), (1000, MENTIONS));
-        assert_eq!(
-            (&last.name[..], last.first_line),
-            (&b"LONG_NAME_999"[..], 1001)
-        );
+        assert_eq!((&last.name[..], last.first_line), ("LONG_NAME_999", 1001));
         let long = vec![b'"'; 100_000];
         assert_eq!(set(b"", b"A", &long, 0).file.len(), long.len() + 5);
     }

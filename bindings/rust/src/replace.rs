@@ -1,8 +1,9 @@
 //! Reads a file, and replaces it as a whole: whoever reads it sees the old file or the new one, and nothing between.
 
+use crate::library;
 use std::fs::{self, File, Metadata, OpenOptions};
 use std::io::{self, Read, Write};
-use std::os::unix::fs::{fchown, MetadataExt, OpenOptionsExt};
+use std::os::unix::fs::{MetadataExt, OpenOptionsExt};
 use std::path::{Path, PathBuf};
 use std::process;
 use std::sync::atomic::{AtomicU64, Ordering};
@@ -53,7 +54,7 @@ fn check_file(state: &Metadata) -> io::Result<()> {
 impl Old {
     /// Has these bytes in the place of the file, with its owner and its permissions.
     pub fn replace(&self, bytes: &[u8]) -> io::Result<()> {
-        let folder = self.path.parent().unwrap_or(Path::new("/"));
+        let folder = self.path.parent().unwrap_or_else(|| Path::new("/"));
         let mut beside = Beside::new(folder)?;
         beside.keep_state(&self.state)?;
         beside.file.write_all(bytes)?;
@@ -68,7 +69,7 @@ impl Beside {
     fn new(folder: &Path) -> io::Result<Beside> {
         for _ in 0..TRIES {
             let number = TRIED.fetch_add(1, Ordering::Relaxed);
-            let path = folder.join(format!(".dotenvy_{}_{number}", process::id()));
+            let path = folder.join(format!(".dotenvy_{}_{}", process::id(), number));
             let mut options = OpenOptions::new();
             match options.write(true).create_new(true).mode(0o600).open(&path) {
                 Err(error) if error.kind() == io::ErrorKind::AlreadyExists => {}
@@ -87,7 +88,7 @@ impl Beside {
     fn keep_state(&self, old: &Metadata) -> io::Result<()> {
         let made = self.file.metadata()?;
         if (made.uid(), made.gid()) != (old.uid(), old.gid()) {
-            fchown(&self.file, Some(old.uid()), Some(old.gid()))?;
+            library::change_owner(&self.file, old.uid(), old.gid())?;
         }
         self.file.set_permissions(old.permissions())
     }
@@ -149,7 +150,7 @@ mod tests {
         let old = read(&path).unwrap();
         let next = TRIED.load(Ordering::Relaxed);
         let others: Vec<_> = (next..next + 50)
-            .map(|number| folder.join(format!(".dotenvy_{}_{number}", process::id())))
+            .map(|number| folder.join(format!(".dotenvy_{}_{}", process::id(), number)))
             .collect();
         for other in &others {
             fs::write(other, "of another").unwrap();

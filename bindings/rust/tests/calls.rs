@@ -1,56 +1,11 @@
 //! The calls on files, readers and the process.
 
+mod common;
+
+use common::{value, Folder};
 use dotenvy::{Error, Iter};
-use std::path::{Path, PathBuf};
-use std::sync::{Mutex, MutexGuard};
-use std::{env, fs, io, process};
-
-static PROCESS: Mutex<()> = Mutex::new(());
-
-/// A folder that is the current directory, with the process's variables to itself.
-struct Folder {
-    path: PathBuf,
-    before: PathBuf,
-    _alone: MutexGuard<'static, ()>,
-}
-
-impl Folder {
-    fn new(name: &str) -> Folder {
-        let alone = PROCESS
-            .lock()
-            .unwrap_or_else(|poisoned| poisoned.into_inner());
-        let path = env::temp_dir().join(format!("dotenvy-{}-{name}", process::id()));
-        fs::create_dir_all(&path).unwrap();
-        let path = path.canonicalize().unwrap();
-        let before = env::current_dir().unwrap();
-        env::set_current_dir(&path).unwrap();
-        for name in ["DA", "DB", "DC", "DD"] {
-            env::remove_var(name);
-        }
-        Folder {
-            path,
-            before,
-            _alone: alone,
-        }
-    }
-
-    fn write(&self, name: &str, text: impl AsRef<[u8]>) -> PathBuf {
-        let path = self.path.join(name);
-        fs::write(&path, text).unwrap();
-        path
-    }
-}
-
-impl Drop for Folder {
-    fn drop(&mut self) {
-        let _ = env::set_current_dir(&self.before);
-        let _ = fs::remove_dir_all(&self.path);
-    }
-}
-
-fn value(name: &str) -> Option<String> {
-    env::var(name).ok()
-}
+use std::path::Path;
+use std::{env, fs, io};
 
 #[test]
 fn a_variable_that_exists_keeps_its_value() {
@@ -76,6 +31,8 @@ fn an_override_replaces_it() {
     );
     dotenvy::from_read_override(&b"DA=3\n"[..]).unwrap();
     assert_eq!(value("DA"), Some("3".into()));
+    dotenvy::from_read_override(&b"DA=\n"[..]).unwrap();
+    assert_eq!(value("DA"), Some("".into()));
 }
 
 #[test]
@@ -113,6 +70,8 @@ fn a_file_that_is_not_there() {
     assert!(dotenvy::from_path(missing).unwrap_err().not_found());
     assert!(dotenvy::from_filename(missing).unwrap_err().not_found());
     assert!(dotenvy::from_path_iter(missing).is_err_and(|error| error.not_found()));
+    assert!(!Error::Io(io::ErrorKind::PermissionDenied.into()).not_found());
+    assert!(!Error::EnvVar(env::VarError::NotPresent).not_found());
 }
 
 #[test]
@@ -181,32 +140,4 @@ fn a_byte_order_mark_is_dropped_by_a_load_alone() {
         .next()
         .unwrap()
         .is_err());
-}
-
-struct Failing;
-
-impl io::Read for Failing {
-    fn read(&mut self, _: &mut [u8]) -> io::Result<usize> {
-        Err(io::ErrorKind::PermissionDenied.into())
-    }
-}
-
-#[test]
-fn a_reader_that_fails() {
-    let _folder = Folder::new("failing");
-    let is_denied = |error: &Error| matches!(error, Error::Io(error) if error.kind() == io::ErrorKind::PermissionDenied);
-    assert!(dotenvy::from_read(Failing).is_err_and(|error| is_denied(&error)));
-    let mut items = dotenvy::from_read_iter(Failing);
-    assert!(items.next().unwrap().is_err_and(|error| is_denied(&error)));
-    assert!(items.next().is_none());
-}
-
-#[test]
-fn the_first_use_loads_the_file() {
-    let folder = Folder::new("first-use");
-    folder.write(".env", "DA=1\n");
-    assert_eq!(dotenvy::var("DA").unwrap(), "1");
-    folder.write(".env", "DB=2\n");
-    assert!(matches!(dotenvy::var("DB"), Err(Error::EnvVar(_))));
-    assert!(dotenvy::vars().any(|(name, value)| (name.as_str(), value.as_str()) == ("DA", "1")));
 }

@@ -146,96 +146,100 @@ fn dialects() {
     assert_eq!(edited(edit::unset(file, "A", Dialect::V15)).1.len(), 1);
 }
 
+/// A file, a key and a value, how it is set, and why that is refused, with the line.
+type Refused = (&'static [u8], &'static str, &'static str, How, Reason, u64);
+
+const REFUSED: [Refused; 15] = [
+    (b"", "1A", "2", HOW, Reason::NoKey, 0),
+    (b"", "A", "x\0y", HOW, Reason::Nul, 0),
+    (b"B=1\nC='x\n", "A", "1", HOW, Reason::QuoteOpen, 2),
+    (b"B=1\nC=x\\", "A", "1", HOW, Reason::EndOpen, 2),
+    (b"A=\xff\n", "A", "1", HOW, Reason::Unreadable, 1),
+    (
+        b"B=1\nA=$B  # it's\nC=it's\n",
+        "A",
+        "v",
+        HOW,
+        Reason::LongComment,
+        2,
+    ),
+    (
+        b"\xef\xbb\xbfA=1\n",
+        "A",
+        "2",
+        PORTABLE,
+        Reason::Unportable(Unportable::Mark),
+        1,
+    ),
+    (
+        b"",
+        "A",
+        "x\ry",
+        PORTABLE,
+        Reason::Unportable(Unportable::CarriageReturn),
+        0,
+    ),
+    (
+        b"",
+        "A",
+        "it's $5",
+        PORTABLE,
+        Reason::Unportable(Unportable::Apostrophe),
+        0,
+    ),
+    (
+        b"",
+        "A",
+        "x\n$y",
+        PORTABLE,
+        Reason::Unportable(Unportable::LineFeed),
+        0,
+    ),
+    (
+        b"",
+        "A",
+        "a\\\\b",
+        PORTABLE,
+        Reason::Unportable(Unportable::Backslashes),
+        0,
+    ),
+    (
+        b"",
+        "A",
+        "a\\",
+        PORTABLE,
+        Reason::Unportable(Unportable::LastBackslash),
+        0,
+    ),
+    (
+        b"",
+        "A",
+        "${B}",
+        PORTABLE,
+        Reason::Unportable(Unportable::Substitution),
+        0,
+    ),
+    (
+        b"A='v' # 'q'\n",
+        "A",
+        "a\"b c",
+        PORTABLE,
+        Reason::Unportable(Unportable::Comment),
+        1,
+    ),
+    (
+        b"A='v'\t# 'q'\n",
+        "A",
+        "a\"b c",
+        PORTABLE,
+        Reason::Unportable(Unportable::WhiteSpace),
+        1,
+    ),
+];
+
 #[test]
 fn each_reason() {
-    let rows: [(&[u8], &str, &str, How, Reason, u64); 15] = [
-        (b"", "1A", "2", HOW, Reason::NoKey, 0),
-        (b"", "A", "x\0y", HOW, Reason::Nul, 0),
-        (b"B=1\nC='x\n", "A", "1", HOW, Reason::QuoteOpen, 2),
-        (b"B=1\nC=x\\", "A", "1", HOW, Reason::EndOpen, 2),
-        (b"A=\xff\n", "A", "1", HOW, Reason::Unreadable, 1),
-        (
-            b"B=1\nA=$B  # it's\nC=it's\n",
-            "A",
-            "v",
-            HOW,
-            Reason::LongComment,
-            2,
-        ),
-        (
-            b"\xef\xbb\xbfA=1\n",
-            "A",
-            "2",
-            PORTABLE,
-            Reason::Unportable(Unportable::Mark),
-            1,
-        ),
-        (
-            b"",
-            "A",
-            "x\ry",
-            PORTABLE,
-            Reason::Unportable(Unportable::CarriageReturn),
-            0,
-        ),
-        (
-            b"",
-            "A",
-            "it's $5",
-            PORTABLE,
-            Reason::Unportable(Unportable::Apostrophe),
-            0,
-        ),
-        (
-            b"",
-            "A",
-            "x\n$y",
-            PORTABLE,
-            Reason::Unportable(Unportable::LineFeed),
-            0,
-        ),
-        (
-            b"",
-            "A",
-            "a\\\\b",
-            PORTABLE,
-            Reason::Unportable(Unportable::Backslashes),
-            0,
-        ),
-        (
-            b"",
-            "A",
-            "a\\",
-            PORTABLE,
-            Reason::Unportable(Unportable::LastBackslash),
-            0,
-        ),
-        (
-            b"",
-            "A",
-            "${B}",
-            PORTABLE,
-            Reason::Unportable(Unportable::Substitution),
-            0,
-        ),
-        (
-            b"A='v' # 'q'\n",
-            "A",
-            "a\"b c",
-            PORTABLE,
-            Reason::Unportable(Unportable::Comment),
-            1,
-        ),
-        (
-            b"A='v'\t# 'q'\n",
-            "A",
-            "a\"b c",
-            PORTABLE,
-            Reason::Unportable(Unportable::WhiteSpace),
-            1,
-        ),
-    ];
-    for (file, key, value, how, reason, line) in rows {
+    for (file, key, value, how, reason, line) in REFUSED {
         assert_eq!(refusal(edit::set(file, key, value, how)), (reason, line));
     }
 }
