@@ -47,7 +47,7 @@ def rust(code, folder):
 
 
 # How many examples the two READMEs have together.
-EXAMPLES = 6
+EXAMPLES = 8
 
 LANGUAGES = {"c": (c, ["cc"]), "python": (python, []), "rust": (rust, ["cargo", "cc"])}
 

@@ -1,7 +1,7 @@
 #!/usr/bin/env bash
-# Packs what release/build.sh built, and release/prove_library.sh wrote to crates/dotenvy/out/release, into a folder: the
-# archive for Linux, the wheel, the crate, the pack for Rattle, and SHA256SUMS. The bytes depend on the commit and the
-# toolchain alone, and neither on the clone's place nor on the time.
+# Packs what release/build.sh built, and release/prove_library.sh wrote to crates/dotenvy/out/release, into a folder:
+# the archive for Linux, the two wheels, the crate, the pack for Rattle, and SHA256SUMS. The bytes depend on the commit
+# and the toolchain alone, and neither on the clone's place nor on the time.
 #
 # usage: release/pack.sh FOLDER
 set -euo pipefail
@@ -27,11 +27,13 @@ pack_archive() {
     archive "$name" | gzip -n9 >"$dist/$name.tar.gz"
 }
 
-pack_wheel() {
+pack_wheels() {
     python3 bindings/python/wheel_backend.py "$room/$name" "$dist" >/dev/null
+    python3 -B bindings/python-dotenv/drop_in_backend.py "$dist" >/dev/null
 }
 
-# The crate as `cargo package` writes it, which also builds it.
+# The crate as `cargo package` writes it, which also builds it. Its own number is that of the crate whose place it
+# takes, so the folder in it is renamed.
 pack_crate() {
     local crate=$room/crate
     cp -r bindings/rust "$crate"
@@ -43,7 +45,9 @@ pack_crate() {
         cd "$crate"
         cargo package --quiet --offline --allow-dirty --target-dir "$room/target"
     )
-    cp "$room/target/package/dotenvy-$version.crate" "$dist/"
+    mkdir "$room/dotenvy-$version"
+    tar -xzf "$room/target/package"/dotenvy-*.crate --strip-components=1 -C "$room/dotenvy-$version"
+    archive "dotenvy-$version" | gzip -n9 >"$dist/dotenvy-$version.crate"
 }
 
 # The library's crates as the toolchain keeps its own, the page of their calls, and the definitions of their words.
@@ -67,8 +71,8 @@ name=dotenvy-$version-linux-x86_64
 mkdir "$room/$name"
 release/layout.sh "$room/$name"
 pack_archive
-pack_wheel
+pack_wheels
 pack_crate
 pack_for_rattle
 cd "$dist"
-sha256sum -- dotenvy-* >SHA256SUMS
+sha256sum -- dotenvy[-_]* >SHA256SUMS

@@ -12,6 +12,7 @@
 # - docs/EXPORT.md and its manual page have the names that shells keep, as the code has them;
 # - docs/speed.svg is the chart of the figures in bench/speed.tsv;
 # - each link of the pages leads to a file and a heading, and each page that is named is a link;
+# - the header, the package dotenvy-dotenv and the files of a release that pages name have the number of the library;
 # - each mutant changes the function that its name says.
 # It takes a few seconds, and no proof. The last line is `N passed, M failed`.
 set -euo pipefail
@@ -116,6 +117,28 @@ has_chart() {
     python3 -B bench/chart.py | cmp - docs/speed.svg
 }
 
+# Prints each place that has another number than the library, of those that nothing prints.
+has_one_number() {
+    local version major minor patch
+    version=$(release/version.sh)
+    IFS=. read -r major minor patch <<<"$version"
+    {
+        diff <(grep -xE '(version|dependencies) = .*' bindings/python-dotenv/pyproject.toml) - <<END
+version = "$version"
+dependencies = ["dotenvy==$version"]
+END
+        diff <(sed -n 's/^#define DOTENVY_VERSION_\([A-Z]*\) \([0-9]*\)$/\1 \2/p' bindings/c/dotenvy.h) - <<END
+MAJOR $major
+MINOR $minor
+PATCH $patch
+END
+        grep -onE '\bdotenvy(_dotenv)?-[0-9]+\.[0-9]+\.[0-9]+' README.md bindings/README.md docs/*.md |
+            grep -v -- "-${version//./\\.}\$"
+    } >"$room/numbers"
+    cat "$room/numbers"
+    [ ! -s "$room/numbers" ]
+}
+
 # Prints the mutants that don't.
 change_named_functions() {
     if ! python3 tests/mutants.py >"$room/mutants"; then
@@ -177,6 +200,7 @@ check "docs/CONTRACTS.md names rows and tests that exist" python3 tests/tested_b
 check "docs/EXPORT.md and its manual page list the names that shells keep" python3 -B tests/kept_names.py --lists
 check "docs/speed.svg is the chart of bench/speed.tsv" has_chart
 check "each link of the pages leads somewhere" python3 tests/links.py
+check "what nothing prints has the number of the library, too" has_one_number
 check "each mutant changes the function that its name says" change_named_functions
 check_contracts docs/CONTRACTS.md crates/dotenvy_base/src/environment.rt
 

@@ -90,7 +90,7 @@ check 'each remark that is disabled has its reason beside it' \
     no_line_has '# *(shellcheck disable=[^ ]+|noqa[^#]*) *$' "${scripts_in_shell[@]}" "${scripts_in_python[@]}"
 # In a page, a diff may have an empty line that stays, which is a blank.
 check 'no line ends in white space' no_line_has '[[:blank:]]$' "${recorded[@]}" ':!*.md'
-check 'no line has a tab, except in tables of them' no_line_has $'\t' "${recorded[@]}" ':!*.tsv'
+check 'no line has a tab, except in tables of them and in Go' no_line_has $'\t' "${recorded[@]}" ':!*.tsv' ':!*.go'
 check 'no line ends in a carriage return' no_line_has $'\r$' "${recorded[@]}"
 check 'each file ends with a line feed' end_with_line_feeds
 

@@ -38,8 +38,8 @@ def answer(room, mutant):
 
 def judged(mutant, text):
     """The open goals of the changed functions, the names that their proofs lost, and what is wrong, or None."""
-    found = [(mutant.goal_place(file, int(line)), said, goal) for file, line, said, goal in GOAL.findall(text)]
-    own = [(said, goal) for place, said, goal in found if place in mutant.changed]
+    own = [(said, goal) for file, line, said, goal in GOAL.findall(text)
+           if set(mutant.goal_places(file, int(line))) & set(mutant.changed)]
     lost = [said for said, _ in own if LOST.search(said)]
     goals = [goal for said, goal in own if not LOST.search(said)]
     false = [said for said, _ in own if not LOST.search(said) and ("allow values" in said or "error: " in said)]

@@ -61,9 +61,20 @@ wheel_is_refused() {
         [ -z "$(ls "$room/none")" ]
 }
 
+# Has pip build a wheel of a folder here, into a folder of the room.
+pip_wheel() {
+    env -i PATH=/usr/bin:/bin PYTHONDONTWRITEBYTECODE=1 /usr/bin/python3 -m pip wheel --no-index --no-deps \
+        --wheel-dir "$room/$2" "$1" >"$room/said" 2>&1
+}
+
 pip_is_refused() {
-    ! env -i PATH=/usr/bin:/bin /usr/bin/python3 -m pip wheel --no-index --no-deps --wheel-dir "$room/none" \
-        bindings/python >"$room/said" 2>&1 && grep -q 'release.sh builds the wheel' "$room/said" && [ -z "$(ls "$room/none")" ]
+    ! pip_wheel bindings/python none && grep -q 'release.sh builds the wheel' "$room/said" &&
+        [ -z "$(ls "$room/none")" ]
+}
+
+# The module dotenv has no code of the library, so its wheel can be built in a clone.
+pip_builds_drop_in() {
+    pip_wheel bindings/python-dotenv by_pip && [ "$(ls "$room/by_pip")" = "$(cd "$dist" && echo dotenvy_dotenv-*.whl)" ]
 }
 
 # Packs once more, in a clone elsewhere, for a user whose files nobody else reads. What is built isn't built again.
@@ -153,10 +164,11 @@ check_pack() {
 
 check "the sums hold" sums_hold
 check "the sums name each file" lists_each_file
-check "there are four files and the sums" test "$(find "$dist" -type f | wc -l)" -eq 5
+check "there are five files and the sums" test "$(find "$dist" -type f | wc -l)" -eq 6
 check "the wheel's tag is true" tag_is_true
 check "a wheel without the shared object is refused" wheel_is_refused
 check "pip is refused, too" pip_is_refused
+check "pip builds the wheel of the module dotenv" pip_builds_drop_in
 check "the same bytes are packed elsewhere" packs_the_same
 check_as_user
 check_pack

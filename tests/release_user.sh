@@ -1,7 +1,8 @@
 #!/usr/bin/env bash
-# What somebody does with a release who has no toolchain: installs the archive, runs the programs, reads the manual pages,
-# builds the header's example, installs the wheel, and runs the crate's tests. tests/release.sh runs it in a view of the
-# system without the toolchain. The last line is `N passed, M failed`.
+# What somebody does with a release who has no toolchain: installs the archive, runs the programs, reads the manual
+# pages, builds the header's example, installs the wheels, runs the crate's tests, and puts the crate in the place of
+# the original. tests/release.sh runs it in a view of the system without the toolchain.
+# The last line is `N passed, M failed`.
 #
 # usage: release_user.sh    (in a folder that has the release's files, in its folder dist)
 set -uo pipefail
@@ -121,7 +122,12 @@ loads_the_installed() {
 
 # The names that the archive gives whatever links it, each after the letter of its kind.
 global_names() {
-    nm -g --defined-only "$HOME/.local/lib/libdotenvy.a" | sed -n 's/^[0-9a-f]* \([A-Z] .*\)$/\1/p'
+    nm -g --defined-only "$HOME/.local/lib/libdotenvy.a" | sed -n 's/^[0-9a-f]* \([A-Z] .*\)$/\1/p' | sort
+}
+
+# The functions that the header declares, likewise.
+declared_names() {
+    sed -n 's/^[a-z][a-z0-9_]* \(dotenvy_[a-z_]*\)(.*/T \1/p' "$HOME/.local/include/dotenvy.h" | sort
 }
 
 check_library() {
@@ -131,10 +137,11 @@ check_library() {
     check "it builds by pkg-config" build_example shared
     check "and runs" prints "$wanted" 0 ./shared
     check "with the shared object of its folder" loads_the_installed ./shared
-    check "it builds with the archive" cc -Wall -Wextra -I "$HOME/.local/include" example.c "$HOME/.local/lib/libdotenvy.a" -o static
+    check "it builds with the archive" \
+        cc -Wall -Wextra -I "$HOME/.local/include" example.c "$HOME/.local/lib/libdotenvy.a" -o static
     check "and runs" prints "$wanted" 0 ./static
-    check "the archive has the names of the header" test "$(global_names | grep -c '^T dotenvy_')" -eq 6
-    check "and no others" prints '' 1 eval "global_names | grep -v '^T dotenvy_'"
+    check "the header declares functions" test -n "$(declared_names)"
+    check "the archive has these names, and no others" prints "$(declared_names)" 0 global_names
 }
 
 check_wheel() {
@@ -147,27 +154,41 @@ check_wheel() {
     check_programs "$PWD/place/bin"
     check "the package loads a file" prints "{'A': '1', 'B': 'x 1'}" 0 \
         place/bin/python -c 'import dotenvy; print(dotenvy.dotenv_values("good.env"))'
-    check "the manual pages are there" test -f place/share/man/man1/dotenvy_run.1 -a -f place/share/man/man1/dotenvy_check.1
+    check "the manual pages are there" \
+        test -f place/share/man/man1/dotenvy_run.1 -a -f place/share/man/man1/dotenvy_check.1
     check "the licence, the notices and the commit are inside" sh -c '
         cd place/lib/python3*/site-packages/dotenvy-*.dist-info/licenses &&
         grep -q "Santiago Lapresta" LICENSE && grep -q "Andrew Gallant" NOTICES && grep -q "^commit " BUILT'
+    check_drop_in
     check "pip takes it away again" "${pip[@]}" uninstall --yes dotenvy
     check "and nothing is left" test ! -e place/bin/dotenvy_check
 }
 
-# The crate, and a program that names its folder.
-check_crate() {
-    local crate
-    if ! cargo --version >/dev/null 2>&1; then
-        echo "left out: the tests of the crate, since cargo isn't there"
-        return
-    fi
-    tar -xzf dist/dotenvy-*.crate
-    crate=$(basename dist/dotenvy-*.crate .crate)
-    check "the crate's own tests pass" sh -c "cd '$crate' && cargo test --offline --quiet 2>&1"
+# The wheel with the module dotenv, beside that of dotenvy, which is installed. `pip` is the caller's.
+check_drop_in() {
+    local packages
+    packages=$(echo place/lib/python3*/site-packages)
+    check "pip installs the module dotenv" "${pip[@]}" install --no-index dist/dotenvy_dotenv-*.whl
+    cat >program.py <<'END'
+import os
+from dotenv import dotenv_values, find_dotenv, load_dotenv
+print(load_dotenv(find_dotenv("none.env")), load_dotenv("good.env"), os.environ["B"])
+print(dict(dotenv_values("good.env", interpolate=False)))
+END
+    check "a program that imports dotenv runs" prints $'False True x 1\n{\'A\': \'1\', \'B\': \'x ${A}\'}' 0 \
+        place/bin/python program.py
+    check "the command dotenv says that it needs click" \
+        prints 'dotenv: the command line needs the package click: pip install click' 1 place/bin/dotenv list
+    check "the licence is inside" grep -q 'Santiago Lapresta' "$packages"/dotenvy_dotenv-*.dist-info/licenses/LICENSE
+    check "pip takes it away again" "${pip[@]}" uninstall --yes dotenvy-dotenv
+    check "and nothing is left of it" test ! -e "$packages/dotenv" -a ! -e place/bin/dotenv
+}
+
+# Writes a program that uses the crate, with these lines in its manifest.
+make_program() {
+    rm -rf program
     mkdir -p program/src
-    printf '[package]\nname = "program"\nversion = "0.1.0"\nedition = "2021"\n[dependencies]\ndotenvy = { path = "../%s" }\n' \
-        "$crate" >program/Cargo.toml
+    printf '[package]\nname = "program"\nversion = "0.1.0"\nedition = "2021"\n%s\n' "$1" >program/Cargo.toml
     cat >program/src/main.rs <<'END'
 fn main() {
     for item in dotenvy::from_read_iter(&b"A=1\nB=${A}0\n"[..]) {
@@ -175,8 +196,28 @@ fn main() {
     }
 }
 END
+}
+
+# The crate, a program that names its folder, and one that has it in the place of the original.
+check_crate() {
+    local crate pairs=$'("A", "1")\n("B", "10")'
+    if ! cargo --version >/dev/null 2>&1; then
+        echo "left out: the tests of the crate, since cargo isn't there"
+        return
+    fi
+    tar -xzf dist/dotenvy-*.crate
+    crate=$(basename dist/dotenvy-*.crate .crate)
+    check "the crate's own tests pass" sh -c "cd '$crate' && cargo test --offline --quiet --all-features 2>&1"
+    make_program "[dependencies]
+dotenvy = { path = \"../$crate\" }"
     check "a program builds that names its folder alone" sh -c 'cd program && cargo build --offline --quiet'
-    check "and runs" prints $'("A", "1")\n("B", "10")' 0 program/target/debug/program
+    check "and runs" prints "$pairs" 0 program/target/debug/program
+    make_program "[dependencies]
+dotenvy = \"0.15\"
+[patch.crates-io]
+dotenvy = { path = \"../$crate\" }"
+    check "a patch puts it in the place of the crate 0.15" sh -c 'cd program && cargo build --offline --quiet'
+    check "and the program runs" prints "$pairs" 0 program/target/debug/program
     check "the licence, the notices and the commit are inside" sh -c "cd '$crate' &&
         grep -q 'Santiago Lapresta' LICENSE && grep -q 'Andrew Gallant' NOTICES && grep -q '^commit ' BUILT"
 }
