@@ -3,18 +3,26 @@
  * Link libdotenvy.a, or libdotenvy.so.1 by -ldotenvy: `pkg-config --cflags --libs dotenvy` says how.
  *
  * Each call is a function of its bytes: nothing is kept between two calls, nothing has to be freed, and no call
- * touches the process or its files, nor errno but where an allocation fails. docs/GRAMMAR.md says what a file means.
+ * touches the process or its files. errno is left to malloc, realloc and free. docs/GRAMMAR.md says what a file means;
+ * the folder docs is that of the library's repository.
  *
  * What you have to guarantee, since nothing checks C:
- *   - A pointer has as many bytes, items or warnings behind it as the length says that follows it. With a length of 0
- *     it may be NULL. The pointers to `answer`, `counts`, `edit` and `whole` are never NULL: what they point to is
- *     there, whatever it holds before the call.
+ *   - A pointer leads to as many bytes, items or warnings as the length after it says. With a length of 0 it may be
+ *     NULL. The pointers to `answer`, `counts`, `edit` and `whole` are never NULL: what they point to is there,
+ *     whatever it holds before the call. What isn't bytes is aligned as C aligns it, to 8 bytes.
  *   - `out`, `items`, `warnings` and what is answered overlap nothing else that the call is given. What the others
  *     point to is only read, and may overlap.
  *   - The processor is of x86-64-v2: it has SSE3, SSSE3, SSE4.1, SSE4.2, POPCNT, CMPXCHG16B and LAHF. On a lesser one a
  *     call can end the process by an illegal instruction (SIGILL).
  *   - malloc, realloc and free come from one allocator. Threads may call at the same time; a signal handler may not
  *     call, nor the forked child of a process with threads.
+ *
+ * What you are told:
+ *   - The status says what the call comes to, and `fits` whether your buffers were long enough. Look at both: where a
+ *     buffer is too short, the status is the same as with a longer one.
+ *   - Keys, values, names and texts of errors are UTF-8. Outside of a block no NUL ends them, and a value of
+ *     dotenvy_items may have NULs in it: take the lengths.
+ *   - Lines count from 1, and places from 0.
  *
  * A block is an environment as bytes: NAME=VALUE and a NUL, one after the other. An entry is skipped if it is not
  * UTF-8, has no '=', or has no name before it. Of several entries with one name the first counts. The last entry may
@@ -34,8 +42,8 @@
  *
  * What stays as it is, in all versions with one major number (the soname is libdotenvy.so.1): each call with its
  * arguments, each number of a status, an option and a warning, and each struct with its size and its fields. What is
- * `reserved` is 0 now, and a later version may tell more there. New calls, statuses, options and warnings may come; a
- * call answers DOTENVY_BAD_OPTION to an option that it doesn't know. So treat a status that you don't know as an error.
+ * `reserved` is 0 now, and a later version may tell more there. New calls, statuses, options and warnings may come; an
+ * option that a call doesn't know is DOTENVY_BAD_OPTION. So treat a status that you don't know as an error.
  *
  * An example:
  *
@@ -105,6 +113,7 @@ enum {
     DOTENVY_UNPORTABLE_LAST_BACKSLASH = 18,  /* it ends with a backslash */
     DOTENVY_UNPORTABLE_SUBSTITUTION = 19,    /* it has `${` and a later `}` */
     DOTENVY_UNPORTABLE_COMMENT = 20,         /* the comment of the line has the quotes that the value needs */
+                                             /* 21 belongs to renames; no call gives it */
     DOTENVY_UNPORTABLE_WHITE_SPACE = 22      /* the line has other white space than spaces, or ends in a lone CR */
 };
 
@@ -190,11 +199,11 @@ struct dotenvy_warning {
 /* Each call below that takes options returns its status. It writes its answer to the struct that it is given, which has
  * the same status, or to `whole`. */
 
-/* Whether these bytes may be a key of a file. */
+/* Whether these bytes may be a key of a file: an ASCII letter or `_`, then ASCII letters, digits, `_` and dots. */
 bool dotenvy_is_key(const void *text, size_t text_len);
 
 /* Writes what a status says to `out`, in ASCII and without a NUL, and returns the length of that text: 100 bytes are
- * enough for each. Where `out` is too short, nothing is written. */
+ * enough for each. Of a number that is no status it says `unknown`. Where `out` is too short, nothing is written. */
 size_t dotenvy_status_text(uint32_t status, void *out, size_t out_len);
 
 /* Loads a file over the environment of a block: a name that is there keeps its value, unless DOTENVY_OVERRIDE is set.
@@ -203,7 +212,9 @@ size_t dotenvy_status_text(uint32_t status, void *out, size_t out_len);
  * of the names, and the text of the error right after it. Where `out` is too short for both nothing is written, `fits`
  * is false, and block_len + text_len is the length of `out` that the same call needs.
  *
- * docs/GRAMMAR.md, "Faults and their places", says which text a wrong line has, and what its index counts. */
+ * docs/GRAMMAR.md, "Faults and their places", says which text a wrong line has, and what its index counts. Its number
+ * is not told. To have it, list the items, with DOTENVY_DROP_MARK: their first error is that of the load. A value with
+ * a NUL is a pair there. */
 uint32_t dotenvy_load(const void *file, size_t file_len, const void *block, size_t block_len, uint32_t options,
                       struct dotenvy_answer *answer, void *out, size_t out_len);
 
@@ -221,9 +232,14 @@ uint32_t dotenvy_items(const void *file, size_t file_len, const void *block, siz
                        size_t out_len);
 
 /* Tells by `whole` how many of these first bytes of a file are whole statements, whatever follows them: all up to the
- * last line feed, but no line that stays open, as one with a quote does. So a reader can list the items of these bytes,
- * and read on only if it needs more. With DOTENVY_DROP_MARK a byte order mark at their start is dropped, and counted.
- * Where the status is not DOTENVY_OK, `whole` is 0. */
+ * last line feed, or to a line before it with a quote that isn't closed yet. So a reader can list the items of these
+ * bytes, read on only if it needs more, and list what is left once the file has ended. With DOTENVY_DROP_MARK a byte
+ * order mark at the start is dropped, and counted: this is for the start of the file alone. Where the status is not
+ * DOTENVY_OK, `whole` is 0.
+ *
+ * A call that lists the rest doesn't know what is before it: lines and places count from the start of what it is given,
+ * and a name that was declared before means nothing. Where values have names in them, list statement by statement, each
+ * by its file_at and file_len, under a block with the environment and then, of each other name, its last value. */
 uint32_t dotenvy_whole(const void *file, size_t file_len, uint32_t options, size_t *whole);
 
 /* Writes a pair to `out`: a line, with its line feed, that reads back as this key and this value, in both dialects and
@@ -236,8 +252,9 @@ uint32_t dotenvy_write(const void *key, size_t key_len, const void *value, size_
                        struct dotenvy_text *answer, void *out, size_t out_len);
 
 /* Sets a key of a file to a value: the first line that assigns it has the value, and later ones are gone. Where none
- * does, a line is appended. Every other byte stays, comments too. The value reads back as it is: no name in it is
- * substituted.
+ * does, a line is appended. Every other byte stays, comments too, except for blanks before the line's comment and the
+ * end of the file's last line: docs/EDIT.md, "What stays, and what changes", says when these change. The value reads
+ * back as it is: no name in it is substituted.
  *
  * The new file is written to the start of `out`, and the names of the warnings right after it. Where `warnings` is too
  * short for all warnings, or `out` for the file and the names, nothing is written, `fits` is false, and `warnings` and

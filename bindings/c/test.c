@@ -260,6 +260,16 @@ static void unwritable(struct bytes key, struct bytes value, uint32_t options, u
 }
 #define UNWRITABLE(key, value, options, status) unwritable(BYTES(key), BYTES(value), options, status, __LINE__)
 
+/* Whether the first error among the items of a file is this one. */
+static bool is_first_error(struct bytes file, struct bytes block, uint32_t options, uint32_t status, struct bytes text,
+                           size_t index) {
+    struct dotenvy_counts c = list(file, block, (options & DOTENVY_NEXT_DIALECT) | DOTENVY_DROP_MARK, ITEMS, BUFFER);
+    size_t at = 0;
+    while (at < c.items && items[at].status == DOTENVY_OK) at++;
+    return at < c.items && items[at].status == status && items[at].index == index && items[at].key_len == 0
+           && items[at].text_len == text.length && is_at(items[at].key_at, text.at, text.length);
+}
+
 /* A load that answers this, leaves this block, and tells this text; with an ample buffer, with an exact one, with one a
  * byte too short, and with none. */
 static void loads(struct bytes file, struct bytes block, uint32_t options, uint32_t status, struct bytes left,
@@ -279,6 +289,8 @@ static void loads(struct bytes file, struct bytes block, uint32_t options, uint3
         }
         check(untouched_from(fits ? need : 0), "nothing else is written", line);
     }
+    if (status == DOTENVY_LINE_PARSE || status == DOTENVY_NOT_UTF8)
+        check(is_first_error(file, block, options, status, text, index), "the first error of the items", line);
 }
 #define LOADS(file, block, options, status, left, text, index) \
     loads(BYTES(file), BYTES(block), options, status, BYTES(left), BYTES(text), index, __LINE__)
@@ -677,6 +689,42 @@ static void test_drawn_values(void) {
     CHECK(pairs > 1000);
 }
 
+/* Whether this statement, by itself under a block, is told as this item of its file was, whose texts were these. */
+static bool is_told_alone(struct bytes statement, struct bytes block, struct dotenvy_item item, const uint8_t *texts) {
+    struct dotenvy_counts c = list(statement, block, 0, ITEMS, BUFFER);
+    return c.items == 1 && items[0].status == item.status && items[0].index == item.index
+           && items[0].key_len == item.key_len && items[0].text_len == item.text_len
+           && memcmp(out, texts + item.key_at, c.text_len) == 0 && items[0].first_line == 1
+           && items[0].last_line == item.last_line - item.first_line + 1 && items[0].file_at == 0;
+}
+
+/* A file tells the same statement by statement, each under a block that has the environment first, and then the last
+ * value of each name, the newest before the older ones. */
+static void test_statements_alone(void) {
+    static const struct bytes file = BYTES_OF("A=1\nB=\"$A\n$E\"\nA=2\nC=$A$B\n\nE=9\nx y\nD=$E'$A'\nA=$A$A\nF=$A$C");
+    static const struct bytes environment = BYTES_OF("E=5\0");
+    static uint8_t texts[BUFFER];
+    static char block[BUFFER];
+    struct dotenvy_item all[ITEMS];
+    size_t count = list(file, environment, 0, ITEMS, BUFFER).items, at = BUFFER;
+    memcpy(all, items, sizeof all);
+    memcpy(texts, out, BUFFER);
+    CHECK(count == 9 && item_is(3, DOTENVY_OK, "C", "21\n5", 0, 5, 5));
+    CHECK(!is_told_alone((struct bytes){file.at + all[3].file_at, all[3].file_len}, environment, all[3], texts));
+    for (size_t i = 0; i < count; i++) {
+        char *start = block + at - environment.length;
+        memcpy(start, environment.at, environment.length);
+        CHECK(is_told_alone((struct bytes){file.at + all[i].file_at, all[i].file_len},
+                            (struct bytes){start, BUFFER - at + environment.length}, all[i], texts));
+        if (all[i].status != DOTENVY_OK) continue;
+        at -= all[i].key_len + all[i].text_len + 2;
+        memcpy(block + at, texts + all[i].key_at, all[i].key_len);
+        block[at + all[i].key_len] = '=';
+        memcpy(block + at + all[i].key_len + 1, texts + all[i].key_at + all[i].key_len, all[i].text_len);
+        block[at + all[i].key_len + 1 + all[i].text_len] = '\0';
+    }
+}
+
 static void test_sets(void) {
     EDITS(SET("A=1\n", "A", "2", 0), "A=2\n");
     EDITS(SET("", "A", "1", 0), "A=1\n");
@@ -1052,6 +1100,7 @@ static void test_calls(void) {
     test_as_written();
     test_items_as_written();
     test_drawn_values();
+    test_statements_alone();
     test_whole();
     test_writes();
     test_sets();
