@@ -1,7 +1,7 @@
 #!/usr/bin/env bash
 # Packs what release/build.sh built, and release/prove_library.sh wrote to crates/dotenvy/out/release, into a folder:
-# the archive for Linux, the two wheels, the crate, the pack for Rattle, and SHA256SUMS. The bytes depend on the commit
-# and the toolchain alone, and neither on the clone's place nor on the time.
+# the archive for Linux, the two wheels, the crate, the pack for Rattle, and SHA256SUMS. docs/RELEASING.md says on what
+# the bytes depend.
 #
 # usage: release/pack.sh FOLDER
 set -euo pipefail
