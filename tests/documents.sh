@@ -11,7 +11,8 @@
 # - docs/CONTRACTS.md names rows and tests that exist where something is only tested;
 # - docs/EXPORT.md and its manual page have the names that shells keep, as the code has them;
 # - docs/speed.svg is the chart of the figures in bench/speed.tsv;
-# - each link of the pages leads to a file and a heading, and each page that is named is a link;
+# - each link of the pages leads to a file and a heading, each page that is named is a link, and docs/DECISIONS.md lists each
+#   decision at its top;
 # - the header, the package dotenvy-dotenv and the files of a release that pages name have the number of the library;
 # - each mutant changes the function that its name says.
 # It takes a few seconds, and no proof. The last line is `N passed, M failed`.
@@ -199,7 +200,7 @@ check "that check sees what leaves the headline's table, or a contract of it" py
 check "docs/CONTRACTS.md names rows and tests that exist" python3 tests/tested_by.py
 check "docs/EXPORT.md and its manual page list the names that shells keep" python3 -B tests/kept_names.py --lists
 check "docs/speed.svg is the chart of bench/speed.tsv" has_chart
-check "each link of the pages leads somewhere" python3 tests/links.py
+check "each link of the pages leads somewhere, and each decision is listed" python3 tests/links.py
 check "what nothing prints has the number of the library, too" has_one_number
 check "each mutant changes the function that its name says" change_named_functions
 check_contracts docs/CONTRACTS.md crates/dotenvy_base/src/environment.rt

@@ -328,6 +328,14 @@ printf 'other' >f.env.dotenvy_edit-0
 call set f.env A 2
 holds "another call's file" has f.env "A=2$nl"
 holds 'is left as it is' has f.env.dotenvy_edit-0 other
+touch f.env.dotenvy_edit-{1..999}
+call set f.env A 3
+holds 'all names for a new file are taken' ended 2 '' \
+    "dotenvy_edit: error: f.env: no new file can be made beside it: all names for a new file are taken$nl"
+holds 'the file is as it was' has f.env "A=2$nl"
+rm f.env.dotenvy_edit-999
+call set f.env A 3
+holds 'the last of them is free' has f.env "A=3$nl"
 file "A=1$nl"
 mkdir sub
 ln -s ../f.env sub/link.env
@@ -525,7 +533,7 @@ page_texts() {
         }
         END {
             words["LINE"] = "[1-9][0-9]*"
-            words["FAULT"] = "(.* \\(os error [0-9]+\\)|it is no regular file|out of memory)"
+            words["FAULT"] = "(.* \\(os error [0-9]+\\)|it is no regular file|all names for a new file are taken|out of memory)"
             words["NAME"] = words["KEY"] = words["FILE"] = words["WORD"] = ".*"
             count = split(lists["STEP"], parts, "`")
             for (at = 2; at < count; at += 2)

@@ -1,6 +1,7 @@
 #!/usr/bin/env python3
 """Sees that each link of the pages leads somewhere: to a file that is there, and to a heading of it. A page that is
-named in running text has to be a link. Prints each place that is wrong, and ends with status 1 if there is one.
+named in running text has to be a link. The list at the top of docs/DECISIONS.md has to have each decision. Prints each
+place that is wrong, and ends with status 1 if there is one.
 """
 
 import pathlib
@@ -8,6 +9,7 @@ import re
 import sys
 
 TOP = pathlib.Path(__file__).resolve().parent.parent
+LISTED = TOP / "docs" / "DECISIONS.md"
 LINK = re.compile(r"\[([^\]]*)\]\(([^)\s]+)\)")
 
 
@@ -67,9 +69,19 @@ def faults(page):
                 yield number, named + " is no link"
 
 
+def unlisted(page):
+    """Each decision of a page that the list at its top lacks."""
+    lines = list(prose(page))
+    listed = {target for _, line in lines if line.startswith("- **") for _, target in LINK.findall(line)}
+    for number, line in lines:
+        if line.startswith("### ") and "#" + anchor(line.lstrip("#")) not in listed:
+            yield number, "the list lacks" + line.lstrip("#")
+
+
 def main():
     """Prints the faults of all pages."""
     found = [(page, *fault) for page in pages() for fault in faults(page)]
+    found += [(LISTED, *fault) for fault in unlisted(LISTED)]
     for page, number, fault in found:
         print(f"{page.relative_to(TOP)}:{number}: {fault}")
     if found or not pages():
