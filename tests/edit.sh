@@ -420,6 +420,14 @@ check_refused 'an unknown option' "unknown option '--nex'" set --nex f.env A 2
 check_refused 'an unknown short option' "unknown option '-x'" set f.env A 2 -x
 check_refused 'a value of an option' "unexpected value in '--next=yes'" set --next=yes f.env A 2
 file "A=1$nl"
+call set f.env A -hello
+holds 'letters after one -: the first one asks for help' grep -q '^Usage: dotenvy_edit set ' "$room/output"
+holds 'and nothing is set' has f.env "A=1$nl"
+for value in - -hello -q --next; do
+    call_with "$value" set --exact f.env A
+    check_new "any value comes from standard input: $value" "A=$value$nl"
+done
+file "A=1$nl"
 call set f.env A $'\xff'
 check_same 'a word is no text' 2 'a word of the command line is not UTF-8' "A=1$nl"
 call --version set f.env A 2
@@ -533,7 +541,8 @@ page_texts() {
         }
         END {
             words["LINE"] = "[1-9][0-9]*"
-            words["FAULT"] = "(.* \\(os error [0-9]+\\)|it is no regular file|all names for a new file are taken|out of memory)"
+            words["FAULT"] = "(.* \\(os error [0-9]+\\)|it is no regular file|out of memory|" \
+                "all names for a new file are taken)"
             words["NAME"] = words["KEY"] = words["FILE"] = words["WORD"] = ".*"
             count = split(lists["STEP"], parts, "`")
             for (at = 2; at < count; at += 2)

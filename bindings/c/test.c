@@ -701,7 +701,7 @@ static bool is_told_alone(struct bytes statement, struct bytes block, struct dot
 /* A file tells the same statement by statement, each under a block that has the environment first, and then the last
  * value of each name, the newest before the older ones. */
 static void test_statements_alone(void) {
-    static const struct bytes file = BYTES_OF("A=1\nB=\"$A\n$E\"\nA=2\nC=$A$B\n\nE=9\nx y\nD=$E'$A'\nA=$A$A\nF=$A$C");
+    static const struct bytes file = BYTES_OF("A=1\nB=\"$A\n${E}\"\nA=2\nC=$A$B\n\nE=9\nx y\nD=$E'$A'\nA=$A$A\nF=$A$C");
     static const struct bytes environment = BYTES_OF("E=5\0");
     static uint8_t texts[BUFFER];
     static char block[BUFFER];
