@@ -487,6 +487,17 @@ holds 'three lines of it are removed' ended 0 '' ''
 holds 'and no other' is_without 'KEY_260000|KEY_1|KEY_130000'
 cp "$room/whole" f.env
 
+# A value of 2^40 bytes, by 40 lines. It makes no difference to a name before it.
+file "A0=x$nl"
+for line in {1..40}; do
+    echo "A$line=\${A$((line - 1))}\${A$((line - 1))}" >>f.env
+done
+call_within 60000 get f.env A40
+holds 'a value is too long for the memory' ended 2 '' "dotenvy_edit: error: out of memory$nl"
+call_within 60000 get f.env A1
+holds 'one before it is not' ended 0 "xx$nl" ''
+cp "$room/whole" f.env
+
 # With less memory it is told that there is too little, until there is enough.
 is_refused_whole() {
     { ended 2 '' "dotenvy_edit: error: f.env: out of memory$nl" || ended 2 '' "dotenvy_edit: error: out of memory$nl"; } &&
