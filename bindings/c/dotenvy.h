@@ -33,12 +33,12 @@
  * means nothing where its variable is not UTF-8.
  *
  * Memory: a call asks malloc for what it builds, and frees all of it before it returns. For a small file that is up to
- * 20 kilobytes. For a long one it is some 10 bytes for each byte of the file and of the block if lines have a usual
- * length, and at most some 100 where no value has a name in it: names, values and errors take the most. A value with
- * names takes what they mean, even with DOTENVY_AS_WRITTEN, and that can be far more than the file has. Line feeds and
- * comments take nothing, except in the copy that dotenvy_set and dotenvy_unset make of the file. dotenvy_is_key,
- * dotenvy_status_text and dotenvy_version ask for no memory. Where malloc fails, the status is DOTENVY_NO_MEMORY, and
- * malloc has set errno.
+ * 20 kilobytes. For a long one it is about 10 bytes for each byte of the file and of the block where lines have 70
+ * bytes, and at most about 100 where they are as short as can be: names, values and errors take the most. A value with
+ * names in it takes what they mean, even with DOTENVY_AS_WRITTEN, and that can be far more than the file has: 40 lines
+ * such as B=$A$A double a value 40 times. Line feeds and comments take nothing, except in the copy that dotenvy_set and
+ * dotenvy_unset make of the file. dotenvy_is_key, dotenvy_status_text and dotenvy_version ask for no memory. Where
+ * malloc fails, the status is DOTENVY_NO_MEMORY, and malloc has set errno.
  *
  * What stays as it is, in all versions with one major number (the soname is libdotenvy.so.1): each call with its
  * arguments, each number of a status, an option and a warning, and each struct with its size and its fields. What is
