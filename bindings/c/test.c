@@ -527,6 +527,18 @@ static void test_loads(void) {
     LOADS("A=2\n", "A=1\0B=x=y\0", 0, DOTENVY_OK, "A=1\0B=x=y\0", "", 0);
 }
 
+/* Inputs may overlap: each is only read. */
+static void test_shared_inputs(void) {
+    static const char text[] = "A=1";
+    struct dotenvy_answer answer;
+    struct dotenvy_edit told;
+    char to[8];
+    CHECK(dotenvy_load(text, 3, text, 3, DOTENVY_OVERRIDE, &answer, to, sizeof to) == DOTENVY_OK);
+    CHECK(answer.fits && answer.block_len == 4 && memcmp(to, "A=1", 4) == 0);
+    CHECK(dotenvy_set(text, 3, text, 1, text, 1, 0, &told, NULL, 0, to, sizeof to) == DOTENVY_OK);
+    CHECK(told.fits && told.file_len == 3 && memcmp(to, "A=A", 3) == 0);
+}
+
 static void test_refused_options(void) {
     static const uint32_t bad[] = {4, 8, 16, 5, 0x80000000u, 0xFFFFFFFFu};
     for (size_t i = 0; i < sizeof bad / sizeof bad[0]; i++) {
@@ -1094,6 +1106,7 @@ static void test_calls(void) {
     test_keys();
     test_status_texts();
     test_loads();
+    test_shared_inputs();
     test_refused_options();
     test_items();
     test_options_of_items();

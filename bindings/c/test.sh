@@ -1,8 +1,8 @@
 #!/usr/bin/env bash
 # Tests the library for C: bindings/c/test.c, built by the toolchain's own clang and linker, which need no headers and
 # no other compiler. Where there is a `cc`, the same test is built by that one, with the system's headers, over the
-# archive as it is shipped, and run by itself, with AddressSanitizer, and under valgrind. And the archive and the shared
-# object have to have the names of the header, and no others.
+# archive as it is shipped, and run by itself, with AddressSanitizer, and under valgrind; and so is the example of the
+# header. And the archive and the shared object have to have the names of the header, and no others.
 # The last line is `N passed, M failed`. It needs what bindings/build.sh builds.
 set -uo pipefail
 cd "$(dirname "$0")" || exit
@@ -66,8 +66,22 @@ cc_can() {
     cc "$@" "$folder/empty.c" -o "$folder/empty" 2>"$folder/said" && "$folder/empty" 2>"$folder/said"
 }
 
+# The example in the header's comment.
+header_example() {
+    awk '/^ \* An example:/ { inside = 1; next } !inside { next } / \*\/$/ { exit } { sub(/^ \*(     )?/, ""); print }' \
+        dotenvy.h
+}
+
+# Whether the example builds, and prints what it says.
+example_runs() {
+    header_example >"$folder/example.c"
+    cc -Wall -Wextra -Werror -I . "$folder/example.c" "$out/libdotenvy.a" -o "$folder/example" &&
+        [ "$("$folder/example")" = $'HOST=localhost\nPORT=9\nURL=http://localhost:9/' ]
+}
+
 test_by_cc() {
     local sanitizers=-fsanitize=address,undefined memcheck
+    check "the example of the header runs" example_runs
     check "the test builds with cc" by_cc plain
     run "$folder/plain"
     if cc_can "$sanitizers"; then
