@@ -97,7 +97,7 @@ enum {
     DOTENVY_NO_MEMORY = 5,      /* an allocation failed, and nothing was written */
     DOTENVY_BAD_OPTION = 6,     /* an option that the call doesn't have, and nothing was written */
 
-    /* Why dotenvy_set or dotenvy_unset refuses, and writes nothing. */
+    /* Why dotenvy_set or dotenvy_unset refuses, and writes nothing: one of the reasons, where there are several. */
     DOTENVY_NO_KEY = 7,         /* the name can be no key; of dotenvy_write, too */
     DOTENVY_ABSENT = 8,         /* dotenvy_unset: no line assigns the key */
     DOTENVY_QUOTE_OPEN = 9,     /* a quote stays open to the end of the file, so nothing can be appended */
@@ -186,7 +186,7 @@ struct dotenvy_edit {
     uint64_t reserved[2];
 };
 
-/* Something to know of an edit that was made. */
+/* Something to know of an edit that was made. Those of one kind come in the order of their lines. */
 struct dotenvy_warning {
     uint32_t kind;       /* DOTENVY_MENTIONS, or another of these */
     size_t name_at;      /* where its name begins in `out` */
