@@ -19,7 +19,7 @@ case ${1-} in
         ;;
 esac
 [ "$#" -eq 0 ] || fail "too many arguments; ./release.sh --help says how to call it"
-for tool in rt git cargo objcopy objdump python3 sha256sum tar xz; do
+for tool in rt git cargo objcopy objdump python3 sha256sum tar gzip xz; do
     command -v "$tool" >/dev/null || fail "there is no command $tool"
 done
 python3 -c 'import tomllib' 2>/dev/null || fail "python3 has to be 3.11 or later"
