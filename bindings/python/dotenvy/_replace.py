@@ -19,16 +19,16 @@ class OldFile(NamedTuple):
 
 def read_old(path: str, follow_symlinks: bool) -> OldFile:
     """The file at this path. What is no file raises `OSError`; so does a symbolic link, unless links are followed."""
-    flags = os.O_RDONLY | os.O_CLOEXEC | os.O_NONBLOCK | (0 if follow_symlinks else os.O_NOFOLLOW)
+    others = os.O_NONBLOCK | (0 if follow_symlinks else os.O_NOFOLLOW)
     try:
-        file = open(os.open(path, flags), "rb")
+        # Where it is a folder, `open` closes what its opener opened, and its error names the path.
+        file = open(path, "rb", opener=lambda name, flags: os.open(name, flags | others))
     except FileNotFoundError:
         return OldFile(b"", None)
     with file:
         state = os.fstat(file.fileno())
         if not stat.S_ISREG(state.st_mode):
-            reason = errno.EISDIR if stat.S_ISDIR(state.st_mode) else errno.EINVAL
-            raise OSError(reason, "not a regular file", path)
+            raise OSError(errno.EINVAL, "not a regular file", path)
         return OldFile(file.read(), state)
 
 
@@ -38,12 +38,19 @@ def replace(path: str, content: bytes, old: os.stat_result | None) -> None:
     The content is written beside the file, under a name that no file has, and then takes its place. Where a step fails,
     the old file is as it was, and nothing is left; only where the last one fails, of the folder, the new file is there.
     """
-    folder = os.path.dirname(os.path.abspath(path))
+    # A `..` after a link leads to another folder than the text of the path says.
+    folder = os.path.realpath(os.path.dirname(path))
     try:
-        place, beside = tempfile.mkstemp(prefix=".dotenvy_", dir=folder)
+        _put_in_place(path, folder, content, old)
     except OSError as error:
-        # It has the name of the file beside, which tells nobody anything.
+        # It has no name, or that of the file beside, which tells nobody anything.
         raise OSError(error.errno, error.strerror, path) from None
+    _sync_folder(folder)
+
+
+def _put_in_place(path: str, folder: str, content: bytes, old: os.stat_result | None) -> None:
+    """Writes a file in the folder of a path, and has it take the place of what is there."""
+    place, beside = tempfile.mkstemp(prefix=".dotenvy_", dir=folder)
     try:
         with open(place, "wb") as file:
             if old is not None:
@@ -57,7 +64,6 @@ def replace(path: str, content: bytes, old: os.stat_result | None) -> None:
         with contextlib.suppress(FileNotFoundError):
             os.unlink(beside)
         raise
-    _sync_folder(folder)
 
 
 def _keep_state(place: int, old: os.stat_result) -> None:

@@ -1,5 +1,6 @@
 """Tests of the edits: what they make of a file, how it is replaced, and what they raise, return and log."""
 
+import errno
 import importlib.util
 import logging
 import os
@@ -312,10 +313,13 @@ class Replaced(Edits):
 
     def test_what_is_no_file(self):
         os.mkfifo(self.path)
-        with self.assertRaises(OSError):
-            set_key(self.path, "A", "1")
-        with self.assertRaises(IsADirectoryError):
-            set_key(self.folder, "A", "1")
+        before = os.listdir("/proc/self/fd")
+        for path, kind in ((self.path, OSError), (self.folder, IsADirectoryError)):
+            for call in (lambda path: set_key(path, "A", "1"), lambda path: unset_key(path, "A")):
+                with self.assertRaises(kind) as raised:
+                    call(path)
+                self.assertEqual(raised.exception.filename, str(path))
+        self.assertEqual(os.listdir("/proc/self/fd"), before)
         self.assertTrue(stat.S_ISFIFO(self.path.stat().st_mode))
         self.assertEqual([name.name for name in self.folder.iterdir()], [self.path.name])
 
@@ -336,15 +340,26 @@ class Replaced(Edits):
     def fail_at(self, step, kind):
         real_open = open
 
-        def refuse_write(file, mode="r", *others):
+        def refuse_write(file, mode="r", **others):
             if "w" in mode:
                 raise kind
-            return real_open(file, mode, *others)
+            return real_open(file, mode, **others)
 
         effect = refuse_write if step == "open" else kind
         name = f"dotenvy._replace.{step}"
         with mock.patch(name, side_effect=effect, create=step == "open"), self.assertRaises(kind):
             set_key(self.path, "A", "2")
+
+    def test_the_error_of_a_step_names_the_file(self):
+        self.has(b"A=1\n")
+        # The system names two files in the error of a renaming, and none in that of a descriptor.
+        for names in ((), ("beside", None, "other")):
+            for step in ("tempfile.mkstemp", "os.fchmod", "os.fsync", "os.replace"):
+                refused = mock.patch(f"dotenvy._replace.{step}", side_effect=OSError(errno.EPERM, "refused", *names))
+                with self.subTest(step=step, names=names), refused:
+                    with self.assertRaises(PermissionError) as raised:
+                        set_key(self.path, "A", "2")
+                    self.assertEqual(str(raised.exception), f"[Errno {errno.EPERM}] refused: '{self.path}'")
 
     def test_a_folder_that_cannot_be_synced(self):
         self.has(b"A=1\n")
@@ -375,6 +390,17 @@ class Replaced(Edits):
         with mock.patch("dotenvy._replace.tempfile.mkstemp", seen):
             self.set_in(b"A=1\n", "2")
         self.assertEqual(Path(made[0][1]).parent, self.folder)
+
+    def test_a_path_through_a_link(self):
+        # The path leads to the folder real, and not to the one that has the link.
+        (self.folder / "real/sub").mkdir(parents=True)
+        (self.folder / "link").symlink_to("real/sub")
+        file = self.write("real/a.env", "A=1\n")
+        with mock.patch("dotenvy._replace.tempfile.mkstemp", side_effect=tempfile.mkstemp) as made:
+            for follow_symlinks in (False, True):
+                set_key("link/../a.env", "A", f"{follow_symlinks}", follow_symlinks=follow_symlinks)
+                self.assertEqual(made.call_args[1]["dir"], str(file.parent))
+                self.assertEqual(file.read_text(), f"A={follow_symlinks}\n")
 
     def test_an_old_file(self):
         self.has(b"A=1\n")
