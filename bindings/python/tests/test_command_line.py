@@ -107,6 +107,12 @@ class CommandLine(InLog):
         self.assertEqual(status, 2)
         self.assertIn("Invalid value for '-f' \"nx.env\" does not exist.", said)
 
+    def test_signals_of_a_command(self):
+        self.write(".env", "A=1\n")
+        words = ["grep", "SigIgn", "/proc/self/status"]
+        ignored = subprocess.run(words, stdout=subprocess.PIPE, check=True).stdout.decode()
+        self.assertEqual(self.program("run", *words), (0, ignored, ""))
+
     def test_a_pipe(self):
         for words in (["list"], ["run", "sh", "-c", "echo A=$A"]):
             os.mkfifo("pipe.env")

@@ -6,6 +6,7 @@ import contextlib
 import json
 import os
 import shlex
+import signal
 import sys
 from collections.abc import Iterator
 
@@ -135,6 +136,9 @@ def run_command(command: list[str], env: dict[str, str]) -> None:
     One that can't be run ends the process with the status 127 or 126.
     """
     sys.stdout.flush()
+    # Python ignores these signals, and what a process ignores its next program would ignore, too.
+    for number in (signal.SIGPIPE, signal.SIGXFSZ):
+        signal.signal(number, signal.SIG_DFL)
     try:
         os.execvpe(command[0], command, {**os.environ, **env})
     except OSError as error:
