@@ -114,6 +114,17 @@ class UsualCalls(InFolder):
                 errors = "Python-dotenv could not parse statement starting at line 2\n" if what == "a bad line" else ""
                 self.assertEqual(said.stderr.decode(), errors)
 
+    def test_modules_that_come_with_the_package(self):
+        program = (
+            "import dotenv\n"
+            "print(dotenv.main.DotEnv('nx.env').dict(), dotenv.parser.Original('A', 1).line)\n"
+            "print(dotenv.variables.Literal('A').value)\n"
+        )
+        said = subprocess.run(
+            [sys.executable, "-c", program], env=self.programs_environment, stdout=subprocess.PIPE, check=True
+        )
+        self.assertEqual(said.stdout.decode(), "OrderedDict() 1\nA\n")
+
     def test_the_modules_have_the_same_calls(self):
         program = (
             "import dotenv, dotenv.main, dotenv.parser, dotenv.variables, dotenv.version, dotenv.ipython\n"
