@@ -144,7 +144,10 @@ class Loads(InLog):
         self.assertEqual(dict(os.environ), {"B": "2"})
 
     def test_what_is_no_name_alone(self):
-        for text in ("1A\n", "A B\n", "é\n", "A-B\n", "A=export B\n", "A: 1\n", "A'\n", "export export A\n"):
+        texts = ["1A\n", "A B\n", "é\n", "A-B\n", "A=export B\n", "A: 1\n", "A'\n", "export export A\n", "\x1cA\n"]
+        # A sharp after two blanks begins no comment. So these values have a space, and look like a name with a comment.
+        texts += ["A=B\xa0\xa0# c", "A=B\xa0\xa0# c d\n", "export A = B\x85\x85# c\r\n"]
+        for text in texts:
             with self.subTest(text):
                 self.assertEqual(self.said(lambda: dotenv_values(stream=io.StringIO(text))), ({}, self.warned(1)))
 
@@ -184,7 +187,7 @@ class Loads(InLog):
     def test_a_pipe(self):
         path = self.folder / "pipe.env"
         os.mkfifo(path)
-        writer = threading.Thread(target=path.write_bytes, args=(b"A=1\n",))
+        writer = threading.Thread(target=path.write_bytes, args=(b"A=1\n",), daemon=True)
         writer.start()
         self.assertEqual(dotenv_values(path), {"A": "1"})
         writer.join()
@@ -435,6 +438,8 @@ class Edits(InLog):
         self.assertEqual(self.set_in(MARK + b"export A # c\nA=1\n", "2"), MARK + b"export A='2' # c\n")
         self.assertEqual(self.set_in(b"A  # c\n", "2"), b"A='2'  # c\n")
         self.assertEqual(self.set_in(b"B=1\nA\nA\nAB\n", "2"), b"B=1\nA='2'\nAB\n")
+        faulty = "B=A\xa0\xa0# c\n".encode()
+        self.assertEqual(self.set_in(faulty, "2"), faulty + b"A='2'\n")
         path = self.write("a.env", "A\nB=1\nA=2\nAB\n")
         self.assertEqual(unset_key(path, "A"), (True, "A"))
         self.assertEqual(path.read_bytes(), b"B=1\nAB\n")

@@ -42,7 +42,7 @@ def _assigned(file: bytes, key: bytes, dialect: Dialect) -> bytes:
     """The file with a `=` after each name alone that is this key, which makes an assignment of it."""
     parts, last = [], 0
     for record, start, _ in _located(file, dialect):
-        alone = _reading.name_alone(record)
+        alone = _reading.name_alone(record, file, start)
         if alone is not None and alone.name.encode() == key:
             place = start + alone.end
             parts += [file[last:place], b"="]

@@ -33,15 +33,19 @@ def without_mark(content: bytes) -> bytes:
     return content[len(_library.MARK):] if content.startswith(_library.MARK) else content
 
 
-def name_alone(record: _library.Record) -> Alone | None:
-    """The name of a line that holds a name alone, perhaps after `export`, and would be an assignment with a `=`."""
-    if record.status != _library.LINE_PARSE:
+def name_alone(record: _library.Record, file: bytes, start: int) -> Alone | None:
+    """The name of a line that holds a name alone, perhaps after `export`, and would be an assignment with a `=`.
+
+    The line is at this place of the file.
+    """
+    # The text of a faulty value can look like this, too, but no line begins with its value.
+    if record.status != _library.LINE_PARSE or not file.startswith(record.text, start):
         return None
     text = record.text.decode()
     found = _NAME_ALONE.fullmatch(text)
     if not found:
         return None
-    # The text of a faulty value can look like this, too, but then the fault is at a character of the words.
+    # Python's white space has characters that no line can have around a name; the fault is at the first of them.
     ends = [text[:found.start(2)]] if found[2] else [text, text.rstrip()]
     is_alone = record.place in {len(end.encode()) for end in ends}
     return Alone(found[1], len(text[:found.end(1)].encode())) if is_alone else None
@@ -84,12 +88,12 @@ def records_over_process(file: bytes, dialect: Dialect) -> list[_library.Record]
     ]
 
 
-def statements_of(records: list[_library.Record], path: str | None) -> list[Statement]:
-    """What these items say."""
+def statements_of(records: list[_library.Record], file: bytes, path: str | None) -> list[Statement]:
+    """What these items of a file say."""
     statements = []
     for record in records:
         lines = record.first_line, record.last_line
-        alone = name_alone(record)
+        alone = name_alone(record, file, record.file_at)
         if record.status == _library.OK:
             statements.append(Statement(record.key.decode(), record.text.decode(), None, *lines))
         elif alone is not None:

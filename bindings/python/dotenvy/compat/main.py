@@ -85,7 +85,7 @@ class DotEnv:
             records = _reading.records_over_process(file, self.dialect)
         else:
             records = _reading.records_under_process(file, self.dialect)
-        statements = _reading.statements_of(records, path)
+        statements = _reading.statements_of(records, file, path)
         if self.strict:
             for statement in statements:
                 if statement.error is not None:
@@ -147,8 +147,8 @@ def _edit(target: _editing.Target, dialect: Dialect, edit: Callable[[bytes], _li
     """Edits a file, and warns of its lines that can't be read. It is false if no line assigns the key."""
 
     def warned(content: bytes) -> _library.Edited:
-        records = _reading.records_as_written(_reading.without_mark(content), dialect)
-        _warn(_reading.statements_of(records, None))
+        file = _reading.without_mark(content)
+        _warn(_reading.statements_of(_reading.records_as_written(file, dialect), file, None))
         return edit(content)
 
     return _editing.edit_file(target, warned)

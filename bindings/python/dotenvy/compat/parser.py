@@ -39,7 +39,7 @@ def _ends(file: bytes, dialect: Dialect) -> Iterator[tuple[int, _reading.Stateme
     """Where each statement ends, and each comment between them, which has no statement, in order."""
     records = _reading.records_as_written(file, dialect)
     last = 0
-    for statement, record in zip(_reading.statements_of(records, None), records):
+    for statement, record in zip(_reading.statements_of(records, file, None), records):
         yield from _comments(file, last, record.file_at)
         last = record.file_at + record.file_len
         yield last, statement
