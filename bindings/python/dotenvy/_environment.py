@@ -44,15 +44,26 @@ def of_process(names: set[bytes] | None) -> dict[bytes, bytes]:
 
 def of_mapping(names: set[bytes] | None, environment: Mapping[str, str]) -> dict[bytes, bytes]:
     """The variables of an environment that is given, with these names, or all of them."""
-    wanted = list(environment) if names is None else map(os.fsdecode, names)
+    wanted = list(environment) if names is None else [name.decode(errors="surrogateescape") for name in names]
     found = {name: environment.get(name) for name in wanted}
-    return {os.fsencode(name): os.fsencode(value) for name, value in found.items() if value is not None}
+    return {_bytes_of(name): _bytes_of(value) for name, value in found.items() if value is not None}
+
+
+def _bytes_of(text: str) -> bytes:
+    """A text as UTF-8, in any locale. Bytes of the process that were no text are the same bytes again."""
+    try:
+        return text.encode(errors="surrogateescape")
+    except UnicodeEncodeError:
+        # The library doesn't count what isn't UTF-8.
+        return text.encode(errors="surrogatepass")
 
 
 def seen_by(file: bytes, environment: Mapping[str, str] | None = None) -> dict[bytes, bytes]:
     """The variables that values of this file can mention, of an environment; None is that of the process."""
     names = mentioned(file)
-    return of_process(names) if environment is None else of_mapping(names, environment)
+    if environment is None or environment is os.environ:
+        return of_process(names)
+    return of_mapping(names, environment)
 
 
 def seen_by_load(file: bytes) -> dict[bytes, bytes]:

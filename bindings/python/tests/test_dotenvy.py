@@ -136,7 +136,9 @@ class Values(InFolder):
     def test_values_that_are_no_text(self):
         os.environb[b"B"] = b"\xff"
         self.assertEqual(dotenv_values(b"A=x$B\n"), {"A": "x"})
-        self.assertEqual(dotenv_values(b"A=x$B\n", dict(os.environ)), {"A": "x"})
+        for environment in (dict(os.environ), {"B": "\ud800"}, {"B": "1\udcff\ud800"}, {"\ud800": "1"}):
+            self.assertEqual(dotenv_values(b"A=x$B\n", environment), {"A": "x"})
+            self.assertEqual(dotenv_values("A=x$B$é\n".encode(), environment), {"A": "x"})
 
     def test_an_environment_of_all_kinds_of_values(self):
         self.assertEqual(dotenv_values(b"A=$B$C\n", {"B": "1", "C": None}), {"A": "1"})
@@ -350,11 +352,17 @@ class Loads(InFolder):
         self.assertEqual(os.environ["A"], "1")
 
     def test_other_locales(self):
-        lines = "import dotenvy, os; dotenvy.load_dotenv(b'A=\\xc3\\xa9'); print(os.environb[b'A'])"
-        locale = {"LC_ALL": "C", "PYTHONCOERCECLOCALE": "0", "PYTHONUTF8": "0"}
+        locale = {"LC_ALL": "C", "PYTHONCOERCECLOCALE": "0", "PYTHONUTF8": "0", "V": "ü"}
+        program = (
+            "import os\nfrom dotenvy import dotenv_values, load_dotenv\n"
+            "load_dotenv(b'A=\\xc3\\xa9')\nprint(os.environb[b'A'])\n"
+            "file = b'A=$V${\\xc3\\xa9}'\n"
+            "for environment in (None, os.environ, {'V': '\\xf6', '\\xe9': '\\xe4'}):\n"
+            "    print(ascii(dotenv_values(file, environment)['A']))\n"
+        )
         environment = {**self.programs_environment, **locale}
-        said = subprocess.run([sys.executable, "-c", lines], env=environment, stdout=subprocess.PIPE, check=True)
-        self.assertEqual(said.stdout, b"b'\\xc3\\xa9'\n")
+        said = subprocess.run([sys.executable, "-c", program], env=environment, stdout=subprocess.PIPE, check=True)
+        self.assertEqual(said.stdout.decode().split(), [r"b'\xc3\xa9'", r"'\xfc'", r"'\xfc'", r"'\xf6\xe4'"])
 
     def test_a_search(self):
         self.assertFalse(load_dotenv())
@@ -422,7 +430,7 @@ class Loads(InFolder):
         path = self.folder / ".env"
         os.mkfifo(path)
         self.assertEqual(find_dotenv(), str(path))
-        writer = threading.Thread(target=path.write_bytes, args=(b"A=1\n",))
+        writer = threading.Thread(target=path.write_bytes, args=(b"A=1\n",), daemon=True)
         writer.start()
         self.assertTrue(load_dotenv())
         writer.join()
