@@ -33,8 +33,28 @@ BODIES = [
     ),
     (
         "environment-is-encoded-strictly", ENVIRONMENT,
-        "{os.fsencode(name): os.fsencode(value) for name, value in found.items()",
-        "{name.encode(): value.encode() for name, value in found.items()",
+        '        return text.encode(errors="surrogateescape")\n',
+        "        return text.encode()\n",
+    ),
+    (
+        "what-is-no-text-raises", ENVIRONMENT,
+        '        return text.encode(errors="surrogatepass")\n',
+        "        raise\n",
+    ),
+    (
+        "environment-is-of-the-locale", ENVIRONMENT,
+        "{_bytes_of(name): _bytes_of(value) for",
+        "{os.fsencode(name): os.fsencode(value) for",
+    ),
+    (
+        "the-process-is-a-mapping", ENVIRONMENT,
+        "    if environment is None or environment is os.environ:\n",
+        "    if environment is None:\n",
+    ),
+    (
+        "names-are-of-the-locale", ENVIRONMENT,
+        '[name.decode(errors="surrogateescape") for name in names]',
+        "[os.fsdecode(name) for name in names]",
     ),
     ("errors-in-latin-1", ERRORS, "    said = record.text.decode()\n", '    said = record.text.decode("latin-1")\n'),
     (
@@ -236,9 +256,15 @@ BODIES = [
         'Statement(alone.name, "", None, *lines)',
     ),
     (
-        "a-faulty-value-is-a-name-alone", READING,
+        "a-name-after-a-fault-is-alone", READING,
         "    return Alone(found[1], len(text[:found.end(1)].encode())) if is_alone else None\n",
         "    return Alone(found[1], len(text[:found.end(1)].encode()))\n",
+    ),
+    ("a-value-is-a-name-alone", READING, " or not file.startswith(record.text, start):\n", ":\n"),
+    (
+        "a-name-alone-after-the-mark-is-lost", EDITING,
+        "_reading.name_alone(record, file, start)",
+        "_reading.name_alone(record, file, record.file_at)",
     ),
     ("strict-warns", MAIN, "                    raise statement.error\n", "                    _warn(statements)\n"),
     (
@@ -368,11 +394,22 @@ BODIES = [
         "        os.execvpe(command[0], command, {**os.environ, **env})\n",
         "        import subprocess\n        subprocess.run(command, env={**os.environ, **env})\n",
     ),
+    ("a-command-ignores-signals", CLI, "(number, signal.SIG_DFL)", "(number, signal.SIG_IGN)"),
     ("a-command-has-no-other-variables", CLI, "command, {**os.environ, **env})", "command, env)"),
     (
         "a-refused-edit-is-made", EDIT,
         "        raise EditError(Refusal(edited.status), file, key, edited.line)\n",
         "        return False\n",
+    ),
+    (
+        "a-folder-stays-open", REPLACE,
+        'open(path, "rb", opener=lambda name, flags: os.open(name, flags | others))',
+        'open(os.open(path, os.O_RDONLY | others), "rb")',
+    ),
+    (
+        "the-file-beside-is-elsewhere", REPLACE,
+        "os.path.realpath(os.path.dirname(path))",
+        "os.path.dirname(os.path.abspath(path))",
     ),
     (
         "the-file-beside-is-told", REPLACE,
