@@ -138,8 +138,8 @@ def dotenv_values(
 ) -> dict[str, str]:
     """The names that a file declares with their values. The last value of a name counts; `os.environ` stays as it is.
 
-    The file is given by its path or as bytes; None is the file that `find_dotenv` finds, and no file has no names.
-    What names in values mean is as in `dotenv_items`. The first error of the file is raised.
+    The file is given by its path or as bytes; None is the file that `find_dotenv` finds, and if there is none, the
+    result is empty. What names in values mean is as in `dotenv_items`. The first error of the file is raised.
 
     >>> dotenv_values(b"A=1\\nB=${A}0\\n", {})
     {'A': '1', 'B': '10'}
@@ -166,6 +166,9 @@ def load_dotenv(
 
     The first error of the file is raised, and what is before it was set. Only variables that the file declares are
     written: what another thread changes meanwhile stays.
+
+    >>> load_dotenv(b"PORT=8080\\n"), os.environ["PORT"]
+    (True, '8080')
     """
     if path is None:
         path = find_dotenv()
@@ -201,7 +204,10 @@ def find_dotenv(filename: str = ".env", raise_error_if_not_found: bool = False) 
     """The path of the file of this name in the current directory, or in the nearest directory above that has it.
 
     A named pipe counts as a file. It is the empty text if there is none, or `FileNotFoundError` is raised where that is
-    asked for.
+    asked for. A directory that can't be looked into raises its `OSError`.
+
+    >>> find_dotenv("there is no such file.env")
+    ''
     """
     here = Path.cwd()
     for directory in (here, *here.parents):
@@ -250,6 +256,9 @@ def set_key(
 
     The arguments up to `follow_symlinks` are those of python-dotenv. `quote_mode` may be "always" or "auto", which mean
     the same here. "never", `export` and an encoding other than UTF-8 raise `UnsupportedError`.
+
+    >>> set_key("new.env", "MOTTO", "two words"), Path("new.env").read_text()
+    ((True, 'MOTTO', 'two words'), "MOTTO='two words'\\n")
     """
     check_encoding(encoding)
     check_form(quote_mode, export)
@@ -274,6 +283,9 @@ def unset_key(
 
     Where no line assigns it, or there is no file, it returns None and the key, and nothing is written. `quote_mode`
     means nothing, as in python-dotenv. All else is as in `set_key`.
+
+    >>> Path("old.env").write_text("A=1\\nB=2\\n"), unset_key("old.env", "A"), Path("old.env").read_text()
+    (8, (True, 'A'), 'B=2\\n')
     """
     check_encoding(encoding)
     key = key_to_unset.encode(errors="surrogatepass")
@@ -294,6 +306,9 @@ def get_key(
 
     It is the last one that the file declares, as `dotenv_values` of this path has it. An encoding other than UTF-8
     raises `UnsupportedError`.
+
+    >>> set_key("app.env", "PORT", "8080"), get_key("app.env", "PORT"), get_key("app.env", "HOST")
+    ((True, 'PORT', '8080'), '8080', None)
     """
     check_encoding(encoding)
     try:

@@ -6,7 +6,10 @@ from . import _library
 
 
 class DotenvError(ValueError):
-    """A file is wrong. It is one of the three classes below, unless the library read for too long."""
+    """A file is wrong. It is one of the three classes below, unless the library read for too long.
+
+    The message quotes the text at fault, which can be a part of a secret.
+    """
 
     def __init__(
         self, message: str, file: str | None = None, line: int = 0, last_line: int = 0, text: str = "", index: int = 0
@@ -24,7 +27,10 @@ class DotenvError(ValueError):
         self.text = text
         """The text at fault, or for `NulError` the key."""
         self.index = index
-        """The place in the text where a reader has to give up, counted from 0."""
+        """The place in the text where a reader has to give up, counted from 0.
+
+        It counts bytes, but characters where a value is wrong (docs/GRAMMAR.md, "Faults and their places").
+        """
 
     def __str__(self) -> str:
         where = [part for part in (self.file, str(self.line) if self.line else None) if part]

@@ -15,6 +15,7 @@ from pathlib import Path
 from unittest import mock
 
 import dotenvy
+import dotenvy.compat.main
 from dotenvy import _library
 from dotenvy._errors import error_of
 from dotenvy import (
@@ -551,8 +552,13 @@ class Library(unittest.TestCase):
         self.assertEqual((texts[0], texts[23]), ("done", "unknown"))
         self.assertEqual(len(set(texts)), 24)
 
+
+class Examples(InFolder):
     def test_examples(self):
-        self.assertEqual(doctest.testmod(dotenvy).failed, 0)
+        for module, least in ((dotenvy, 8), (dotenvy.compat.main, 4)):
+            found = doctest.testmod(module)
+            self.assertEqual(found.failed, 0)
+            self.assertGreaterEqual(found.attempted, least)
 
 
 if __name__ == "__main__":

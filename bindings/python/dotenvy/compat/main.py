@@ -171,6 +171,9 @@ def set_key(
     only letters and digits. With "never" it has quotes only where it would not read back without, or where there are
     some already. With `export`, the line begins with `export`; without, the line keeps what it has. What can't be
     written raises `EditError`, and the file is as it was. A missing file is made.
+
+    >>> set_key("app.env", "PORT", "80", export=True), get_key("app.env", "PORT")
+    ((True, 'PORT', '80'), '80')
     """
     if quote_mode not in ("always", "auto", "never"):
         raise ValueError(f"Unknown quote_mode: {quote_mode}")
@@ -273,6 +276,9 @@ def load_dotenv(
     substitutions, unless `override` is set. A missing file declares nothing; with `verbose` it is logged. A line that
     can't be read is skipped with a warning; with `strict`, its `DotenvError` is raised, and nothing is set. Nothing is
     loaded where the variable PYTHON_DOTENV_DISABLED is true.
+
+    >>> load_dotenv("there is no such file.env")
+    False
     """
     if _is_disabled():
         logger.debug("python-dotenv: .env loading disabled by PYTHON_DOTENV_DISABLED environment variable")
@@ -298,6 +304,10 @@ def dotenv_values(
     """The names of a file, or of a stream, with their last values; a name alone has the value None. Nothing is set.
 
     In substitutions the names of the file come before those of the process. All else is as in `load_dotenv`.
+
+    >>> import io
+    >>> dict(dotenv_values(stream=io.StringIO("A=1\\nB=${A}0\\nC\\n")))
+    {'A': '1', 'B': '10', 'C': None}
     """
     if dotenv_path is None and stream is None:
         dotenv_path = find_dotenv()
