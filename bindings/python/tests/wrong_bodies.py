@@ -316,8 +316,8 @@ BODIES = [
     ("a-walk-begins-at-a-file", MAIN, "os.path.dirname(path) if os.path.isfile(path) else path", "path"),
     (
         "an-error-is-of-a-missing-file", MAIN,
-        "_reading.statements_of(records, path)\n        if self",
-        "_reading.statements_of(records, self.dotenv_path and os.fsdecode(self.dotenv_path))\n        if self",
+        "_reading.statements_of(records, file, path)\n        if self",
+        "_reading.statements_of(records, file, self.dotenv_path and os.fsdecode(self.dotenv_path))\n        if self",
     ),
     ("auto-never-quotes", MAIN, 'or (quote_mode == "auto" and not value_to_set.isalnum())', ""),
     ("always-is-auto", EDITING, "    if form.is_quoted:\n", "    if False:\n"),
