@@ -135,8 +135,7 @@ def _declared() -> dict[str, tuple[Any, list[Any]]]:
     """What each call returns and takes."""
     number: Any = ctypes.c_uint32
     text: list[Any] = [ctypes.c_char_p, ctypes.c_size_t]
-    # Items and warnings are written to plain buffers: an array type of ctypes for each length would cost more than the
-    # call does.
+    # Items and warnings are written to plain buffers, which `struct` reads.
     records: list[Any] = [ctypes.c_void_p, ctypes.c_size_t, *text]
     edit: list[Any] = [number, ctypes.POINTER(Edit), *records]
     return {
