@@ -204,7 +204,7 @@ def find_dotenv(filename: str = ".env", raise_error_if_not_found: bool = False) 
     """The path of the file of this name in the current directory, or in the nearest directory above that has it.
 
     A named pipe counts as a file. It is the empty text if there is none, or `FileNotFoundError` is raised where that is
-    asked for. A directory that can't be looked into raises its `OSError`.
+    asked for. A directory that can't be looked into raises `OSError`.
 
     >>> find_dotenv("there is no such file.env")
     ''

@@ -29,7 +29,8 @@ class DotenvError(ValueError):
         self.index = index
         """The place in the text where a reader has to give up, counted from 0.
 
-        It counts bytes, but characters where a value is wrong (docs/GRAMMAR.md, "Faults and their places").
+        It counts characters where a value is wrong at one, and bytes otherwise (docs/GRAMMAR.md, "Faults and their
+        places").
         """
 
     def __str__(self) -> str:
