@@ -1,6 +1,6 @@
 use crate::library;
 use std::io::{self, Read};
-use std::str;
+use std::{mem, str};
 
 /// How many bytes are read at once, where no longer statement is open.
 const CHUNK: usize = 8192;
@@ -79,20 +79,27 @@ impl<R: Read> Ahead<R> {
         self.quote = None;
     }
 
-    /// Whether the bytes may begin with a whole statement, by what was read since this was asked last. If it isn't
-    /// asked, each short read of a long statement would have the library look at all of it.
-    pub fn may_be_whole(&mut self) -> bool {
-        let new = &self.bytes[self.searched..self.lines_end];
-        let may_be = !new.is_empty() && (self.searched == 0 || may_end(new, self.quote));
-        self.searched = self.lines_end;
-        may_be
-    }
-
-    /// Finds the quote that is open at the end of the lines, which are no whole statement. `None` if an allocation
-    /// failed.
-    pub fn find_quote(&mut self) -> Option<()> {
-        self.quote = Some(library::open_quote(&self.bytes[..self.lines_end])?);
-        Some(())
+    /// How many of these bytes are whole statements, where this wasn't told before. `None` if an allocation failed.
+    ///
+    /// Only what was read since the last call is looked at, as each short read of a long statement has it called.
+    pub fn whole(&mut self) -> Option<usize> {
+        let searched = mem::replace(&mut self.searched, self.lines_end);
+        let new = &self.bytes[searched..self.lines_end];
+        if new.is_empty() || (searched > 0 && !may_end(new, self.quote)) {
+            return Some(0);
+        }
+        // Of the lines before, all that counts is the quote that is open.
+        let (begin, at) = match self.quote {
+            Some(quote) => (vec![b'A', b'=', quote], searched),
+            None => (Vec::new(), 0),
+        };
+        let lines = [&begin[..], &self.bytes[at..self.lines_end]].concat();
+        let whole = library::whole(&lines)?;
+        if whole > 0 {
+            return Some(at + whole - begin.len());
+        }
+        self.quote = Some(library::open_quote(&lines)?);
+        Some(0)
     }
 
     /// From now on all of these bytes may be whole statements.

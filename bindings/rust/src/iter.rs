@@ -134,15 +134,11 @@ impl<R: Read> Iter<R> {
         self.ahead.drop_first(self.whole);
         self.has(Vec::new(), 0);
         loop {
-            if self.ahead.may_be_whole() {
-                let found = library::whole(self.ahead.bytes());
-                let whole = self.or_over(found)?;
-                if whole > 0 {
-                    self.list(whole)?;
-                    return Ok(true);
-                }
-                let found = self.ahead.find_quote();
-                self.or_over(found)?;
+            let found = self.ahead.whole();
+            let whole = self.or_over(found)?;
+            if whole > 0 {
+                self.list(whole)?;
+                return Ok(true);
             }
             if self.read()? == 0 {
                 let left = self.ahead.bytes().len();

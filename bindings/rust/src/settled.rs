@@ -6,6 +6,9 @@ use crate::library::{self, Record};
 use std::collections::{BTreeSet, HashMap};
 use std::env;
 
+/// How many names with an opening brace in them are looked up each, which takes as long as they are together.
+const FEW: usize = 16;
+
 /// The item of this statement, with the values that the file gave before. `None` if an allocation failed.
 pub fn settled(
     statement: &str,
@@ -36,21 +39,43 @@ fn variable(name: &str) -> Option<String> {
 // The names that the value of a statement mentions; and others, since quotes and escapes are not looked at. `None` if
 // an allocation failed.
 fn names(statement: &str, dialect: Dialect) -> Option<BTreeSet<&str>> {
-    let (mut names, mut runs) = (BTreeSet::new(), BTreeSet::new());
-    for part in statement.split_inclusive('}') {
-        for (dollar, _) in part.match_indices('$') {
-            let rest = &part[dollar + 1..];
-            if let Some(braced) = rest.strip_prefix('{') {
-                names.extend(braced.strip_suffix('}'));
-            } else {
-                runs.insert(run(rest));
-            }
-        }
-    }
+    let dollars = statement.match_indices('$');
+    let rests = dollars.map(|(dollar, _)| &statement[dollar + 1..]);
+    let runs: BTreeSet<_> = rests
+        .filter(|rest| !rest.starts_with('{'))
+        .map(run)
+        .collect();
+    let mut names = braced_names(statement);
     if !runs.is_empty() {
         names.append(&mut bare_names(&runs, dialect)?);
     }
     Some(names)
+}
+
+// The names that may be in braces: before a closing brace, what follows each opening one.
+fn braced_names(statement: &str) -> BTreeSet<&str> {
+    let (mut names, mut longer) = (BTreeSet::new(), Vec::new());
+    let parts = statement.split_inclusive('}');
+    for text in parts.filter_map(|part| part.strip_suffix('}')) {
+        let mut found = text
+            .rmatch_indices("${")
+            .map(|(dollar, brace)| &text[dollar + brace.len()..]);
+        names.extend(found.next());
+        longer.extend(found);
+    }
+    // These have an opening brace in them. So no key of a file is one, and hardly a variable.
+    if longer.len() > FEW {
+        let variables = nested_variables();
+        longer.retain(|name| variables.iter().any(|variable| variable == name));
+    }
+    names.extend(longer);
+    names
+}
+
+// The names of variables that have an opening brace in them.
+fn nested_variables() -> Vec<String> {
+    let names = env::vars_os().filter_map(|(name, _)| name.into_string().ok());
+    names.filter(|name| name.contains("${")).collect()
 }
 
 // The characters at the start of a text that may be a bare name in some dialect.

@@ -1,5 +1,5 @@
-//! How much memory and time calls take, and what they do where the library gets no memory. These are one test, since
-//! they count what the process has.
+//! How much memory calls take, and what they do where the library gets no memory. These are one test, since they count
+//! what the process has. What takes long asks for much, too: so what is asked for counts, and no time.
 //!
 //! `malloc` and its like are these of this file, for the library and for Rust.
 
@@ -9,7 +9,6 @@ use std::env;
 use std::ffi::c_void;
 use std::io::{self, Read};
 use std::sync::atomic::{AtomicBool, AtomicUsize, Ordering::SeqCst};
-use std::time::{Duration, Instant};
 
 extern "C" {
     fn __libc_malloc(size: usize) -> *mut c_void;
@@ -23,6 +22,9 @@ extern "C" {
 static HELD: AtomicUsize = AtomicUsize::new(0);
 static MOST: AtomicUsize = AtomicUsize::new(0);
 
+// How many bytes were asked for, also those that were given back.
+static ASKED: AtomicUsize = AtomicUsize::new(0);
+
 // How many more requests of the library succeed. The last number: all.
 static LEFT: AtomicUsize = AtomicUsize::new(usize::MAX);
 static REFUSED: AtomicUsize = AtomicUsize::new(0);
@@ -35,8 +37,10 @@ static IS_ONE: AtomicBool = AtomicBool::new(false);
 /// The block is one of the C library, or null.
 unsafe fn counted(block: *mut c_void) -> *mut c_void {
     if !block.is_null() {
-        let held = HELD.fetch_add(malloc_usable_size(block), SeqCst) + malloc_usable_size(block);
+        let size = malloc_usable_size(block);
+        let held = HELD.fetch_add(size, SeqCst) + size;
         MOST.fetch_max(held, SeqCst);
+        ASKED.fetch_add(size, SeqCst);
     }
     block
 }
@@ -133,6 +137,13 @@ fn most<T>(run: impl FnOnce() -> T) -> (T, usize) {
     MOST.store(before, SeqCst);
     let done = run();
     (done, MOST.load(SeqCst) - before)
+}
+
+// How many bytes are asked for while this runs.
+fn asked(run: impl FnOnce()) -> usize {
+    let before = ASKED.load(SeqCst);
+    run();
+    ASKED.load(SeqCst) - before
 }
 
 // Runs this with each request of the library refused in turn, alone and with all after it. How many requests there are.
@@ -294,21 +305,42 @@ fn values_are_made_when_their_items_are_asked_for() {
     assert!(held < 1_000_000, "{held} bytes for the first values");
 }
 
-fn a_small_file_over_many_variables_takes_little_time() {
+// What is asked for grows as the files do, and not faster.
+fn grows_as(what: &str, items_of: impl Fn(usize)) {
+    let (short, long) = (asked(|| items_of(2000)), asked(|| items_of(8000)));
+    assert!(long < 6 * short, "{what}: {short} bytes, then {long}");
+}
+
+// Braces that may each begin a name, before the one that ends them.
+fn many_braces_take_little() {
+    for (before, brace, after) in [("", "${", ""), ("'", "${", "'"), ("", "\\${", "")] {
+        grows_as(brace, |length| {
+            let file = format!("DA={before}{}{after}}}\n", brace.repeat(length));
+            assert_eq!(dotenvy::from_read_iter(file.as_bytes()).count(), 1);
+        });
+    }
+}
+
+// A quote ends on each line, and another one begins.
+fn quotes_that_begin_on_each_line_take_little() {
+    grows_as("quotes", |length| {
+        let file = format!("DA=\"\n{}\"\n", "\"'\n'\"\n".repeat(length / 2));
+        let items = dotenvy::from_read_iter(Lines(file.split_inclusive('\n')));
+        assert_eq!(items.filter(Result::is_ok).count(), 1);
+    });
+}
+
+fn a_small_file_over_many_variables_takes_little() {
     for number in 0..4000 {
         env::set_var(format!("DV_{number}"), "x".repeat(20));
     }
-    let fastest = (0..20).map(|_| {
-        let before = Instant::now();
-        dotenvy::from_read_override(&b"DA=1\n"[..]).unwrap();
-        before.elapsed()
-    });
-    let fastest = fastest.min().unwrap();
-    assert!(fastest < Duration::from_millis(10), "{fastest:?}");
+    let asked = asked(|| dotenvy::from_read_override(&b"DA=1\nDB=${DA}\n"[..]).unwrap());
+    // Those variables are more than 100,000 bytes.
+    assert!(asked < 70_000, "{asked} bytes");
 }
 
 #[test]
-fn memory_and_time() {
+fn memory() {
     refused_requests_of_items_are_errors();
     an_error_of_memory_has_no_line();
     refused_requests_of_maps_are_errors();
@@ -318,5 +350,7 @@ fn memory_and_time() {
     a_long_value_takes_a_few_times_its_length();
     a_long_value_that_comes_in_lines_is_looked_at_seldom();
     values_are_made_when_their_items_are_asked_for();
-    a_small_file_over_many_variables_takes_little_time();
+    many_braces_take_little();
+    quotes_that_begin_on_each_line_take_little();
+    a_small_file_over_many_variables_takes_little();
 }

@@ -376,6 +376,29 @@ fn names_of_every_kind() {
 }
 
 #[test]
+fn names_after_many_braces() {
+    let _folder = Folder::new("names-braces");
+    let braces = "${".repeat(100);
+    env::set_var("D${A", "1");
+    env::set_var(&braces, "2");
+    env::set_var("DA", "3");
+    for (file, item) in [
+        ("K=<${D${A}>".into(), "K=<1>".into()),
+        (format!("K='{braces}'${{D${{A}}"), format!("K={braces}1")),
+        (format!("K='{braces}'${{DA}}"), format!("K={braces}3")),
+        (format!("K=${{{braces}}}${{DA}}"), "K=23".into()),
+        (format!("K=\\${{{braces}}}"), "K=${".into()),
+        (
+            format!("K='{braces}}}'${{D${{A}}"),
+            format!("K={braces}}}1"),
+        ),
+    ] {
+        assert_eq!(told(Iter::new(file.as_bytes())), [item], "{file}");
+    }
+    env::remove_var(&braces);
+}
+
+#[test]
 fn names_in_the_second_dialect() {
     let _folder = Folder::new("names-next");
     let file = "K=$D_B\nK=\"$DA\"\nK=$DA_B\nK=$DA.\nK=$Dé½_\n";
