@@ -80,12 +80,15 @@ impl EnvMap {
         EnvMap::default()
     }
 
-    /// A map of the process's variables. Those that aren't text, in name or value, are left out.
+    /// A map of the process's variables. Those that aren't text, in name or value, are left out, and those whose names
+    /// no file can have a value for, since they begin with `=`.
     pub fn from_process() -> EnvMap {
         let mut map = EnvMap::new();
         for (name, value) in env::vars_os() {
             if let (Ok(name), Ok(value)) = (name.into_string(), value.into_string()) {
-                map.values.insert(name, value);
+                if library::is_name(&name) {
+                    map.values.insert(name, value);
+                }
             }
         }
         map
@@ -105,9 +108,8 @@ impl EnvMap {
     pub fn set(&mut self, name: &str, value: &str) {
         assert!(
             library::is_name(name) && !value.contains('\0'),
-            "no environment can have the variable {:?} with the value {:?}",
-            name,
-            value
+            "no environment can have the variable {:?} with this value",
+            name
         );
         self.values.insert(name.to_owned(), value.to_owned());
     }

@@ -78,6 +78,29 @@ fn a_layer_is_taken_whole_or_not_at_all() {
     assert_eq!((error.line(), map.get("DA")), (None, Some("old")));
 }
 
+#[test]
+fn a_name_that_begins_with_an_equals_sign_is_left_out() {
+    let _folder = Folder::new("map-equals");
+    if env::var_os("MAP_EQUALS").is_none() {
+        // No process can set such a variable for itself.
+        let name = "a_name_that_begins_with_an_equals_sign_is_left_out";
+        let mut child = Command::new(env::current_exe().unwrap());
+        child.args(["--exact", name]).env("MAP_EQUALS", "1");
+        let output = child.env("=DA", "1").output().unwrap();
+        let text = String::from_utf8(output.stdout).unwrap();
+        assert!(
+            output.status.success() && text.contains("1 passed"),
+            "{text}"
+        );
+        return;
+    }
+    assert!(env::vars_os().any(|(name, _)| name == "=DA"));
+    let mut settings = EnvMap::from_process();
+    let before = settings.clone();
+    settings.add(&b""[..], Mode::Keep, Dialect::V15).unwrap();
+    assert_eq!(settings, before);
+}
+
 fn line(before: &[(&str, &str)], file: &str, mode: Mode) -> Option<u64> {
     added(before, file, mode).unwrap_err().line()
 }
@@ -237,9 +260,11 @@ fn a_map_is_read_and_passed_on() {
 
 #[test]
 fn no_environment_has_such_a_variable() {
-    for (name, value) in [("", "1"), ("A=", "1"), ("A\0", "1"), ("A", "\0")] {
+    for (name, value) in [("", "1"), ("A=", "1"), ("A\0", "1"), ("A", "secret\0")] {
         let set = std::panic::catch_unwind(|| EnvMap::new().set(name, value));
-        assert!(set.is_err(), "{name:?}={value:?}");
+        let text = set.unwrap_err().downcast::<String>().unwrap();
+        assert!(text.contains(&format!("{name:?}")), "{text}");
+        assert!(!text.contains("secret"), "{text}");
     }
     assert_eq!(map(&[("a b", "=\n")]).get("a b"), Some("=\n"));
 }
