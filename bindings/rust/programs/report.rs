@@ -39,19 +39,20 @@ fn read(items: dotenvy::Iter<File>) -> (BTreeMap<String, String>, Vec<Trouble>) 
     (pairs, troubles)
 }
 
+const FILES: [(&str, &[u8]); 3] = [
+    (
+        "good.env",
+        b"A=1\nB=\"${A}2\"\nC='multi\nline'\n\nexport D=x\\ y # c\n",
+    ),
+    (
+        "bad.env",
+        b"A=1\nB=two words\n1C=3\nD=\\q\nE=\xff\nF='open\n",
+    ),
+    (".env", b"HOST=localhost\n"),
+];
+
 fn main() -> dotenvy::Result<()> {
-    let files: [(&str, &[u8]); 3] = [
-        (
-            "good.env",
-            b"A=1\nB=\"${A}2\"\nC='multi\nline'\n\nexport D=x\\ y # c\n",
-        ),
-        (
-            "bad.env",
-            b"A=1\nB=two words\n1C=3\nD=\\q\nE=\xff\nF='open\n",
-        ),
-        (".env", b"HOST=localhost\n"),
-    ];
-    for (name, text) in files {
+    for (name, text) in &FILES {
         fs::write(name, text).map_err(Error::Io)?;
         let (pairs, troubles) = read(dotenvy::from_path_iter(name)?);
         println!("{name}: {pairs:?}");

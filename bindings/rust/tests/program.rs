@@ -115,8 +115,17 @@ fn help() {
 }
 
 #[test]
-fn a_file_that_may_not_be_read() {
+fn a_file_that_can_not_be_read() {
     let folder = Folder::new("denied");
+    // Whoever opens it, there is nothing to read at its start.
+    let run = folder.run(&["-f", "/proc/self/mem", "true"]);
+    assert_eq!(
+        (run.status.code(), text(&run.stderr)),
+        (
+            Some(1),
+            "error: failed to load environment: Input/output error (os error 5)\n"
+        )
+    );
     let path: &Path = &folder.0.join("below/.env");
     fs::write(path, "DA=3\n").unwrap();
     fs::set_permissions(path, fs::Permissions::from_mode(0o000)).unwrap();
