@@ -76,6 +76,13 @@ def library(source):
     return text
 
 
+def tests_of(source):
+    """How many tests the crate has, with the examples of its documentation."""
+    files = [path for folder in ("src", "tests") for path in (source / folder).rglob("*.rs")]
+    examples = (source / "src/lib.rs").read_text().count("/// ```") // 2
+    return sum(path.read_text().count("#[test]\n") for path in files) + examples
+
+
 def make_crate(folder, manifest, text):
     (folder / "src").mkdir(parents=True)
     (folder / "Cargo.toml").write_text(manifest)
@@ -96,12 +103,16 @@ def run(source, folder):
 
 
 def main():
+    source = Path(sys.argv[1])
     with tempfile.TemporaryDirectory() as folder:
-        done = run(Path(sys.argv[1]), Path(folder))
+        done = run(source, Path(folder))
     print(done.stdout + done.stderr, file=sys.stderr)
     results = RESULT.findall(done.stdout)
     passed, failed = (sum(int(numbers[which]) for numbers in results) for which in (0, 1))
-    if "was not used in the crate graph" in done.stderr or (done.returncode != 0 and failed == 0) or passed == 0:
+    if passed + failed != tests_of(source):
+        print(f"FAILED: of {tests_of(source)} tests of the crate, {passed + failed} ran", file=sys.stderr)
+        failed += 1
+    if "was not used in the crate graph" in done.stderr or (done.returncode != 0 and failed == 0):
         failed += 1
     print(f"{passed} passed, {failed} failed")
     return failed != 0
