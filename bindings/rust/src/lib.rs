@@ -14,8 +14,8 @@
 //! - A value with a NUL that would be set is [`Error::Nul`], where that crate panics.
 //! - A read that is interrupted is made again, also before the first line of a load.
 //! - A byte order mark that comes in several reads is dropped, too.
-//! - Where a reader says that it ends, an open quote ends, too, and so does a line after a backslash or a single blank.
-//!   That crate reads once more, and goes on if more comes.
+//! - Where a reader says that it ends, so does a line that a quote, a backslash or a single blank leaves open. That
+//!   crate reads once more, and goes on if more comes.
 //! - In a statement of more than 8,192 bytes, a read asks for as many bytes as it has so far.
 //!
 //! What is new here:

@@ -6,7 +6,7 @@ use crate::library::{self, Record};
 use std::collections::{BTreeSet, HashMap};
 use std::env;
 
-/// How many names with an opening brace in them are looked up each, which takes as long as they are together.
+/// How many names that have an opening brace in them are looked up one by one. Each look takes as long as its name.
 const FEW: usize = 16;
 
 /// The item of this statement, with the values that the file gave before. `None` if an allocation failed.

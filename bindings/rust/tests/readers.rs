@@ -265,7 +265,14 @@ fn an_iterator_that_ended_reads_again() {
 }
 
 #[test]
-fn an_open_quote_ends_where_the_reader_does() {
+fn an_open_line_ends_where_the_reader_does() {
+    for open in ["DA='x", "DA=x\\", "DA=x "] {
+        let reader = Parts::new(&[Ok(open), Ok(""), Ok("'\n")]);
+        let reads = reader.reads.clone();
+        let item = dotenvy::from_read_iter(reader).next().unwrap();
+        assert_eq!(tell(item), format!("LineParse({open:?}, 5)"));
+        assert_eq!(reads.get(), 2);
+    }
     let parts = [Ok("DA='x"), Ok(""), Ok("y'\n")];
     let reader = Parts::new(&parts);
     let reads = reader.reads.clone();
