@@ -58,7 +58,8 @@ impl<R: Read> Ahead<R> {
         self.room.resize(self.room.len().max(length), 0);
         let outcome = read_once(&mut self.reader, &mut self.room[..length]);
         let count = *outcome.as_ref().unwrap_or(&0);
-        let new = &self.room[..count];
+        // The room may be longer, and a reader may count wrongly.
+        let new = &self.room[..length][..count];
         if let Some(feed) = new.iter().rposition(|byte| *byte == b'\n') {
             self.lines_end = self.bytes.len() + feed + 1;
         }

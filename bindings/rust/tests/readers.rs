@@ -9,7 +9,7 @@ use std::io::{self, ErrorKind, Read, Write};
 use std::os::unix::ffi::OsStringExt;
 use std::os::unix::net::UnixStream;
 use std::time::Duration;
-use std::{env, fs};
+use std::{env, fs, panic};
 
 /// A reader of bytes that counts its reads.
 struct Counted<'a> {
@@ -196,6 +196,35 @@ fn a_long_statement_takes_few_reads() {
         .unwrap();
     assert_eq!(value.len(), 1_000_000);
     assert!(reader.reads < 20, "{} reads", reader.reads);
+}
+
+/// A reader of one long statement, which then counts more bytes than there is room for, and ends.
+struct Miscounting(usize);
+
+impl Read for Miscounting {
+    fn read(&mut self, buffer: &mut [u8]) -> io::Result<usize> {
+        self.0 += 1;
+        if self.0 > 4 {
+            return Ok(0);
+        }
+        let room = buffer.len();
+        buffer.fill(b'x');
+        match self.0 {
+            1 => buffer[..4].copy_from_slice(b"DA='"),
+            3 => buffer[room - 2..].copy_from_slice(b"'\n"),
+            _ => {}
+        }
+        Ok(room + usize::from(self.0 > 3))
+    }
+}
+
+#[test]
+fn a_reader_that_counts_more_than_there_is_room_for() {
+    let mut items = dotenvy::from_read_iter(Miscounting(0));
+    let (_, value) = items.next().unwrap().unwrap();
+    assert_eq!(value.len(), 4 * 8192 - 6);
+    let next = panic::catch_unwind(panic::AssertUnwindSafe(|| items.next()));
+    assert!(next.is_err(), "{next:?}");
 }
 
 #[test]
