@@ -17,7 +17,10 @@ cc -O2 -Wl,-z,now -I bindings/c bench/c_calls.c bindings/out/libdotenvy.a -o "$f
 # Prints how many instructions a call takes for a file.
 count() {
     valgrind --tool=callgrind --toggle-collect="dotenvy_$1" --callgrind-out-file="$folder/profile" \
-        "$folder/calls" "$1" <"$2" 2>&1 >"$folder/out" | awk '/Collected/ { print $NF }'
+        "$folder/calls" "$1" <"$2" 2>&1 >"$folder/out" | awk '/Collected/ { print $NF }' || {
+        echo "dotenvy_$1 fails" >&2
+        return 1
+    }
 }
 
 # Prints the figures of a kind of file.
@@ -25,18 +28,19 @@ measure_kind() {
     python3 bench/make_files.py "$1" >"$folder/whole"
     # Whole lines up to 200,000 bytes.
     awk '{ bytes += length($0) + 1; if (bytes > 200000) exit; print }' "$folder/whole" >"$folder/file"
-    local bytes call
+    local bytes call instructions
     bytes=$(wc -c <"$folder/file")
     for call in items load; do
-        awk -v kind="$1" -v call="$call" -v i="$(count "$call" "$folder/file")" -v b="$bytes" \
+        instructions=$(count "$call" "$folder/file")
+        awk -v kind="$1" -v call="$call" -v i="$instructions" -v b="$bytes" \
             'BEGIN { printf "%-14s %-5s %9d bytes %7.1f instructions a byte\n", kind, call, b, i / b }'
     done
 }
 
 # Prints the figures of each file of bench/files.tsv, and in the last line those of all together.
 measure_files() {
-    local name bytes load items
-    grep -v '^#' bench/files.tsv | while read -r name bytes load items; do
+    local name bytes load items crate_load crate_items
+    grep -v '^#' bench/files.tsv | while read -r name bytes crate_load crate_items; do
         case $name in
             *-crlf) awk '{ printf "%s\r\n", $0 }' "bench/files/${name%-crlf}.env" >"$folder/file" ;;
             *) cp "bench/files/$name.env" "$folder/file" ;;
@@ -45,7 +49,9 @@ measure_files() {
             echo "bench/files.tsv was measured with another file $name" >&2
             exit 1
         fi
-        echo "$name $bytes $(count load "$folder/file") $load $(count items "$folder/file") $items"
+        load=$(count load "$folder/file")
+        items=$(count items "$folder/file")
+        echo "$name $bytes $load $crate_load $items $crate_items"
     done | awk '
         function print_line(name, b, load, crate_load, items, crate_items) {
             printf "%-14s %7d %9.1f %7.1f %5.2f %9.1f %7.1f %5.2f\n", name, b, load / b, crate_load / b,
