@@ -26,9 +26,12 @@ python3 -c 'import tomllib' 2>/dev/null || fail "python3 has to be 3.11 or later
 [ -z "$(git status --porcelain)" ] || fail "the clone has changes: a release is made from a commit"
 
 out=$PWD/crates/dotenvy/out/release
+mkdir -p "$out"
+trap 'jobs -p | xargs -r kill || :' EXIT
+release/prove_library.sh "$out" >"$out/verdict.log" 2>&1 &
 release/build.sh "$out/build.log"
 echo "the library for Rattle, from nothing"
-release/prove_library.sh "$out" >"$out/verdict.log" 2>&1 || fail "the library isn't proved; see $out/verdict.log"
+wait "$!" || fail "the library isn't proved; see $out/verdict.log"
 rm -rf dist
 release/pack.sh dist
 tests/release.sh dist

@@ -2,7 +2,9 @@
 # Proves and builds the library for C: bindings/out/libdotenvy.a, and bindings/out/libdotenvy.so.1 for callers that load
 # it while they run, as the Python package does. It needs `rt`, the command of the toolchain, and `objcopy` of binutils.
 #
-# usage: bindings/build.sh
+# usage: bindings/build.sh [--built]
+#
+# With --built it takes crates/dotenvy_c/out/libdotenvy_c.a as it is, and proves nothing.
 set -euo pipefail
 cd "$(dirname "$0")"
 kit=$(dirname "$(rt doc)")
@@ -11,7 +13,7 @@ command -v objcopy >/dev/null || {
     exit 1
 }
 
-(cd ../crates/dotenvy_c && rt lib) >&2
+[ "${1-}" = --built ] || (cd ../crates/dotenvy_c && rt lib) >&2
 archive=../crates/dotenvy_c/out/libdotenvy_c.a
 # With what asks the C library for memory, so that callers link one file.
 whole=(--whole-archive "$archive" --no-whole-archive "$kit/c/liblibc_c.a")

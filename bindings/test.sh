@@ -2,7 +2,9 @@
 # Builds the library for C and runs the tests of all bindings. It says which it left out where what they need isn't
 # there. The last line is `N passed, M failed`.
 #
-# usage: bindings/test.sh
+# usage: bindings/test.sh [--built]
+#
+# --built is as for bindings/build.sh.
 set -uo pipefail
 cd "$(dirname "$0")" || exit
 folder=$(mktemp -d)
@@ -32,7 +34,7 @@ wrong_bodies() (
     cd python && python3 -B -m tests.wrong_bodies
 )
 
-if ! ./build.sh; then
+if ! ./build.sh "$@"; then
     echo "FAILED: bindings/build.sh" >&2
     echo "0 passed, 1 failed"
     exit 1
