@@ -8,7 +8,7 @@
 # - docs/LIBRARY.md has each public call with its signature, and the answers file of crates/example_own_contracts;
 # - docs/CONTRACTS.md has a contract of the code;
 # - docs/DEFINITIONS.md has the definitions on which the headline rests, and this is seen of each of its contracts;
-# - docs/CONTRACTS.md names rows and tests that exist where something is only tested;
+# - tests/only_tested.txt names rows, tests and scripts that exist;
 # - docs/EXPORT.md and its manual page have the names that shells keep, as the code has them;
 # - docs/speed.svg is the chart of the figures in bench/speed.tsv;
 # - each link of the pages leads to a file and a heading, each page that is named is a link, and docs/DECISIONS.md lists each
@@ -197,7 +197,7 @@ check "docs/LIBRARY.md has each public call with its signature" python3 tests/si
 check "docs/LIBRARY.md has the answers file of crates/example_own_contracts" has_answers
 check "docs/DEFINITIONS.md has what has to be believed, and no more" python3 -B tests/believed.py
 check "that check sees what leaves the headline's table, or a contract of it" python3 -B tests/try_believed.py
-check "docs/CONTRACTS.md names rows and tests that exist" python3 tests/tested_by.py
+check "tests/only_tested.txt names rows, tests and scripts that exist" python3 -B tests/tested_by.py --check
 check "docs/EXPORT.md and its manual page list the names that shells keep" python3 -B tests/kept_names.py --lists
 check "docs/speed.svg is the chart of bench/speed.tsv" has_chart
 check "each link of the pages leads somewhere, and each decision is listed" python3 tests/links.py

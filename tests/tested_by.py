@@ -1,61 +1,89 @@
 #!/usr/bin/env python3
-"""Sees that each line of docs/CONTRACTS.md, "Only tested", names rows or tests that exist.
+"""Prints what is tested and not proved, from tests/only_tested.txt, as a table: of what, what, and by which tests.
 
-A line has them in square brackets: `FILE: NAME` for rows of crates/test_replay/data/FILE.rows, where `*` stands for any
-text, and `test_worked: MODULE::TEST` for a test of that crate. What the stored run of the program tests is one
-script, so the lines from there on name nothing. Prints what is wrong, and ends with status 1 if anything is.
+    tested_by.py            prints the table
+    tested_by.py --check    sees that what tests it exists, and ends with status 1 if it doesn't
+
+A test is `FILE: NAME` for rows of crates/test_replay/data/FILE.rows, where `*` stands for any text; `test_worked:
+MODULE::TEST` for a test of that crate; or the path of a script or a table.
 """
 
 import fnmatch
+import functools
 import pathlib
 import re
 import sys
 
 TOP = pathlib.Path(__file__).resolve().parent.parent
-PAGE = TOP / "docs" / "CONTRACTS.md"
+LIST = TOP / "tests" / "only_tested.txt"
 DATA = TOP / "crates" / "test_replay" / "data"
 TESTS = TOP / "crates" / "test_worked" / "src"
 
 
-def lines():
-    """The lines of the section that have to name something."""
-    page = PAGE.read_text(encoding="utf-8")
-    section = re.search(r"^## Only tested\n(.*?)^Of the built program", page, re.M | re.S).group(1)
-    return re.findall(r"^- .*", section, re.M)
+class Entry:
+    """What is tested, of what, and by which tests."""
+
+    def __init__(self, subject, what):
+        self.subject, self.what, self.tests = subject, what, []
 
 
+def entries():
+    """What the list has. Lines without tests of their own have those of the next line that has some."""
+    found, waiting, subject = [], [], None
+    for line in LIST.read_text(encoding="utf-8").split("\n"):
+        if line.startswith("    "):
+            for entry in waiting:
+                entry.tests.append(line.strip())
+        elif line.startswith("  "):
+            waiting = [entry for entry in waiting if not entry.tests] + [Entry(subject, line.strip())]
+            found.append(waiting[-1])
+        elif line and not line.startswith("#"):
+            subject, waiting = line, []
+    return found
+
+
+@functools.cache
 def row_names(file):
     """The names of the rows of a file."""
-    rows = (DATA / (file + ".rows")).read_text(encoding="utf-8").split("\n")
+    path = DATA / (file + ".rows")
+    rows = path.read_text(encoding="utf-8").split("\n") if path.exists() else []
     return [row.split("|")[1] for row in rows if row and not row.startswith("#")]
 
 
-def exists(file, name):
-    """Whether there is such a row, or such a test."""
+def exists(test):
+    """Whether there is such a row, test or file."""
+    file, colon, name = test.partition(": ")
+    if not colon:
+        return (TOP / test).is_file()
     if file == "test_worked":
-        *modules, test = name.split("::")
+        *modules, function = name.split("::")
         path = TESTS.joinpath(*modules).with_suffix(".rt")
-        return path.exists() and f"#[test]\nfn {test}(" in path.read_text(encoding="utf-8")
-    return (DATA / (file + ".rows")).exists() and bool(fnmatch.filter(row_names(file), name))
+        return path.exists() and f"#[test]\nfn {function}(" in path.read_text(encoding="utf-8")
+    return re.fullmatch(r"[\w:*-]+", name) is not None and bool(fnmatch.filter(row_names(file), name))
 
 
-def faults(line):
-    """What is wrong with a line."""
-    named = re.findall(r"`(\w+): ([\w:*-]+)`", " ".join(re.findall(r"\[(`[^\]]*`)\]", line)))
-    if not named:
-        yield "names no row and no test: " + line
-    for file, name in named:
-        if not exists(file, name):
-            yield f"there is no `{file}: {name}`"
+def faults(found):
+    """What is wrong with the list."""
+    for entry in found:
+        if not entry.tests:
+            yield "names no test: " + entry.what
+        yield from (f"there is no {test}" for test in entry.tests if not exists(test))
+    if not found:
+        yield "has nothing"
 
 
 def main():
-    """Prints the faults of all lines."""
-    found = [fault for line in lines() for fault in faults(line)]
-    for fault in found:
-        print("docs/CONTRACTS.md, Only tested: " + fault)
-    if found or not lines():
-        sys.exit(1)
+    """Prints the table, or the faults."""
+    found = entries()
+    if "--check" in sys.argv[1:]:
+        wrong = list(faults(found))
+        for fault in wrong:
+            print("tests/only_tested.txt: " + fault)
+        sys.exit(1 if wrong else 0)
+    print("| Of | What is tested | By |\n|---|---|---|")
+    for entry in found:
+        print(f"| {entry.subject} | {entry.what} | {', '.join('`' + test + '`' for test in entry.tests)} |")
 
 
-main()
+if __name__ == "__main__":
+    main()
