@@ -1,10 +1,13 @@
 #!/usr/bin/env python3
-"""Finds the definitions on which the headline of docs/CONTRACTS.md rests, and compares them with docs/DEFINITIONS.md.
+"""Prints the definitions on which the headline of docs/CONTRACTS.md rests: what has to be believed.
+
+    believed.py            prints them
+    believed.py --check    sees that docs/CONTRACTS.md has their number, and ends with status 1 if it hasn't
+    believed.py --write    writes the number into the page
 
 It begins with the calls, types and laws that the headline's table names, collects the words that their contracts cite,
-and goes on with the words of their definitions. Words of std are not followed. The page has the definitions file by
-file, in the order in which to read them, and then each contract with the words that it cites. The script prints where
-page and code differ, and ends with status 1 if they do. With --write it rewrites the sections of the page, in order.
+and goes on with the words of their definitions. Words of std are not followed. It prints the definitions file by file,
+in an order in which they can be read, and then each contract with the words that it cites.
 """
 
 import functools
@@ -13,14 +16,15 @@ import pathlib
 import re
 import sys
 
-from links import LINK
 from words import blocks, members, text_of, without_generics
 
 TOP = pathlib.Path(__file__).resolve().parent.parent
+PAGE = TOP / "docs" / "CONTRACTS.md"
+SUMS = re.compile(r"The contracts of these \d+ calls, types and laws cite definitions [^\n]*? lines\.")
 
 # Where the names of the table are looked for. Of the library the whole contract counts, and of the program's calls the
 # clauses that the table names.
-LIBRARY = ("dotenvy_base", "dotenvy_format", "dotenvy_lines", "dotenvy_items", "dotenvy")
+LIBRARY = ("dotenvy_format", "dotenvy_base", "dotenvy_lines", "dotenvy_items", "dotenvy")
 PROGRAM = ("dotenvy_command",)
 
 WORD = re.compile(r"[^\s(){}\[\],;.:λ∀→×⊎≡≢|↦]+")
@@ -59,6 +63,11 @@ class File:
         comment = itertools.takewhile(lambda line: line.startswith("-- "), self.lines)
         return " ".join(line.removeprefix("-- ") for line in comment)
 
+    def comment(self, start):
+        """The comment over the definition that begins on this line."""
+        above = itertools.takewhile(lambda line: line.startswith("-- "), reversed(self.lines[:start]))
+        return " ".join(line.removeprefix("-- ") for line in reversed(list(above)))
+
     def cited(self, files, module, name):
         """The definitions that one of this file cites."""
         if name not in self.found:
@@ -69,11 +78,11 @@ class File:
 
 
 class Root:
-    """What the table names: its name there, its contract, and where docs/CONTRACTS.md says it in words."""
+    """What the table names: its name there, its file, and its contract."""
 
     def __init__(self, name, file, contract):
-        self.name, self.contract, self.place = name, contract, ""
-        self.imports, self.modules = imports_of(text_of(file))
+        self.name, self.file, self.contract = name, file, contract
+        self.imports, self.modules = imports_of(text_of(TOP / file))
 
     def cited(self, files):
         """The definitions that the contract cites."""
@@ -185,30 +194,25 @@ def root_of(top, name, wanted):
         for file in sorted((top / "crates" / crate / "src").glob("*.rt")):
             contract = contract_in(items_of(file), name, wanted if crate in PROGRAM else None)
             if contract is not None:
-                return Root(name, file, contract)
+                return Root(name, file.relative_to(top), contract)
     raise SystemExit(f"docs/CONTRACTS.md, The headline: there is no public {name}")
 
 
-def names_in(part):
-    """The names in a part of a cell, each with its link, if it is one."""
-    for text, place in LINK.findall(part):
-        yield from ((name, place) for name in re.findall("`([^`]+)`", text))
-    yield from ((name, "") for name in re.findall("`([^`]+)`", LINK.sub("", part)))
-
-
-def roots(top):
-    """The calls, types and laws that the headline's table names, in its order."""
-    page = (top / "docs" / "CONTRACTS.md").read_text(encoding="utf-8")
-    section = re.search(r"^## The headline\n(.*?)^## ", page, re.M | re.S).group(1)
+def names_of(page):
+    """The names in the headline's table, each with the clauses that the table names of it."""
+    section = page.partition("\n## The headline\n")[2].partition("\n## ")[0]
     found = {}
     for cell in re.findall(r"^\|[^|]*\|([^|]*)\|$", section, re.M)[2:]:
         for part in cell.split(";"):
             named, calls = part.partition(" of ")[::2] if "clause" in part else ("", part)
-            for name, place in names_in(calls):
-                if name not in found:
-                    found[name] = root_of(top, name, re.findall(r"`(\w+)`", named))
-                found[name].place = found[name].place or place
-    return list(found.values())
+            for name in re.findall("`([^`]+)`", calls):
+                found.setdefault(name, re.findall(r"`(\w+)`", named))
+    return found
+
+
+def roots(top, page):
+    """The calls, types and laws that the headline's table names, in its order."""
+    return [root_of(top, name, wanted) for name, wanted in names_of(page).items()]
 
 
 def believed(files, first):
@@ -221,76 +225,74 @@ def believed(files, first):
     return seen
 
 
-def sections_of(files, words):
-    """What the page should say of each file: its link and number of lines, its first line, and its words in order."""
-    found = {}
-    for module, name in words:
-        found.setdefault(module, []).append((files[module].places[name], name))
-    sections = {}
-    for module, places in found.items():
-        crate, *parts = module.split(".")
-        path = "crates/" + crate + "/" + "/".join(parts) + ".antt"
-        names = ", ".join(f"`{name}`" for _, name in sorted(places))
-        count = sum(end - start for (start, end), _ in places)
-        sections[path] = f"### [`{parts[-1]}`](../{path}), {count} lines\n\n{files[module].head()}\n\n{names}\n"
-    return sections
+def in_order(files, modules):
+    """These files, crate by crate, each after the others of its crate that it cites."""
+    crates = sorted({module.partition(".")[0] for module in modules}, key=(LIBRARY + PROGRAM).index)
+    found = []
 
+    def add(module):
+        below = {where for where, _ in files[module].imports.values()}
+        for other in sorted(below & modules):
+            if other not in found and other.partition(".")[0] == module.partition(".")[0]:
+                add(other)
+        if module not in found:
+            found.append(module)
 
-SECTION = re.compile(r"^### \[[^\]]*\]\(\.\./([^)]*)\), \d+ lines\n.*?(?=\n#|\Z)", re.M | re.S)
-CONTRACTS = re.compile(r"(?<=^## The contracts\n\n)([^\n]*\n\n)(- .*?\n)(?=\n|\Z)", re.M | re.S)
-
-
-def contract_lines(files, all_roots):
-    """What the page should say of each contract: its name, and the definitions that it cites, by name."""
-    for root in all_roots:
-        label = f"[`{root.name}`](CONTRACTS.md{root.place})" if root.place else f"`{root.name}`"
-        names = ", ".join(f"`{name}`" for name in sorted({name for _, name in root.cited(files)}, key=str.lower))
-        yield f"- {label}: {names or '`none`'}\n"
+    for crate in crates:
+        for module in sorted(module for module in modules if module.partition(".")[0] == crate):
+            add(module)
+    return found
 
 
 class Wanted:
-    """What the page should say of some roots."""
+    """What there is to say of some roots."""
 
     def __init__(self, files, all_roots):
-        words = believed(files, set().union(*(root.cited(files) for root in all_roots)))
-        self.sections = sections_of(files, words)
-        self.contracts = "".join(contract_lines(files, all_roots))
-        self.words = len(words)
-        self.lines = sum(int(re.search(r"(\d+) lines", section).group(1)) for section in self.sections.values())
+        self.files, self.roots = files, all_roots
+        self.words = believed(files, set().union(*(root.cited(files) for root in all_roots)))
+        times = sum(len(root.cited(files)) for root in all_roots)
+        places = [files[module].places[name] for module, name in self.words]
+        lines = sum(end - start for start, end in places)
+        self.sums = (f"The contracts of these {len(all_roots)} calls, types and laws cite definitions {times:,} times, "
+                     f"and rest on {len(places):,} definitions of {lines:,} lines.")
 
-    def rewritten(self, page):
-        """The page with the sections of the code."""
-        text = SECTION.sub(lambda found: self.sections.get(found.group(1), found.group()), page)
-        text = CONTRACTS.sub(lambda found: found.group(1) + self.contracts, text)
-        sums = f"{self.words:,} definitions of {self.lines:,} lines"
-        return re.sub(r"\d[\d,]* definitions of \d[\d,]* lines", sums, text)
+    def sections(self):
+        """The definitions, file by file, each with the comment over it; and then the contracts."""
+        by_file = {}
+        for module, name in self.words:
+            by_file.setdefault(module, []).append((self.files[module].places[name], name))
+        for module in in_order(self.files, set(by_file)):
+            crate, *parts = module.split(".")
+            yield f"\ncrates/{crate}/{'/'.join(parts)}.antt\n  {self.files[module].head()}"
+            for (start, _), name in sorted(by_file[module]):
+                yield f"    {name}   {self.files[module].comment(start)}".rstrip()
+        for root in self.roots:
+            names = sorted({name for _, name in root.cited(self.files)}, key=str.lower)
+            yield f"\n{root.name}, {root.file}\n    {', '.join(names) or 'none'}"
 
-    def faults(self, page):
-        """Where the page says something else than the code."""
-        listed = {found.group(1): found.group() for found in SECTION.finditer(page)}
-        yield from ("docs/DEFINITIONS.md lacks " + path for path in sorted(set(self.sections) - set(listed)))
-        yield from ("nothing of this file is believed: " + path for path in sorted(set(listed) - set(self.sections)))
-        for path, section in listed.items():
-            if path in self.sections and section.strip() != self.sections[path].strip():
-                yield "docs/DEFINITIONS.md says something else of " + path + "; --write mends it"
-        contracts = CONTRACTS.search(page)
-        if contracts is None or contracts.group(2) != self.contracts:
-            yield "docs/DEFINITIONS.md says something else of the contracts; --write mends it"
-        if not listed or self.rewritten(page) != page:
-            yield "docs/DEFINITIONS.md has other sections or sums; --write mends them"
+    def text(self):
+        """All of it."""
+        return "\n".join([self.sums, *self.sections()])
+
+
+def faults(page, wanted):
+    """What the page says of the sums that isn't so."""
+    if SUMS.findall(page) != [wanted.sums]:
+        yield "docs/CONTRACTS.md, The headline, has to say this once; --write mends it: " + wanted.sums
 
 
 def main():
-    """Compares, or writes."""
-    wanted, path = Wanted(read_files(TOP), roots(TOP)), TOP / "docs" / "DEFINITIONS.md"
-    page = path.read_text(encoding="utf-8")
+    """Prints, compares or writes."""
+    page = PAGE.read_text(encoding="utf-8")
+    wanted = Wanted(read_files(TOP), roots(TOP, page))
     if "--write" in sys.argv[1:]:
-        page = wanted.rewritten(page)
-        path.write_text(page, encoding="utf-8")
-    faults = list(wanted.faults(page))
-    print("\n".join(faults), end="\n" if faults else "")
-    if faults:
-        sys.exit(1)
+        PAGE.write_text(SUMS.sub(wanted.sums, page), encoding="utf-8")
+    elif "--check" in sys.argv[1:]:
+        found = list(faults(page, wanted))
+        print("\n".join(found), end="\n" if found else "")
+        sys.exit(1 if found else 0)
+    else:
+        print(wanted.text())
 
 
 if __name__ == "__main__":

@@ -6,8 +6,8 @@
 # - each block of Rust in README.md and docs/LIBRARY.md is in a source file of crates/example_library, the other examples or
 #   crates/example_own_contracts, and so is each line beside one of the Rust crate;
 # - docs/LIBRARY.md has each public call with its signature, and the answers file of crates/example_own_contracts;
-# - docs/CONTRACTS.md has a contract of the code;
-# - docs/DEFINITIONS.md has the definitions on which the headline rests, and this is seen of each of its contracts;
+# - docs/CONTRACTS.md has a contract of the code, and names what the code has; each public call has a doc comment;
+# - docs/CONTRACTS.md says on how many definitions the headline rests, and this is seen of each of its contracts;
 # - tests/only_tested.txt names rows, tests and scripts that exist;
 # - docs/EXPORT.md and its manual page have the names that shells keep, as the code has them;
 # - docs/speed.svg is the chart of the figures in bench/speed.tsv;
@@ -195,8 +195,10 @@ done
 check "docs/LIBRARY.md, each line beside one of the Rust crate is in an example" has_lines_from_rust
 check "docs/LIBRARY.md has each public call with its signature" python3 tests/signatures.py
 check "docs/LIBRARY.md has the answers file of crates/example_own_contracts" has_answers
-check "docs/DEFINITIONS.md has what has to be believed, and no more" python3 -B tests/believed.py
+check "docs/CONTRACTS.md says how much has to be believed" python3 -B tests/believed.py --check
 check "that check sees what leaves the headline's table, or a contract of it" python3 -B tests/try_believed.py
+check "docs/CONTRACTS.md names what the code has, and each public call has a doc comment" \
+    python3 -B tests/contracts.py --check
 check "tests/only_tested.txt names rows, tests and scripts that exist" python3 -B tests/tested_by.py --check
 check "docs/EXPORT.md and its manual page list the names that shells keep" python3 -B tests/kept_names.py --lists
 check "docs/speed.svg is the chart of bench/speed.tsv" has_chart
