@@ -3,6 +3,7 @@
 # - crates/test_replay/data has the examples of docs/GRAMMAR.md, docs/CHECK.md, docs/OTHER_LIBRARIES.md and README.md as rows,
 #   those of the README with what the programs print;
 # - crates/test_replay/stdout has the number of rows of each file, and crates/test_replay/args names each;
+# - crates/test_replay/data/kinds.rows has each kind of row;
 # - each block of Rust in README.md and docs/LIBRARY.md is in a source file of crates/example_library, the other examples or
 #   crates/example_own_contracts, and so is each line beside one of the Rust crate;
 # - docs/LIBRARY.md has each public call with its signature, and the answers file of crates/example_own_contracts;
@@ -189,6 +190,7 @@ check "docs/OTHER_LIBRARIES.md has what other readers make of its lines" python3
 check "crates/test_replay/data/readme.rows has the examples of README.md" has_examples readme
 check "crates/test_replay/stdout has the number of rows of each file" has_right_counts
 check "crates/test_replay/args names each file of rows" plays_each_file
+check "crates/test_replay/data/kinds.rows has each kind of row, with its fields" python3 -B tests/row_kinds.py --check
 for document in README.md docs/LIBRARY.md; do
     check_blocks "$document"
 done
