@@ -10,6 +10,7 @@
 # - docs/CONTRACTS.md has a contract of the code, and names what the code has; each public call has a doc comment;
 # - docs/CONTRACTS.md says on how many definitions the headline rests, and this is seen of each of its contracts;
 # - tests/only_tested.txt names rows, tests and scripts that exist;
+# - each crate, module, file of definitions or lemmas, and script says at its top what it is: tests/map.py prints it;
 # - docs/EXPORT.md and its manual page have the names that shells keep, as the code has them;
 # - docs/speed.svg is the chart of the figures in bench/speed.tsv;
 # - each link of the pages leads to a file and a heading, each page that is named is a link, and docs/DECISIONS.md lists each
@@ -202,6 +203,7 @@ check "that check sees what leaves the headline's table, or a contract of it" py
 check "docs/CONTRACTS.md names what the code has, and each public call has a doc comment" \
     python3 -B tests/contracts.py --check
 check "tests/only_tested.txt names rows, tests and scripts that exist" python3 -B tests/tested_by.py --check
+check "each part of the code, and each script, says at its top what it is" python3 -B tests/map.py --check
 check "docs/EXPORT.md and its manual page list the names that shells keep" python3 -B tests/kept_names.py --lists
 check "docs/speed.svg is the chart of bench/speed.tsv" has_chart
 check "each link of the pages leads somewhere, and each decision is listed" python3 tests/links.py
