@@ -6,7 +6,7 @@
 # - crates/test_replay/data/kinds.rows has each kind of row;
 # - each block of Rust in README.md and docs/LIBRARY.md is in a source file of crates/example_library, the other examples or
 #   crates/example_own_contracts, and so is each line beside one of the Rust crate;
-# - docs/LIBRARY.md has each public call with its signature, and the answers file of crates/example_own_contracts;
+# - docs/LIBRARY.md has each public call;
 # - docs/CONTRACTS.md has a contract of the code, and names what the code has; each public call has a doc comment;
 # - docs/CONTRACTS.md says on how many definitions the headline rests, and this is seen of each of its contracts;
 # - tests/only_tested.txt names rows, tests and scripts that exist;
@@ -158,12 +158,6 @@ check_blocks() {
     done
 }
 
-# docs/LIBRARY.md has one answers file, as it is in the crate.
-has_answers() {
-    cut_blocks docs/LIBRARY.md antt
-    cat "$room"/blocks/* | diff - crates/example_own_contracts/proofs/find_settings/Answers.antt
-}
-
 # A file without white space and without lines of comment.
 squeezed() {
     sed '/^ *\/\//d' "$1" | tr -d ' \n'
@@ -196,8 +190,7 @@ for document in README.md docs/LIBRARY.md; do
     check_blocks "$document"
 done
 check "docs/LIBRARY.md, each line beside one of the Rust crate is in an example" has_lines_from_rust
-check "docs/LIBRARY.md has each public call with its signature" python3 tests/signatures.py
-check "docs/LIBRARY.md has the answers file of crates/example_own_contracts" has_answers
+check "docs/LIBRARY.md has each public call" python3 -B tests/signatures.py --check
 check "docs/CONTRACTS.md says how much has to be believed" python3 -B tests/believed.py --check
 check "that check sees what leaves the headline's table, or a contract of it" python3 -B tests/try_believed.py
 check "docs/CONTRACTS.md names what the code has, and each public call has a doc comment" \

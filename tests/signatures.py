@@ -1,9 +1,11 @@
 #!/usr/bin/env python3
-"""Compares the calls of docs/LIBRARY.md with the code: each public call of `dotenvy` and `env_layers` is on the page,
-with its signature, and no other one is. Prints what differs, and ends with status 1 if anything does.
+"""Prints each public call of `dotenvy` and `env_layers` with its signature, below the file in which its contract is.
 
-The page has them in blocks that are labelled `rust signatures`, a line each: `Environment::len(&self) -> usize`.
-Generic parameters, contracts and `where` clauses are left out.
+    signatures.py            prints the calls
+    signatures.py --check    compares their names with the table of docs/LIBRARY.md, "The calls"
+
+With --check it prints what differs, and ends with status 1 if anything does. Generic parameters, contracts and `where`
+clauses are left out: `Environment::len(&self) -> usize`.
 """
 
 import pathlib
@@ -94,33 +96,45 @@ def public_calls(file, names):
 
 
 def calls_of_code():
-    """Every public call of the libraries."""
-    needs, found = dependencies(), set()
+    """Every public call of the libraries: the file in which it is, and its signature."""
+    needs = dependencies()
     for library in LIBRARIES:
         names = exported(TOP / "crates" / library / "src" / "lib.rt")
-        for crate in set(crates_below(library, needs)) - set(LIBRARIES) | {library}:
+        for crate in sorted(set(crates_below(library, needs)) - set(LIBRARIES) | {library}):
             for file in sorted((TOP / "crates" / crate / "src").rglob("*.rt")):
-                found.update(before + signature(lines) for before, lines in public_calls(file, names))
-    return found
+                for before, lines in public_calls(file, names):
+                    yield file.relative_to(TOP), before + signature(lines)
 
 
-def calls_of_page():
-    """Every signature of the page."""
-    blocks = re.findall(r"^```rust signatures\n(.*?)^```", PAGE.read_text(), re.M | re.S)
-    lines = "\n".join(blocks).split("\n")
-    return {line.strip() for line in lines if line.strip() and not line.strip().startswith("//")}
+def names_on_page():
+    """The names in the table of the page."""
+    table = re.search(r"^\| To \| Calls \|\n\|[-|]+\n((?:\|.*\n)+)", PAGE.read_text(), re.M).group(1)
+    return [name for line in table.splitlines() for name in re.findall("`([^`]+)`", line.split("|")[2])]
 
 
-def main():
-    """Prints what one of them has and the other one has not."""
-    code, page = calls_of_code(), calls_of_page()
-    for call in sorted(code - page):
-        print("docs/LIBRARY.md lacks " + call)
-    for call in sorted(page - code):
-        print("no public call is " + call)
-    if len(code) < 40 or code != page:
-        sys.exit(1)
+def check(names):
+    """Prints what is on one side and not on the other one, and whether there is anything."""
+    page = names_on_page()
+    wrong = ["docs/LIBRARY.md lacks " + name for name in sorted(names - set(page))]
+    wrong += ["no public call is " + name for name in sorted(set(page) - names)]
+    wrong += ["docs/LIBRARY.md has twice " + name for name in sorted(set(page)) if page.count(name) > 1]
+    print("\n".join(wrong), end="\n" if wrong else "")
+    return bool(wrong) or len(names) < 40
+
+
+def main(words):
+    """Reads the command line."""
+    calls = list(dict.fromkeys(calls_of_code()))
+    if words == ["--check"]:
+        return check({call.partition("(")[0] for _, call in calls})
+    last = None
+    for file, call in calls:
+        if file != last:
+            print(("" if last is None else "\n") + f"{file}:")
+        print("    " + call)
+        last = file
+    return 0
 
 
 if __name__ == "__main__":
-    main()
+    sys.exit(main(sys.argv[1:]))
