@@ -1,8 +1,8 @@
 #!/usr/bin/env -S python3 -B
-"""Prints the table of docs/OTHER_LIBRARIES.md that has what other readers of environment files make of its lines.
+"""Prints what other readers of environment files make of the lines of docs/OTHER_LIBRARIES.md, which has some of it.
 
     other_readers.py             prints the table
-    other_readers.py --check     compares the page with it, and tests/other_readers.tsv with other tables of the page
+    other_readers.py --check     compares the page's table with it, and tests/other_readers.tsv with the page's others
     other_readers.py --tools     has the tools read the lines, where they are installed, and compares
 
 tests/other_readers.tsv has a line of the page, the environment, and what is read here, as the page says them; and then
@@ -10,6 +10,7 @@ what each reader of its first line makes of the line: `refused`, or a list of NA
 last line is `N passed, M failed`.
 """
 
+import itertools
 import json
 import pathlib
 import re
@@ -74,11 +75,14 @@ def is_on_page(line, environment, said, page):
 
 
 def check():
-    """Compares the table with the page: what fails, and of how many."""
-    page = PAGE.read_text(encoding="utf-8").splitlines()
-    failed = [f"the page hasn't this line of the table: {line}" for line in table() if line not in page]
+    """Compares the table with the page, which has at least ten lines of it: what fails, and of how many."""
+    page, whole = PAGE.read_text(encoding="utf-8").splitlines(), table()
+    start = page.index(whole[0])
+    shown = list(itertools.takewhile(lambda line: line.startswith("|"), page[start:]))
+    failed = [f"the table hasn't this line of the page: {line}" for line in shown if line not in whole]
+    failed += ["the page has too few lines of the table"] if len(shown) < 12 else []
     failed += [f"no table of the page has {row[0]} with {row[2]}" for row in rows() if not is_on_page(*row[:3], page)]
-    return failed, len(table()) + len(rows())
+    return failed, len(shown) + 1 + len(rows())
 
 
 def read_again(tool, line):
