@@ -7,6 +7,7 @@
 # - each block of Rust in README.md and docs/LIBRARY.md is in a source file of crates/example_library, the other examples or
 #   crates/example_own_contracts, and so is each line beside one of the Rust crate;
 # - docs/LIBRARY.md has each public call;
+# - the change that CONTRIBUTING.md works through fits its files, and leaves the documents right;
 # - docs/CONTRACTS.md has a contract of the code, and names what the code has; each public call has a doc comment;
 # - docs/CONTRACTS.md says on how many definitions the headline rests, and this is seen of each of its contracts;
 # - tests/only_tested.txt names rows, tests and scripts that exist;
@@ -150,6 +151,16 @@ change_named_functions() {
     fi
 }
 
+# Makes the change that CONTRIBUTING.md works through on a copy, and compares the documents of the copy.
+leaves_documents_right() {
+    rm -rf "$room/changed"
+    python3 -B tests/worked_change.py "$room/changed"
+    (
+        cd "$room/changed"
+        has_examples grammar && has_examples other_libraries && has_right_counts && python3 -B tests/believed.py --check
+    )
+}
+
 check_blocks() {
     local line
     cut_blocks "$1" rust
@@ -198,6 +209,7 @@ check "docs/CONTRACTS.md names what the code has, and each public call has a doc
 check "tests/only_tested.txt names rows, tests and scripts that exist" python3 -B tests/tested_by.py --check
 check "each part of the code, and each script, says at its top what it is" python3 -B tests/map.py --check
 check "docs/EXPORT.md and its manual page list the names that shells keep" python3 -B tests/kept_names.py --lists
+check "the change that CONTRIBUTING.md works through leaves the documents right" leaves_documents_right
 check "docs/speed.svg is the chart of bench/speed.tsv" has_chart
 check "each link of the pages leads somewhere, and each decision is listed" python3 tests/links.py
 check "what nothing prints has the number of the library, too" has_one_number
