@@ -16,6 +16,7 @@
 # - docs/speed.svg is the chart of the figures in bench/speed.tsv;
 # - each link of the pages leads to a file and a heading, each page that is named is a link, and docs/DECISIONS.md lists each
 #   decision at its top;
+# - docs/README.md leads to each page of docs/;
 # - the header, the package dotenvy-dotenv and the files of a release that pages name have the number of the library;
 # - each mutant changes the function that its name says.
 # It takes a few seconds, and no proof. The last line is `N passed, M failed`.
@@ -143,6 +144,19 @@ END
     [ ! -s "$room/numbers" ]
 }
 
+# Prints the pages to which the index doesn't lead.
+leads_to_each_page() {
+    local page
+    for page in docs/*.md; do
+        page=${page#docs/}
+        if [ "$page" != README.md ] && ! grep -qF -- "]($page)" docs/README.md; then
+            echo "docs/README.md doesn't lead to $page"
+        fi
+    done >"$room/pages"
+    cat "$room/pages"
+    [ ! -s "$room/pages" ]
+}
+
 # Prints the mutants that don't.
 change_named_functions() {
     if ! python3 tests/mutants.py >"$room/mutants"; then
@@ -212,6 +226,7 @@ check "docs/EXPORT.md and its manual page list the names that shells keep" pytho
 check "the change that CONTRIBUTING.md works through leaves the documents right" leaves_documents_right
 check "docs/speed.svg is the chart of bench/speed.tsv" has_chart
 check "each link of the pages leads somewhere, and each decision is listed" python3 tests/links.py
+check "docs/README.md leads to each page of docs/" leads_to_each_page
 check "what nothing prints has the number of the library, too" has_one_number
 check "each mutant changes the function that its name says" change_named_functions
 check_contracts docs/CONTRACTS.md crates/dotenvy_base/src/environment.rt
