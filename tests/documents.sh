@@ -16,7 +16,7 @@
 # - docs/speed.svg is the chart of the figures in bench/speed.tsv;
 # - each link of the pages leads to a file and a heading, each page that is named is a link, and docs/DECISIONS.md lists each
 #   decision at its top;
-# - docs/README.md leads to each page of docs/;
+# - docs/README.md leads to each page of docs/, and each script and table that a page names is there;
 # - the header, the package dotenvy-dotenv and the files of a release that pages name have the number of the library;
 # - each mutant changes the function that its name says.
 # It takes a few seconds, and no proof. The last line is `N passed, M failed`.
@@ -157,6 +157,21 @@ leads_to_each_page() {
     [ ! -s "$room/pages" ]
 }
 
+# Prints each file of these folders that a page names in backquotes, and that isn't there.
+names_what_is_there() {
+    local found page line name
+    while IFS= read -r found; do
+        IFS=: read -r page line name <<<"$found"
+        name=${name#\`}
+        if ! compgen -G "${name%[\` ]}" >"$room/named"; then
+            echo "$page:$line: there is no ${name%[\` ]}"
+        fi
+    done >"$room/absent" < <(grep -rnoE --include='*.md' --exclude-dir={out,dist,.git} \
+        "\`(tests|release|bench|bin|integrations|\\.ci)/[A-Za-z0-9_./*-]+[ \`]" .)
+    cat "$room/absent"
+    [ -s "$room/named" ] && [ ! -s "$room/absent" ]
+}
+
 # Prints the mutants that don't.
 change_named_functions() {
     if ! python3 tests/mutants.py >"$room/mutants"; then
@@ -173,6 +188,14 @@ leaves_documents_right() {
         cd "$room/changed"
         has_examples grammar && has_examples other_libraries && has_right_counts && python3 -B tests/believed.py --check
     )
+}
+
+# Whether a change that fits no more is refused: the copy has it already.
+is_refused_twice() {
+    if python3 -B "$room/changed/tests/worked_change.py" "$room/again" 2>"$room/refusal"; then
+        return 1
+    fi
+    grep -q 'CONTRIBUTING.md: 0 places of' "$room/refusal"
 }
 
 check_blocks() {
@@ -224,9 +247,11 @@ check "tests/only_tested.txt names rows, tests and scripts that exist" python3 -
 check "each part of the code, and each script, says at its top what it is" python3 -B tests/map.py --check
 check "docs/EXPORT.md and its manual page list the names that shells keep" python3 -B tests/kept_names.py --lists
 check "the change that CONTRIBUTING.md works through leaves the documents right" leaves_documents_right
+check "a worked change that fits no more is refused" is_refused_twice
 check "docs/speed.svg is the chart of bench/speed.tsv" has_chart
 check "each link of the pages leads somewhere, and each decision is listed" python3 tests/links.py
 check "docs/README.md leads to each page of docs/" leads_to_each_page
+check "each script and table that a page names is there" names_what_is_there
 check "what nothing prints has the number of the library, too" has_one_number
 check "each mutant changes the function that its name says" change_named_functions
 check_contracts docs/CONTRACTS.md crates/dotenvy_base/src/environment.rt
