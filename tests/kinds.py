@@ -1,15 +1,15 @@
 #!/usr/bin/env -S python3 -B
-"""Compares the lists of kinds in docs/CHECK.md, docs/dotenvy_check.1 and release/completions with src/kind.rt of
+"""Compares the lists of kinds in docs/KINDS.md, docs/dotenvy_check.1 and release/completions with src/kind.rt of
 dotenvy_findings.
 
     kinds.py [PROGRAM]          PROGRAM is the one that `rt run` in crates/dotenvy_check builds, if none is named
     kinds.py --model[=FILE]     has the model of the report in place of the program
-    kinds.py --print            prints the table, from kind.rt and the first row of each kind in tests/advice.tsv
 
-The table of docs/CHECK.md, "Kinds of findings", has each kind in the order of its enum, whether it is an error, a file
-with it, a file without it, and its message. The program has to find the kind in the one file and not in the other, and
-to have a rule of SARIF for each kind, with its message. The manual page and the completions have the names alone. The
-last line is `N passed, M failed`.
+The table of docs/KINDS.md, which tests/made_pages.py makes of kind.rt and the first row of each kind in
+tests/advice.tsv, has each kind in the order of its enum, whether it is an error, a file with it, a file without it, and
+its message. The program has to find the kind in the one file and not in the other, and to have a rule of SARIF for each
+kind, with its message. The manual page has the names and the messages, and the completions the names alone. The last
+line is `N passed, M failed`.
 """
 
 import json
@@ -20,7 +20,7 @@ import report
 import report_model
 from grammar_rows import FILE, phrase
 
-PAGE = report_model.TOP / "docs" / "CHECK.md"
+PAGE = report_model.TOP / "docs" / "KINDS.md"
 MANUAL = report_model.TOP / "docs" / "dotenvy_check.1"
 COMPLETIONS = report_model.TOP / "release" / "completions"
 HEADER = ["| Kind | Is | A file with it | A file without it | Message |", "|---|---|---|---|---|"]
@@ -70,9 +70,8 @@ def table():
 
 def page_rows(count):
     """The rows of the table as the page has them."""
-    section = re.search(r"^## Kinds of findings\n(.*?)(?=^## )", PAGE.read_text(encoding="utf-8"), re.M | re.S)
-    lines = re.findall(r"^\|.*", section.group(1), re.M) if section else []
-    count.check(lines[:2] == HEADER, 'docs/CHECK.md, "Kinds of findings", has no table of kinds')
+    lines = re.findall(r"^\|.*", PAGE.read_text(encoding="utf-8"), re.M)
+    count.check(lines[:2] == HEADER, "docs/KINDS.md has no table of kinds")
     return lines[2:]
 
 
@@ -83,11 +82,11 @@ def check_page(count, lines):
     cells = [line.strip("|").split("|") for line in lines]
     found = [tuple(row[at].strip() for at in (0, 1, -1)) if len(row) == 5 else tuple(row) for row in cells]
     for row in wanted:
-        count.check(row in found, f"docs/CHECK.md has no row with {row}")
+        count.check(row in found, f"docs/KINDS.md has no row with {row}")
     for row in found:
-        count.check(row in wanted, f"docs/CHECK.md has a row with {row}")
-    count.check(found == wanted, "docs/CHECK.md has the kinds in another order")
-    count.check(lines == table(), "docs/CHECK.md has another table than the one that tests/kinds.py --print prints")
+        count.check(row in wanted, f"docs/KINDS.md has a row with {row}")
+    count.check(found == wanted, "docs/KINDS.md has the kinds in another order")
+    count.check(lines == table(), "docs/KINDS.md has another table than tests/made_pages.py makes")
 
 
 def check_files(count, lines, reader):
@@ -114,10 +113,11 @@ def check_rules(count, program):
 def check_manual(count):
     """Checks that the manual page has the names of all kinds, by errors and warnings, in order."""
     section = re.search(r"^\.SH KINDS OF FINDINGS\n(.*?)(?=^\.SH )", MANUAL.read_text(encoding="utf-8"), re.M | re.S)
-    lists = re.findall(r"^\.SS (\w+)\n([^.]*)", section.group(1), re.M) if section else []
+    lists = re.findall(r"^\.SS (\w+)\n(.*?)(?=^\.SS |\Z)", section.group(1), re.M | re.S) if section else []
     found = {}
     for title, text in lists:
-        found[SEVERITIES.get(title, title)] = re.split(r",\s+", text.replace("\\-", "-").strip())
+        names = re.findall(r"^\.TP\n\\fB(.*)\\fR$", text, re.M)
+        found[SEVERITIES.get(title, title)] = [name.replace("\\-", "-") for name in names]
     kinds = severities()
     for severity in SEVERITIES.values():
         wanted = [kind for kind in kinds if kinds[kind] == severity]
@@ -143,9 +143,6 @@ def check_completions(count):
 def main(words):
     """Does what the words of the command line say, and returns the status."""
     sys.stdout.reconfigure(encoding="utf-8", errors="backslashreplace")
-    if words == ["--print"]:
-        print("\n".join(HEADER + table()))
-        return 0
     make, path, _ = report.asked(words)
     count = report.Count()
     count.check(severities().keys() == report.MESSAGES.keys(), "kind.rt has other names than messages")
