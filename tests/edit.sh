@@ -546,9 +546,12 @@ page_texts() {
         /^- / { item = "" }
         /^- (REASON|STEP) is one of / { item = $2 }
         item { lists[item] = lists[item] " " $0 }
-        /^\| `dotenvy_edit: / {
+        /^## / { level = "" }
+        /^## (What is refused|Texts on standard error)$/ { level = "error" }
+        /^## Warnings$/ { level = "warning" }
+        level && /^\| `/ {
             split($0, cells, "` \\| ")
-            texts[++number] = pattern(substr(cells[1], 4))
+            texts[++number] = pattern("dotenvy_edit: " level ": " substr(cells[1], 4))
         }
         END {
             words["LINE"] = "[1-9][0-9]*"

@@ -16,8 +16,8 @@ from grammar_rows import DOCS, phrase, refuse
 PAGE = DOCS / "EDIT.md"
 # The tables that have no examples, by their header lines.
 NO_EXAMPLES = [
-    "| You want | Command |", "| Word | Means |", "| Value | Written |", "| Refused | What you can do |",
-    "| Status | When |", "| Text | When |",
+    "| You want | Command |", "| Word | Means |", "| Value | Written |", "| Text | What you can do |", "| Text | Why |",
+    "| Text | When |", "| Status | When |",
 ]
 # The lines of tables, and what they have between backticks.
 FILES, LINES = "| File | Call | Then |", "| Old line | Value | New line |"
