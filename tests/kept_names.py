@@ -3,7 +3,7 @@ r"""Finds the names that shells keep for themselves, and compares them with the 
 
     kept_names.py [--program PROGRAM | --names FILE] [SHELL]..     compares; without a word with tests/kept_names.tsv
     kept_names.py --table [SHELL]..                                prints that table, as it should be
-    kept_names.py --lists                                          compares the lists with that of the code
+    kept_names.py --lists                                          compares the table and the list of the code
 
 Without SHELL, the shells are those of the table.
 
@@ -17,9 +17,9 @@ where it is its child; then all names that are not kept are tried at once. Each 
 in its modules is tried, each that the shell itself lists, and some more. A shell that isn't installed is left out. It
 takes some minutes.
 
-With --lists, no shell is tried. Each name of the table has to be in src/reserved.rt of dotenvy_exporter. The list of
-docs/EXPORT.md, "Names that shells keep", has to have the names of that file, each below the shells that keep it by the
-table; and docs/dotenvy_export.1 these names in order. The last line is `N passed, M failed`.
+With --lists, no shell is tried. Each name of the table has to be in src/reserved.rt of dotenvy_exporter, which has no
+other names except those of ksh93. docs/dotenvy_export.1 has to have these names in order. The last line is `N passed, M
+failed`.
 """
 
 import collections
@@ -34,7 +34,6 @@ import export_tools
 
 TABLE = pathlib.Path(__file__).resolve().parent / "kept_names.tsv"
 CODE = export_tools.TOP / "crates" / "dotenvy_exporter" / "src" / "reserved.rt"
-PAGE = export_tools.TOP / "docs" / "EXPORT.md"
 MANUAL = export_tools.TOP / "docs" / "dotenvy_export.1"
 HEADER = ["name", "shell", "values that pass", "what happens"]
 VALUES = ["q7", "1000", "-1", "08", "", "/q7:/q8", "a b'\"$x`\\"]
@@ -54,12 +53,8 @@ OTHER_NAMES = """
 """.split()
 # The shells whose names are listed. In ksh93 and mksh more names fail, as LANG does where there is no such locale.
 SHELLS = ["dash", "bash", "bash --posix", "busybox", "zsh", "zsh --emulate sh"]
-# How the page calls the names that all of these shells keep, and no other shell of the table. Those that no shell of
-# the table keeps are of ksh93.
-TITLES = {
-    "bash": {"bash", "bash --posix"}, "zsh": {"zsh"}, "zsh, also as `sh`": {"zsh", "zsh --emulate sh"},
-    "bash and zsh": {"bash", "bash --posix", "zsh", "zsh --emulate sh"},
-    "dash, bash and zsh": {"dash", "bash", "bash --posix", "zsh", "zsh --emulate sh"}, "ksh93": set()}
+# The names that ksh93 keeps, and no shell of the table.
+OF_KSH93 = {"A__z", "JOBMAX", "KSH_VERSION", "TMOUT"}
 # The loader's names mean something to each program, not to the shell.
 LEFT_OUT = re.compile(r"LD_.*")
 
@@ -223,41 +218,28 @@ def code_names():
     return re.findall(r'^    "(\w+)",$', CODE.read_text(encoding="utf-8"), re.M)
 
 
-def page_names():
-    """The names that the page lists, by the title of each list."""
-    section = re.search(r"^## Names that shells keep\n(.*?)(?=^## )", PAGE.read_text(encoding="utf-8"), re.M | re.S)
-    lists = re.findall(r"^- \*\*(.*?)\*\*: (.*?)(?=^- |\n\n)", section.group(1) if section else "", re.M | re.S)
-    return {title: re.findall(r"`(\w+)`", names) for title, names in lists}
-
-
 def manual_names():
     """The names that the manual page lists."""
     text = MANUAL.read_text(encoding="utf-8")
     section = re.search(r"^\.SH NAMES THAT SHELLS KEEP\n(.*?)(?=^\.SH )", text, re.M | re.S)
-    names = re.search(r"^\.PP\n([^.]*)\.\n", section.group(1), re.M) if section else None
+    names = re.search(r"^These are the names: ([^.]*)\.$", section.group(1), re.M) if section else None
     return re.split(r",\s+", names.group(1)) if names else []
 
 
-def kept_by_table():
-    """The shells of the table that keep each name."""
-    shells = collections.defaultdict(set)
-    for line in TABLE.read_text(encoding="utf-8").splitlines()[1:]:
-        name, shell, *_ = line.split("\t")
-        shells[name].add(shell)
-    return shells
+def table_names():
+    """The names of the table, in its order."""
+    lines = TABLE.read_text(encoding="utf-8").splitlines()[1:]
+    return list(dict.fromkeys(line.split("\t")[0] for line in lines))
 
 
 def compare_lists():
     """Prints how the lists differ from that of the code. The status."""
-    names, table, page, manual = code_names(), kept_by_table(), page_names(), manual_names()
-    listed = sorted(name for one in page.values() for name in one)
+    names, table, manual = code_names(), table_names(), manual_names()
     checks = [(name in names, f"{name} of tests/kept_names.tsv is in src/reserved.rt") for name in table]
-    checks += [(listed.count(name) == 1, f"docs/EXPORT.md has {name} once") for name in names]
-    checks += [(name in names, f"{name} of docs/EXPORT.md is in src/reserved.rt") for name in listed]
+    known = OF_KSH93.union(table)
+    checks += [(name in known, f"{name} of src/reserved.rt is in tests/kept_names.tsv") for name in names]
+    checks += [(name in names, f"{name} of ksh93 is in src/reserved.rt") for name in sorted(OF_KSH93)]
     checks += [(name in manual, f"docs/dotenvy_export.1 has {name}") for name in names]
-    for title in TITLES.keys() | page.keys():
-        wanted = [name for name in names if table.get(name, set()) == TITLES.get(title)]
-        checks.append((page.get(title) == wanted, f"docs/EXPORT.md has of {title}, in order: {' '.join(wanted)}"))
     checks.append((manual == names, "docs/dotenvy_export.1 has the names of src/reserved.rt, in order"))
     checks.append((names == sorted(set(names)) != [], "src/reserved.rt has names, each once and in order"))
     for _, what in (one for one in checks if not one[0]):
@@ -286,7 +268,7 @@ def main(words):
         return 0
     listed = refused_by(program, names) if program else listed_in(table, shells)
     if "ksh93" not in words:
-        listed -= set(page_names()["ksh93"])
+        listed -= OF_KSH93
     return compare(kept, wrong, listed, names)
 
 

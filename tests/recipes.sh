@@ -1,10 +1,10 @@
 #!/usr/bin/env bash
-# Cuts the recipes out of docs/COMMAND.md, docs/CHECK.md and docs/EXPORT.md, as they are there, and tries each:
-# - the systemd units: systemd-analyze verifies them below a root folder, where empty scripts are their programs;
-# - the Dockerfiles: each line is an instruction, its steps are made in a folder, and its command runs. The archive and
-#   apt-get are stand-ins, and no image is built;
-# - the crontab lines: Debian's crontab checks them, and their commands run in the environment that cron gives;
-# - the CI job: a parser of YAML reads it, and its steps run, on the same archive;
+# Cuts the recipes out of COMMAND.md, CHECK.md, EXPORT.md and EXEC.md of docs/, as they are there, and tries each:
+# - the systemd unit: systemd-analyze verifies it below a root folder, where empty scripts are its programs;
+# - the Dockerfile: each line is an instruction, its steps are made in a folder, and its command runs. The archive is a
+#   stand-in, and no image is built;
+# - the crontab line: Debian's crontab checks it, and its command runs in the environment that cron gives;
+# - the workflow of integrations/github: a parser of YAML reads it, and its steps run, on the same archive;
 # - the container: docker is a stand-in that prints its words and the file; the secret: kubectl makes it, and sends nothing;
 # - the recipes for a shell run, and the manual pages have the same scripts.
 # A recipe runs with folders of the test in place of /usr/local, /etc/serve, /var/lib and /tmp. Nothing else of it is
@@ -101,7 +101,6 @@ make_files() {
     script "$room/usr/local/bin/serve" <<<'echo "serve on $PORT" "$@"'
     script "$room/usr/local/bin/backup" <<<'echo "backup to $1"'
     script "$room/work/serve" <<<'echo "serve on $PORT" "$@"'
-    script "$room/fetch/apt-get" <<<"echo \"apt-get \$*\" >>$room/fetched"
     if "$has_programs"; then
         cp "$run" "$checker" "$room/usr/local/bin"
     fi
@@ -193,7 +192,7 @@ build() {
             ADD) tar -xzf "$from" -C "$to" ;;
             COPY) cp "$from" "$to" ;;
             # A step that names any other folder of the machine isn't made: this one removes files.
-            RUN) [[ " ${words//"$room"\//}" != *" /"* ]] && PATH=$room/fetch:/usr/bin:/bin sh -c "$words" ;;
+            RUN) [[ " ${words//"$room"\//}" != *" /"* ]] && PATH=/usr/bin:/bin sh -c "$words" ;;
             ENTRYPOINT | CMD) strings "$words" >>"$room/command" ;;
             *) return 1 ;;
         esac || return 1
@@ -222,20 +221,6 @@ make_image() {
     cd "$top"
     check 'the Dockerfile leaves nothing of the archive' test -z "$(ls "$room/tmp")"
     mapfile -t command <"$room/command"
-}
-
-check_dockerfile() {
-    local command
-    check_instructions
-    "$has_programs" || return 0
-    make_image
-    check 'the Dockerfile installs tini' grep -qx 'apt-get install -y --no-install-recommends tini' "$room/fetched"
-    check 'the command of the image is started by tini' test "${command[*]::3}" = 'tini -g --'
-    installed tini 'tini before the command of the image' || command=("${command[@]:3}")
-    call "${command[@]}"
-    # tini warns of zombies, which the test need not be rid of.
-    sed -i '/Tini is not running as PID 1/,$d' "$room/errors"
-    check 'the command of the image runs with the settings' gave 0 'serve on 8080 --verbose'
 }
 
 # --- The crontab line ---
@@ -270,18 +255,18 @@ dated() {
     gave 0 'backup to /srv/backups/DATE.tar'
 }
 
-# --- The CI job ---
+# --- The workflow ---
 
 # Writes the steps of the job to files step.1, step.2 and so on.
 read_job() {
-    block '### A CI job' | python3 -c 'import sys, yaml
+    python3 -c 'import sys, yaml
 jobs = yaml.safe_load(sys.stdin)["jobs"]
 (job,) = jobs.values()
 runs = [step["run"] for step in job["steps"] if "run" in step]
-assert all("run" in step or "uses" in step for step in job["steps"]) and len(runs) == 2
+assert all("run" in step or "uses" in step for step in job["steps"]) and len(runs) == 3
 for number, run in enumerate(runs, 1):
     with open(f"{sys.argv[1]}.{number}", "w") as file:
-        file.write(run)' "$room/step"
+        file.write(run)' "$room/step" <integrations/github/workflow.yml
 }
 
 # Runs a step of the job as CI does, with the folders that earlier steps put on PATH.
@@ -294,26 +279,29 @@ step() {
 
 check_job() {
     if ! python3 -c 'import yaml' 2>/dev/null; then
-        echo 'left out: the CI job, as python3 has no module yaml'
+        echo 'left out: the workflow, as python3 has no module yaml'
         return
     fi
-    check 'the CI job is YAML, and each step has something to run or to use' read_job
-    check 'the CI job names the archive of this version' grep -qF "tools/$archive.tar.gz" "$room/step.1"
+    check 'the workflow is YAML, and each step has something to run or to use' read_job
+    check 'the workflow names the archive of this version' grep -qF "tools/$archive.tar.gz" "$room/step.1"
     "$has_programs" || return 0
     mkdir -p "$room"/{home,temporary,checkout/deploy}
     : >"$room/path"
     make_archive "$room/checkout/tools"
     cp "$room/etc/serve/service.env" "$room/checkout/deploy"
+    git init -q "$room/checkout"
+    git -C "$room/checkout" add deploy
     call step 1
     check 'the job installs the programs' test "$status" = 0 -a -x "$room/home/.local/bin/dotenvy_check"
-    call step 2
+    call step 3
     check 'the job ends well if no file has a finding' gave 0
     cp "$room/broken.env" "$room/checkout/deploy"
     echo 'A=$B' >"$room/checkout/deploy/dollar.env"
-    call step 2
+    git -C "$room/checkout" add deploy
+    call step 3
     local no_value='the name after this dollar has no value; write \$ for a dollar, or declare it before [unknown-name]'
-    check 'the job fails at a fault and a warning, and says what is wrong' \
-        gave 1 "deploy/broken.env:${open_quote#*:}" "deploy/dollar.env:1:3: warning: $no_value"
+    check 'the job fails at a fault, and says what is wrong' \
+        gave 123 "deploy/broken.env:${open_quote#*:}" "deploy/dollar.env:1:3: warning: $no_value"
 }
 
 # --- Secrets ---
@@ -358,7 +346,6 @@ check_joined() {
     check 'files without a last line feed are joined' gave 0 'A="1"' 'B="2"'
     call dotenvy_run --list -f absent.env <b.env
     check 'a list ignores the file of -f' gave 0 'B="2"'
-    check 'the example in the table is the same' grep -qF "| \`$(block '**Join files.**' | sed 's/|/\\|/')\` |" "$page"
     printf '\xef\xbb\xbfB=2' >b.env
     line_of '**Join files.**' awk
     check 'a byte order mark of the second file is a fault' test "$status" = 1
@@ -371,21 +358,16 @@ check_joined() {
         '<stdin>:3:1: warning: this name is declared already, and the first value counts (line 1) [declared-twice]'
 }
 
-check_start() {
-    local shell
-    block '**Use a file only if it exists.**' >start
-    for shell in dash bash; do
-        installed "$shell" "the script with an optional file in $shell" || continue
-        printf 'PORT=1\n' >.env
-        rm -f .env.local
-        call "$shell" start --verbose 'two words' ''
-        check "$shell: without the optional file, the words reach the command" gave 0 'serve on 1 --verbose two words '
-        printf 'PORT=3\n' >.env.local
-        call "$shell" start --verbose 'two words' ''
-        check "$shell: the optional file wins, and the words reach the command" gave 0 'serve on 3 --verbose two words '
-        call "$shell" start
-        check "$shell: the optional file wins, without words" gave 0 'serve on 3'
-    done
+# The file that may be absent wins, if it is there.
+check_optional() {
+    "$has_exporter" || return 0
+    printf 'PORT=1\n' >.env
+    rm -f .env.local
+    line_of '**Use a file only if it exists**' --optional
+    check 'without the optional file, the other one counts' gave 0 'serve on 1'
+    printf 'PORT=3\n' >.env.local
+    line_of '**Use a file only if it exists**' --optional
+    check 'with the optional file, its settings win' gave 0 'serve on 3'
     rm .env.local
 }
 
@@ -454,27 +436,6 @@ check_targets() {
     done < <(awk '/^\| Target \| Of/ { inside = 1; next } !/^\|/ { inside = 0 } inside && !/^\|-/' "$page")
 }
 
-# The unit starts the command with the settings, and with those of the other file over them.
-check_exec_unit() {
-    local start
-    start=$(block '### A systemd unit' | placed | sed -n 's/^ExecStart=//p')
-    call sh -c "$start"
-    check 'the unit starts the command with the settings' gave 0 'serve on 8080 --verbose'
-    echo 'PORT=1' >"$room/etc/serve/local.env"
-    call sh -c "$start"
-    check 'the optional file wins, if it is there' gave 0 'serve on 1 --verbose'
-    rm "$room/etc/serve/local.env"
-    printf 'PORT=8080\n' >service.env
-    call sh -c "$(block 'If a unit has to have')"
-    check 'the file for EnvironmentFile is written' gave 0
-    check 'and nobody else may read it' test "$(stat -c '%a' service.conf)" = 600
-    check 'and it has the settings' diff <(echo 'PORT="8080"') service.conf
-    cp "$room/broken.env" service.env
-    call sh -c "$(block 'If a unit has to have')"
-    check 'after a fault the old file stays' refused_file service.env
-    check 'with the settings' diff <(echo 'PORT="8080"') service.conf
-}
-
 # docker is a stand-in: it prints its words, except the name of the file, and then the file.
 check_container() {
     script "$room/fetch/docker" <<<'echo "$1 $2 $3 $5"; cat "$4"'
@@ -502,15 +463,6 @@ for name, value in sorted(secret["data"].items()):
     check 'after a fault no secret is made' refused_file service.env
 }
 
-check_exec_dockerfile() {
-    local command
-    check_instructions
-    "$has_exporter" || return 0
-    make_image
-    call "${command[@]}"
-    check 'the command of the image runs with the settings' gave 0 'serve on 8080 --verbose'
-}
-
 # A shell sets the settings, and after a fault nothing.
 check_eval() {
     local shell line
@@ -526,23 +478,71 @@ check_eval() {
     done
 }
 
+# The file of settings for a unit is written, unless there is a fault.
+check_settings() {
+    printf 'PORT=8080\n' >service.env
+    call sh -c "$(block 'If a unit has to have')"
+    check 'the file for EnvironmentFile is written' gave 0
+    check 'and nobody else may read it' test "$(stat -c '%a' service.conf)" = 600
+    check 'and it has the settings' diff <(echo 'PORT="8080"') service.conf
+    cp "$room/broken.env" service.env
+    call sh -c "$(block 'If a unit has to have')"
+    check 'after a fault the old file stays' refused_file service.env
+    check 'with the settings' diff <(echo 'PORT="8080"') service.conf
+}
+
 check_exports() {
+    local title
     page=$top/docs/EXPORT.md
-    check_unit dotenvy_exec
     if "$has_exporter"; then
         cd "$room/work"
         check_targets
-        check_exec_unit
+        check_settings
         check_container
         check_secret
         check_eval
         cd "$top"
     fi
-    printf 'PORT=8080\nSTORE=/srv/backups\nPATH=%s\n' "$room/usr/local/bin:/usr/bin:/bin" >"$room/etc/serve/service.env"
-    check_crontab "$has_exporter"
-    check_exec_dockerfile
     for title in '### A container' '### A secret of Kubernetes' 'If a unit has to have' '### Settings in a shell'; do
         check "docs/dotenvy_export.1 has the block of: $title" in_manual docs/dotenvy_export.1 "$title"
+    done
+}
+
+# --- The page of dotenvy_exec ---
+
+# The settings of the file that may be absent win over those of the other one.
+check_optional_settings() {
+    local start
+    start=$(block '### A systemd unit' | placed | sed -n 's/^ExecStart=//p')
+    echo 'PORT=1' >"$room/etc/serve/local.env"
+    call sh -c "$start"
+    check 'the optional file wins, if it is there' gave 0 'serve on 1 --verbose'
+    rm "$room/etc/serve/local.env"
+}
+
+check_dockerfile() {
+    local command
+    check_instructions
+    "$has_exporter" || return 0
+    make_image
+    call "${command[@]}"
+    check 'the command of the image runs with the settings' gave 0 'serve on 8080 --verbose'
+}
+
+check_exec() {
+    local title
+    page=$top/docs/EXEC.md
+    check_unit dotenvy_check dotenvy_exec
+    if "$has_programs" && "$has_exporter"; then
+        check_unit_commands
+        check_optional_settings
+    fi
+    printf 'PORT=8080\nSTORE=/srv/backups\nPATH=%s\n' "$room/usr/local/bin:/usr/bin:/bin" >"$room/etc/serve/service.env"
+    check_crontab "$has_exporter"
+    # It takes the programs away, and installs them.
+    check_dockerfile
+    for title in '### A systemd unit' '### A Dockerfile' '### A crontab line'; do
+        check "docs/dotenvy_exec.1 has the block of: $title" in_manual docs/dotenvy_exec.1 "$title"
     done
 }
 
@@ -557,8 +557,9 @@ in_manual() {
 
 check_manual() {
     local title
-    for title in '**Use a file only if it exists.**' '**Join files.**' '### Give the command' '**Print one value.**' \
-        '**Put the settings of this machine' '**Check a file before'; do
+    for title in '**Use a file only if it exists**' '**Join files.**' '### Give the command' '**Print one value.**' \
+        '**Put the settings of this machine' '**Check a file before' '**Let the file win' '### Wait until' \
+        'Such texts go to standard error'; do
         check "docs/dotenvy_run.1 has the block of: $title" in_manual docs/dotenvy_run.1 "$title"
     done
 }
@@ -584,15 +585,10 @@ fi
 make_files
 mkdir -p "$room/programs"
 cp "$room/usr/local/bin"/dotenvy_* "$room/programs" 2>/dev/null || :
-block 'Values are often secrets' >"$room/broken.env"
+block '## Secrets' >"$room/broken.env"
 # What the checker reports of it.
-open_quote=$(block 'Nor does `--list` keep a secret')
+open_quote=$(block 'Such texts go to standard error')
 check 'the page has a file with a secret' grep -qx 'TOKEN=hidden' "$room/broken.env"
-check_unit dotenvy_run dotenvy_check serve
-if "$has_programs"; then
-    check_unit_commands
-fi
-check_crontab "$has_programs"
 check_job
 check_manual
 if "$has_programs"; then
@@ -600,14 +596,13 @@ if "$has_programs"; then
     check_secrets
     check_lines
     check_joined
-    check_start
+    check_optional
     check_place
     check_cleaning
     cd "$top"
 fi
-# It takes the programs away, and installs them.
-check_dockerfile
 check_exports
+check_exec
 
 echo "$passed passed, $failed failed"
 [ "$failed" -eq 0 ]
