@@ -12,7 +12,8 @@
 # - docs/CONTRACTS.md says on how many definitions the headline rests, and this is seen of each of its contracts;
 # - tests/only_tested.txt names rows, tests and scripts that exist;
 # - each crate, module, file of definitions or lemmas, and script says at its top what it is: tests/map.py prints it;
-# - docs/EXPORT.md and its manual page have the names that shells keep, as the code has them;
+# - the manual pages, the page of kinds and the tables of options are what tests/made_pages.py makes;
+# - the table of the names that shells keep, and the manual page, have the names of the code;
 # - docs/speed.svg is the chart of the figures in bench/speed.tsv;
 # - each link of the pages leads to a file and a heading, each page that is named is a link, and docs/DECISIONS.md lists each
 #   decision at its top;
@@ -137,7 +138,8 @@ MAJOR $major
 MINOR $minor
 PATCH $patch
 END
-        grep -onE '\bdotenvy(_dotenv)?-[0-9]+\.[0-9]+\.[0-9]+' README.md bindings/README.md docs/*.md |
+        grep -onE '\bdotenvy(_dotenv)?-[0-9]+\.[0-9]+\.[0-9]+' README.md bindings/README.md docs/*.md \
+            integrations/github/workflow.yml |
             grep -v -- "-${version//./\\.}\$"
     } >"$room/numbers"
     cat "$room/numbers"
@@ -245,7 +247,8 @@ check "docs/CONTRACTS.md names what the code has, and each public call has a doc
     python3 -B tests/contracts.py --check
 check "tests/only_tested.txt names rows, tests and scripts that exist" python3 -B tests/tested_by.py --check
 check "each part of the code, and each script, says at its top what it is" python3 -B tests/map.py --check
-check "docs/EXPORT.md and its manual page list the names that shells keep" python3 -B tests/kept_names.py --lists
+check "the manual pages, docs/KINDS.md and the tables of options are fresh" python3 -B tests/made_pages.py
+check "the table and the manual page have the names that shells keep" python3 -B tests/kept_names.py --lists
 check "the change that CONTRIBUTING.md works through leaves the documents right" leaves_documents_right
 check "a worked change that fits no more is refused" is_refused_twice
 check "docs/speed.svg is the chart of bench/speed.tsv" has_chart

@@ -1,7 +1,7 @@
 #!/usr/bin/env bash
-# Sees that the manual pages of docs/ have what docs/COMMAND.md, docs/CHECK.md, docs/EXPORT.md and docs/EDIT.md promise: each
-# option, status and text of their tables, and no others. Where groff is installed, it also sees that groff finds nothing wrong with
-# them.
+# Sees that the manual pages, which tests/made_pages.py makes, have what COMMAND.md, CHECK.md, EXPORT.md, EXEC.md and
+# EDIT.md of docs/ promise: each option, status and text of their tables, and no others. Where groff is installed, it
+# also sees that groff finds nothing wrong with them.
 # It takes less than a second, and no proof. The last line is `N passed, M failed`.
 set -euo pipefail
 cd "$(dirname "$0")/.."
@@ -23,14 +23,21 @@ check() {
     fi
 }
 
-# Prints the first cell of each row of the tables in a section of the page, without backquotes.
+# Prints the first cell of each row of the tables in a section of the page, without backquotes. A bar in it is `\|`.
 cells() {
     awk -v section="## $1" '
         /^```/ { in_block = !in_block }
         in_block { next }
         /^#/ { inside = $0 == section; next }
         !/^\|/ { rows = 0 }
-        inside && /^\|/ && ++rows > 2 { sub(/^\| /, ""); sub(/ \|.*/, ""); gsub(/`/, ""); print }
+        inside && /^\|/ && ++rows > 2 {
+            gsub(/\\\|/, "\001")
+            sub(/^\| /, "")
+            sub(/ \|.*/, "")
+            gsub("\001", "|")
+            gsub(/`/, "")
+            print
+        }
     ' "$page"
 }
 
@@ -40,7 +47,7 @@ tags() {
         /^\.SH / { inside = $0 == section; next }
         inside && is_tag { print }
         { is_tag = $0 == ".TP" }
-    ' "$manual" | sed 's/^\.[BI] //; s/\\f[BIR]//g; s/\\-/-/g; s/\\(aq/'\''/g; s/\\&//g; s/\\e/\\/g'
+    ' "$manual" | sed 's/^\.[BI] //; s/\\f[BIR]//g; s/\\-/-/g; s/\\(aq/'\''/g; s/\\(dq/"/g; s/\\&//g; s/\\e/\\/g'
 }
 
 # Each row of a section of the page is the tag of an entry in a section of the manual page, and the other way round.
@@ -77,7 +84,9 @@ check_macros() {
 page=docs/COMMAND.md
 manual=docs/dotenvy_run.1
 compare "Options and the command" "OPTIONS"
-compare "What can't be started" "THE COMMAND"
+compare "Examples" "EXAMPLES"
+compare "What can't be started" "WHAT CAN'T BE STARTED"
+compare "Signals" "SIGNALS"
 compare "Statuses" "EXIT STATUS"
 compare "Texts on standard error" "DIAGNOSTICS"
 check_macros
@@ -93,20 +102,25 @@ check_macros
 
 page=docs/EXPORT.md
 manual=docs/dotenvy_export.1
+compare "Usage" "DESCRIPTION"
 compare "Options and files" "OPTIONS"
 compare "Statuses" "EXIT STATUS"
 compare "Texts on standard error" "DIAGNOSTICS"
 check_macros
 
+page=docs/EXEC.md
 manual=docs/dotenvy_exec.1
-compare "Options of dotenvy_exec" "OPTIONS"
-compare "Statuses of dotenvy_exec" "EXIT STATUS"
-compare "Texts of dotenvy_exec" "DIAGNOSTICS"
+compare "Options and the command" "OPTIONS"
+compare "Statuses" "EXIT STATUS"
+compare "Texts on standard error" "DIAGNOSTICS"
 check_macros
 
 page=docs/EDIT.md
 manual=docs/dotenvy_edit.1
+compare "Examples" "EXAMPLES"
 compare "Options and files" "OPTIONS"
+compare "What is refused" "WHAT IS REFUSED"
+compare "Warnings" "WARNINGS"
 compare "Statuses" "EXIT STATUS"
 compare "Texts on standard error" "DIAGNOSTICS"
 check_macros
