@@ -14,6 +14,7 @@ import functools
 import itertools
 import pathlib
 import re
+import signal
 import sys
 
 from words import blocks, members, text_of, without_generics
@@ -292,6 +293,8 @@ def main():
         print("\n".join(found), end="\n" if found else "")
         sys.exit(1 if found else 0)
     else:
+        # A reader, such as `head`, may end before all is printed.
+        signal.signal(signal.SIGPIPE, signal.SIG_DFL)
         print(wanted.text())
 
 

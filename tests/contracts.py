@@ -1,13 +1,13 @@
 #!/usr/bin/env python3
 """Prints what the code promises: of a function its doc comment, its contract, and what the words of that mean.
 
-    contracts.py               lists the public calls of each crate of the product, module by module
     contracts.py NAME..        prints these: a function, a type, a module, a crate, or a path such as Iter::next_item
     contracts.py --headline    prints what the headline of docs/CONTRACTS.md names
     contracts.py --check       sees that public calls have doc comments, and that what docs/CONTRACTS.md names is there
 
 Of a type, a module or a crate it prints what is public, and a function with just this name in any case. Nothing is
-proved here. With --check it prints what is wrong, and ends with status 1 if anything is.
+proved here. signatures.py lists the calls of the library, and map.py the crates with their modules. With --check it
+prints what is wrong, and ends with status 1 if anything is.
 """
 
 import re
@@ -158,15 +158,6 @@ def faults(found, page):
             yield "docs/CONTRACTS.md has no table of " + table
 
 
-def index(found):
-    """The public calls, a line for each module."""
-    lines = {}
-    for item in found:
-        if item.is_call():
-            lines.setdefault("::".join(item.path[:2]), []).append("::".join(item.path[2:]))
-    return [module + ": " + ", ".join(names) for module, names in lines.items()]
-
-
 def texts(found, names):
     """What is printed of each of these names."""
     files = read_files(TOP)
@@ -178,14 +169,15 @@ def texts(found, names):
 
 
 def main():
-    """Prints the index, items, or faults."""
-    names, found = sys.argv[1:], list(items())
+    """Prints items, or faults."""
+    names = sys.argv[1:]
+    if not names:
+        sys.exit(__doc__.strip())
+    found = list(items())
     page = PAGE.read_text(encoding="utf-8")
     # A reader, such as `head`, may end before all is printed.
     signal.signal(signal.SIGPIPE, signal.SIG_DFL)
-    if not names:
-        print("\n".join(index(found)))
-    elif names == ["--check"]:
+    if names == ["--check"]:
         wrong = list(faults(found, page))
         print("\n".join(wrong), end="\n" if wrong else "")
         sys.exit(1 if wrong else 0)

@@ -34,7 +34,7 @@ def comment_at_top(path):
     if path.suffix == ".antt":
         end = next((place for place, line in enumerate(lines) if not line.startswith("--")), len(lines))
         return paragraph([line[2:] for line in lines[:end]])
-    if path.suffix == ".py":
+    if path.suffix == ".py" or "python" in lines[0]:
         return paragraph("\n".join(lines).partition('"""')[2].partition('"""')[0].split("\n"))
     lines = lines[1:] if lines[0].startswith("#!") else lines
     end = next((place for place, line in enumerate(lines) if not line.startswith("#")), len(lines))
@@ -82,10 +82,12 @@ def used_by(crate, file):
 
 
 def scripts():
-    """The scripts that git knows, but not what they read."""
-    listed = subprocess.run(["git", "ls-files"], cwd=TOP, stdout=subprocess.PIPE, text=True, check=True).stdout
-    names = [name for name in listed.split("\n") if re.search(r"\.(sh|py)$|^\.ci/run$|^bin/", name)]
-    return [TOP / name for name in names if not re.match("crates/|bindings/.*/", name) and (TOP / name).exists()]
+    """The scripts that git knows, but not what they read: those that can be called, and modules beside them."""
+    listed = subprocess.run(["git", "ls-files", "-s"], cwd=TOP, stdout=subprocess.PIPE, text=True, check=True).stdout
+    files = [re.match(r"(\d+) .*\t(.*)", line).groups() for line in listed.splitlines()]
+    names = [name for mode, name in files if mode == "100755" or re.search(r"\.(sh|py)$", name)
+             and not re.match("bindings/.*/", name)]
+    return [TOP / name for name in names if not name.startswith("crates/") and (TOP / name).exists()]
 
 
 def lines_of(crate):

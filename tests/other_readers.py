@@ -14,6 +14,7 @@ import itertools
 import json
 import pathlib
 import re
+import signal
 import sys
 
 import export_tools
@@ -107,6 +108,8 @@ def check_tools():
 def main(words):
     """Reads the command line."""
     if not words:
+        # A reader, such as `head`, may end before all is printed.
+        signal.signal(signal.SIGPIPE, signal.SIG_DFL)
         print("\n".join(table()))
         return 0
     failed, tried = check_tools() if words == ["--tools"] else check()

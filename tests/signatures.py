@@ -10,6 +10,7 @@ clauses are left out: `Environment::len(&self) -> usize`.
 
 import pathlib
 import re
+import signal
 import sys
 
 TOP = pathlib.Path(__file__).resolve().parent.parent
@@ -127,6 +128,8 @@ def main(words):
     calls = list(dict.fromkeys(calls_of_code()))
     if words == ["--check"]:
         return check({call.partition("(")[0] for _, call in calls})
+    # A reader, such as `head`, may end before all is printed.
+    signal.signal(signal.SIGPIPE, signal.SIG_DFL)
     last = None
     for file, call in calls:
         if file != last:

@@ -12,6 +12,7 @@ import fnmatch
 import functools
 import pathlib
 import re
+import signal
 import sys
 
 TOP = pathlib.Path(__file__).resolve().parent.parent
@@ -80,6 +81,8 @@ def main():
         for fault in wrong:
             print("tests/only_tested.txt: " + fault)
         sys.exit(1 if wrong else 0)
+    # A reader, such as `head`, may end before all is printed.
+    signal.signal(signal.SIGPIPE, signal.SIG_DFL)
     print("| Of | What is tested | By |\n|---|---|---|")
     for entry in found:
         print(f"| {entry.subject} | {entry.what} | {', '.join('`' + test + '`' for test in entry.tests)} |")
