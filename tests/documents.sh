@@ -188,7 +188,8 @@ leaves_documents_right() {
     python3 -B tests/worked_change.py "$room/changed"
     (
         cd "$room/changed"
-        has_examples grammar && has_examples other_libraries && has_right_counts && python3 -B tests/believed.py --check
+        has_examples grammar && has_examples other_libraries && has_right_counts &&
+            python3 -B tests/believed.py --check && python3 -B tests/made_pages.py
     )
 }
 
