@@ -185,16 +185,15 @@ change_named_functions() {
 # Makes the change that CONTRIBUTING.md works through on a copy, and compares the documents of the copy.
 leaves_documents_right() {
     rm -rf "$room/changed"
-    python3 -B tests/worked_change.py "$room/changed"
-    (
-        cd "$room/changed"
-        has_examples grammar && has_examples other_libraries && has_right_counts &&
+    python3 -B tests/worked_change.py "$room/changed" && (
+        cd "$room/changed" && has_examples grammar && has_examples other_libraries && has_right_counts &&
             python3 -B tests/believed.py --check && python3 -B tests/made_pages.py
     )
 }
 
-# Whether a change that fits no more is refused: the copy has it already.
-is_refused_twice() {
+# Whether a change that fits no more is refused: the copy has another line than either.
+is_refused() {
+    sed -i 's/^Outside single quotes, a backslash and one of .*/Another line./' "$room/changed/docs/GRAMMAR.md"
     if python3 -B "$room/changed/tests/worked_change.py" "$room/again" 2>"$room/refusal"; then
         return 1
     fi
@@ -251,7 +250,7 @@ check "each part of the code, and each script, says at its top what it is" pytho
 check "the manual pages, docs/KINDS.md and the tables of options are fresh" python3 -B tests/made_pages.py
 check "the table and the manual page have the names that shells keep" python3 -B tests/kept_names.py --lists
 check "the change that CONTRIBUTING.md works through leaves the documents right" leaves_documents_right
-check "a worked change that fits no more is refused" is_refused_twice
+check "a worked change that fits no more is refused" is_refused
 check "docs/speed.svg is the chart of bench/speed.tsv" has_chart
 check "each link of the pages leads somewhere, and each decision is listed" python3 tests/links.py
 check "docs/README.md leads to each page of docs/" leads_to_each_page

@@ -5,7 +5,8 @@
 
 A block labelled `diff` names its file in the line `--- FILE`; a line `@@` parts two places of a file. What a place has
 before the change, its lines that begin with a blank or `-`, is in the file exactly once. A file whose block has only
-`+` is new. Then the lines of the block labelled `sh write` are run. The status is 1 where a step fits no more.
+`+` is new. A place that is changed already stays. Then the lines of the block labelled `sh write` are run. The status
+is 1 where a step fits no more.
 """
 
 import pathlib
@@ -35,6 +36,8 @@ def make(change, copy):
     for place in "\n".join(lines).split("\n@@\n"):
         old, new = (side(place.split("\n"), signs) for signs in (" -", " +"))
         text = file.read_text(encoding="utf-8") if file.exists() else ""
+        if text.count(new) == 1:
+            continue
         if text.count(old) != 1 and (old or text):
             raise SystemExit(f"CONTRIBUTING.md: {text.count(old)} places of {name} are this one:\n{old}")
         file.write_text(text.replace(old, new) if old else new, encoding="utf-8")
