@@ -10,6 +10,7 @@
 With --check it prints what has none, and ends with status 1 if anything has none.
 """
 
+import ast
 import pathlib
 import re
 import signal
@@ -35,7 +36,7 @@ def comment_at_top(path):
         end = next((place for place, line in enumerate(lines) if not line.startswith("--")), len(lines))
         return paragraph([line[2:] for line in lines[:end]])
     if path.suffix == ".py" or "python" in lines[0]:
-        return paragraph("\n".join(lines).partition('"""')[2].partition('"""')[0].split("\n"))
+        return paragraph((ast.get_docstring(ast.parse("\n".join(lines))) or "").split("\n"))
     lines = lines[1:] if lines[0].startswith("#!") else lines
     end = next((place for place, line in enumerate(lines) if not line.startswith("#")), len(lines))
     return paragraph([line[1:].strip() for line in lines[:end]])
