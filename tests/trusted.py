@@ -1,12 +1,12 @@
 #!/usr/bin/env python3
-"""Compares docs/CONTRACTS.md, "What is trusted", with what the toolchain says when it has proved the product.
+"""Compares tests/assumed.txt and the verdicts of docs/CONTRACTS.md with what the toolchain says of the proved product.
 
 usage: tests/trusted.py [FILE]
 
 It has `rt check --list-axioms` check the programs and the library for C, and takes from its lines which C functions of
 the toolchain are assumed, and the words of the verdict. FILE has what `rt ci` printed, and its verdicts count too. The
-page has to list exactly these functions for each crate, and to explain each word; where it gives a value, that has
-to be the value. Call it once the crates are proved, or it proves them. The last line is `N passed, M failed`.
+list has to have exactly these functions for each crate, and the page to explain each word; where it gives a value, that
+has to be the value. Call it once the crates are proved, or it proves them. The last line is `N passed, M failed`.
 """
 
 import pathlib
@@ -16,29 +16,25 @@ import sys
 
 TOP = pathlib.Path(__file__).resolve().parent.parent
 PAGE = TOP / "docs" / "CONTRACTS.md"
+LIST = TOP / "tests" / "assumed.txt"
 CRATES = ("dotenvy_run", "dotenvy_check", "dotenvy_edit", "dotenvy_export", "dotenvy_c")
 
 # What `rt check` takes from an earlier check; no verdict of the gate has it.
 OWN = "incremental=trusted"
 
 
-def section():
-    """The part of the page that says what is trusted."""
-    return PAGE.read_text(encoding="utf-8").partition("\n## What is trusted\n")[2]
-
-
 def explained():
     """The words of a verdict that the page explains, each with its value, or with None where it may have any."""
-    cells = re.findall(r"^\| (`[^|]*) \|", section(), re.M)
+    section = PAGE.read_text(encoding="utf-8").partition("\n### The words of a verdict\n")[2]
+    cells = re.findall(r"^\| (`[^|]*) \|", section, re.M)
     pairs = [word.partition("=") for cell in cells for word in re.findall(r"`([\w-]+=\S*?)`", cell)]
     return {word: None if value in ("N", "SUM") else value for word, _, value in pairs}
 
 
 def listed(crate):
-    """The C functions that the page lists for a crate."""
-    lines = re.findall(r"^- ([^:]*): (.*)$", section(), re.M)
-    names = " ".join(names for crates, names in lines if f"`{crate}`" in crates)
-    return set(re.findall(r"`(\w+(?:::\w+)+)`", names))
+    """The C functions that the list has for a crate."""
+    parts = re.findall(r"^(\w[\w ]*):\n((?:  .*\n)+)", LIST.read_text(encoding="utf-8"), re.M)
+    return {name for crates, names in parts if crate in crates.split() for name in names.split()}
 
 
 def said(crate):
@@ -67,7 +63,7 @@ def crate_faults(crate, text):
     reached = set(re.findall(r"^\s*(\S+)\s+reached$", text, re.M))
     if not verdicts(text) or not reached:
         yield "it isn't proved, or reaches no C function"
-    yield from (f"the page lacks {name}" for name in sorted(reached - listed(crate)))
+    yield from (f"the list lacks {name}" for name in sorted(reached - listed(crate)))
     yield from (f"nothing reaches {name}" for name in sorted(listed(crate) - reached))
 
 
