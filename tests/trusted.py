@@ -1,12 +1,12 @@
 #!/usr/bin/env python3
-"""Compares tests/assumed.txt and the verdicts of docs/CONTRACTS.md with what the toolchain says of the proved product.
+"""Compares tests/trusted.txt with what the toolchain says when it has proved the product.
 
 usage: tests/trusted.py [FILE]
 
 It has `rt check --list-axioms` check the programs and the library for C, and takes from its lines which C functions of
 the toolchain are assumed, and the words of the verdict. FILE has what `rt ci` printed, and its verdicts count too. The
-list has to have exactly these functions for each crate, and the page to explain each word; where it gives a value, that
-has to be the value. Call it once the crates are proved, or it proves them. The last line is `N passed, M failed`.
+list has to have exactly these functions for each crate, and to explain each word; where it gives a value, that has to
+be the value. Call it once the crates are proved, or it proves them. The last line is `N passed, M failed`.
 """
 
 import pathlib
@@ -15,8 +15,7 @@ import subprocess
 import sys
 
 TOP = pathlib.Path(__file__).resolve().parent.parent
-PAGE = TOP / "docs" / "CONTRACTS.md"
-LIST = TOP / "tests" / "assumed.txt"
+LIST = TOP / "tests" / "trusted.txt"
 CRATES = ("dotenvy_run", "dotenvy_check", "dotenvy_edit", "dotenvy_export", "dotenvy_c")
 
 # What `rt check` takes from an earlier check; no verdict of the gate has it.
@@ -24,10 +23,9 @@ OWN = "incremental=trusted"
 
 
 def explained():
-    """The words of a verdict that the page explains, each with its value, or with None where it may have any."""
-    section = PAGE.read_text(encoding="utf-8").partition("\n### The words of a verdict\n")[2]
-    cells = re.findall(r"^\| (`[^|]*) \|", section, re.M)
-    pairs = [word.partition("=") for cell in cells for word in re.findall(r"`([\w-]+=\S*?)`", cell)]
+    """The words of a verdict that the list explains, each with its value, or with None where it may have any."""
+    lines = re.findall(r"^((?:[\w-]+=\S+ +)+)\S", LIST.read_text(encoding="utf-8"), re.M)
+    pairs = [word.partition("=") for line in lines for word in line.split()]
     return {word: None if value in ("N", "SUM") else value for word, _, value in pairs}
 
 
@@ -53,9 +51,9 @@ def word_faults(lines):
     known = explained()
     for word, _, value in {tuple(part.partition("=")) for line in lines for part in line.split() if part != OWN}:
         if word not in known:
-            yield f"the page doesn't explain `{word}={value}`"
+            yield f"the list doesn't explain `{word}={value}`"
         elif known[word] not in (None, value):
-            yield f"the page says `{word}={known[word]}`, and a verdict `{word}={value}`"
+            yield f"the list says `{word}={known[word]}`, and a verdict `{word}={value}`"
 
 
 def crate_faults(crate, text):
