@@ -3,26 +3,31 @@
 
 Rows, names and phrases are those of tests/grammar_rows.py and tests/check_page_rows.py. Where a table says what to
 write instead, each of its lines is two rows: one for the line, and one for what to write instead, whose name ends with
-`-instead`. What the page says of other libraries isn't read.
+`-instead`. In these tables a code without a name is the value of `A`. What the page says of other libraries isn't read.
 """
+
+import re
 
 from check_page_rows import FINDING, check_row
 from grammar_rows import CODE, EXAMPLES, FILE, file_rows, in_order, listed, phrase, phrases, print_rows
 
-# The tables that have no examples, by their header lines.
-NO_EXAMPLES = ["| Tool | Of several files | A variable that exists |"]
-# That of other readers is compared with the page by tests/other_readers.py.
-NO_EXAMPLES += ["| Environment | Line | systemd | docker | kubectl | direnv | godotenv |"]
+# The table that has no examples, by its header line: tests/other_readers.py compares it with the page.
+NO_EXAMPLES = ["| Environment | Line | systemd | docker | kubectl | direnv | godotenv |"]
 
 # The bytes of a step that writes a file, which may have none.
 WRITE = {"an empty file": "", **{pattern: " " + text for pattern, text in FILE.items()}}
 
 
+def with_name(said):
+    """What a line gives, in the words of the grammar. A value alone is that of `A`."""
+    return "`A` is " + said if re.fullmatch("`[^`]*`|empty", said) else said
+
+
 def instead_rows(name, table):
     """What a line gives, and what the text gives that is to be written instead."""
     line = table[-1]
-    here = {**line, "Gives": line["Here"]}
-    instead = {**line, "Line": line["Write instead"], "Gives": line["Then"]}
+    here = {**line, "Gives": with_name(line["Here"])}
+    instead = {**line, "Line": line["Write instead"], "Gives": with_name(line["Then"])}
     return file_rows(name, [here]) + file_rows(name + "-instead", [instead])
 
 
@@ -31,7 +36,7 @@ def warned_rows(name, table):
     line, here, warnings = table[-1].values()
     kinds = phrases(warnings, ", then ", "nothing", FINDING)
     warned = check_row(name + "-warned", "v15", [], phrase(line, FILE), kinds)
-    return file_rows(name, [{"Line": line, "Gives": here}]) + [warned]
+    return file_rows(name, [{"Line": line, "Gives": with_name(here)}]) + [warned]
 
 
 def command_rows(name, table):

@@ -19,6 +19,7 @@ import sys
 
 import export_tools
 from grammar_rows import DOCS, FILE, ITEM, phrase, phrases
+from other_libraries_rows import with_name
 
 TABLE = pathlib.Path(__file__).resolve().parent / "other_readers.tsv"
 PAGE = DOCS / "OTHER_LIBRARIES.md"
@@ -33,7 +34,7 @@ def rows():
 
 def here(said):
     """The pairs that are read here, or None for a fault, as the page says them."""
-    return None if said.startswith("fault") else phrases(said, ", then ", "nothing", ITEM)
+    return None if said.startswith("fault") else phrases(with_name(said), ", then ", "nothing", ITEM)
 
 
 def value_cell(value):
