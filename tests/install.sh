@@ -1,368 +1,232 @@
 #!/usr/bin/env bash
 # Tries install.sh in a copy of the files that it needs, with stand-ins for rt and bindings/build.sh, so that nothing is
-# proved. It checks what is installed and shown, and that bad arguments, failures and signals leave the target as it was;
-# then the same script as an archive has it, where nothing is built.
+# proved, and for install and mv, which can fail or wait: as a clone has it, which builds, and as an archive has it. It
+# sees what is installed and shown, and that bad arguments, failures and signals leave the old files.
 # It takes a few seconds. The last line is `N passed, M failed`.
 set -euo pipefail
 cd "$(dirname "$0")/.."
 umask 022
-temporary=$(mktemp -d)
-trap 'jobs -pr | xargs -r kill; rm -rf "$temporary"' EXIT
-copy=$temporary/copy
-target=$temporary/target
-script=$copy/install.sh
-log=$copy/crates/dotenvy_run/out/install.log
+export ROOM=${ROOM-$(mktemp -d)}
+trap 'jobs -pr | xargs -r kill; rm -rf "$ROOM"' EXIT
+copy=$ROOM/copy target=$ROOM/target archive=$ROOM/archive log=$ROOM/copy/crates/dotenvy_run/out/install.log
 names=(dotenvy_run dotenvy_check dotenvy_edit dotenvy_export dotenvy_exec)
-passed=0
-failed=0
+# Each file that is installed, and a link.
+files=(bin/dotenvy_{run,check,edit,export,exec} include/dotenvy.h lib/libdotenvy.{a,so,so.1} lib/pkgconfig/dotenvy.pc
+    share/doc/dotenvy/{BUILT,LICENSE,NOTICES} share/man/man1/dotenvy_{run,check,edit,export,exec}.1
+    share/bash-completion/completions/dotenvy_{run,check,edit,export,exec}
+    share/fish/vendor_completions.d/dotenvy_{run,check,edit,export,exec}.fish
+    share/zsh/site-functions/_dotenvy_{run,check,edit,export,exec})
+passed=0 failed=0
 
 # Counts a check: what it is, and the command that ends with status 0 if it holds.
 check() {
-    local what=$1
-    shift
-    if "$@"; then
+    if "${@:2}"; then
         passed=$((passed + 1))
-        echo "passed: $what"
+        echo "passed: $1"
     else
         failed=$((failed + 1))
-        echo "FAILED: $what"
+        echo "FAILED: $1"
     fi
 }
 
 # --- The copy, and the commands that it finds ---
 
-# Copies what install.sh needs. The crates are empty, as the stand-in for rt reads none.
 make_copy() {
     local name
-    mkdir -p "$copy/docs" "$copy/crates" "$copy/tests" "$copy/bindings/python"
+    mkdir -p "$copy"/{docs,bindings/python,crates,tests} "$ROOM"/{commands,tools,temporary}
     cp -r install.sh crates.txt LICENSE release bin "$copy"
+    cp crates.txt "$ROOM"
+    cp tests/install.sh "$copy/tests"
     cp -r bindings/c "$copy/bindings"
     cp bindings/python/pyproject.toml "$copy/bindings/python"
-    cp tests/install.sh "$copy/tests"
+    cp docs/dotenvy_*.1 "$copy/docs"
+    (cd "$copy/crates" && sed -n -E 's/( staticlib)?:.*//p' ../crates.txt | xargs mkdir)
     for name in memchr unicode thiserror clap strsim percent_encoding; do
-        mkdir -p "$temporary/kit/rattle/$name"
-        echo "the terms of $name" >"$temporary/kit/rattle/$name/LICENSE"
+        mkdir -p "$ROOM/kit/rattle/$name"
+        echo "the terms of $name" >"$ROOM/kit/rattle/$name/LICENSE"
     done
-    cat >"$copy/bindings/build.sh" <<END
-#!/bin/sh
-cd "$copy/bindings"
-if [ "\$(cat "$temporary/fail_in")" = library ]; then
-    echo 'bindings/build.sh: there is no command objcopy' >&2
-    exit 1
-fi
-mkdir -p out
-echo archive >out/libdotenvy.a
-echo shared >out/libdotenvy.so.1
-END
-    chmod 755 "$copy/bindings/build.sh"
-    sed -n -E 's/( staticlib)?:.*//p' crates.txt | (cd "$copy/crates" && xargs mkdir)
-    for name in "${names[@]}"; do
-        cp "docs/$name.1" "$copy/docs" 2>/dev/null || echo ".TH $name 1" >"$copy/docs/$name.1"
+    ln -s -t "$ROOM/commands" /usr/bin/* /bin/* 2>/dev/null || :
+    rm -f "$ROOM/commands/rt"
+    for name in tools/{rt,install,mv,sleep} copy/bindings/build.sh; do
+        printf '%s\n' "$stand_in" >"$ROOM/$name"
+        chmod 755 "$ROOM/$name"
     done
 }
 
-# Makes the checks as nobody, on the copy.
-check_as_nobody() {
-    mkdir -m 777 "$temporary/more"
-    TMPDIR=$temporary/more "${as_nobody[@]}" "$copy/tests/install.sh"
-}
-
-# Links all commands of PATH into one directory, without rt.
-link_commands() {
-    local folder folders
-    mkdir "$temporary/commands"
-    IFS=: read -ra folders <<<"$PATH"
-    for folder in "${folders[@]}"; do
-        # A name that is there already stays: PATH, too, takes the first one.
-        ln -s -t "$temporary/commands" "$folder"/* 2>/dev/null || :
-    done
-    rm -f "$temporary/commands/rt"
-}
-
-# Makes a stand-in for a command, in a directory with this name: standard input is the script.
-stand_in() {
-    mkdir -p "$temporary/$1"
-    {
-        printf '#!/bin/sh\nPATH=%s TEMPORARY=%s\n' "$temporary/commands" "$temporary"
-        cat
-    } >"$temporary/$1/$2"
-    chmod 755 "$temporary/$1/$2"
-}
-
-make_stand_ins() {
-    # It fails in the crate that the file fail_in names, and waits in the one that wait_in names.
-    stand_in rt rt <<'END'
-case $1 in
-    doc) echo "$TEMPORARY/kit/START-HERE.md" && exit ;;
-    version) echo 'kit of the test' && exit ;;
+# A stand-in takes the name by which it is called. The file `plan` has what one does in place of its work, and a pattern
+# of its name, its words and its folder.
+# shellcheck disable=SC2016 # they expand when it runs
+stand_in='#!/bin/sh
+PATH=$ROOM/commands name=${0##*/} crate=${PWD##*/}
+case $name:$1 in
+    rt:doc) echo "$ROOM/kit/START-HERE.md" && exit ;;
+    rt:version) echo "kit of the test" && exit ;;
+    rt:*) echo "$crate $*" >>"$ROOM/calls" && echo "rt: chose --jobs 4 for $crate" ;;
+    sleep:*) exec sleep 0.1 ;;
 esac
-crate=$(basename "$PWD")
-echo "$crate $*" >>"$TEMPORARY/calls"
-echo "rt: chose --jobs 4 for $crate"
-if [ "$crate" = "$(cat "$TEMPORARY/wait_in")" ]; then
-    echo $$ >"$TEMPORARY/waiting"
-    exec sleep 30
-fi
-if [ "$crate" = "$(cat "$TEMPORARY/slow_in")" ]; then
-    echo 'so far: 3 of 8 functions checked'
-    sleep 0.5
-fi
-if [ "$crate" = "$(cat "$TEMPORARY/fail_in")" ]; then
-    echo 'logic=not-proved'
-    exit 1
-fi
-if [ "$1" = run ]; then
-    mkdir -p out
-    printf '#!/bin/sh\necho new\n' >"out/$crate"
-    chmod 700 "out/$crate"
-fi
-echo 'logic=proved functions=8'
-END
-    stand_in hurried sleep <<'END'
-exec sleep 0.2
-END
-    stand_in full cp <<'END'
-case $* in *man1/dotenvy_run.1*)
-    for file in "$@"; do :; done
-    echo half >"$file"
-    echo "cp: error writing '$file': No space left on device" >&2
-    exit 1
-    ;;
+for last; do :; done
+read -r action pattern <"$ROOM/plan"
+case "$name $* $crate" in $pattern)
+    case $action in
+        fail) echo "$name: Operation not permitted" >&2 && exit 1 ;;
+        fill) mkdir -p "${last%/*}" && echo half >"$last" && echo "$name: No space left on device" >&2 && exit 1 ;;
+        wait) echo $$ >"$ROOM/waiting" && exec sleep 60 ;;
+        pause) "$name" "$@" && echo $$ >"$ROOM/waiting" && exec sleep 0.3 ;;
+        tell) echo "so far: 3 of 8 functions checked" && until grep -q " after " "$ROOM/output"; do sleep 0.1; done ;;
+    esac ;;
 esac
-exec cp "$@"
-END
-    stand_in fixed mv <<'END'
-case $* in *new*/bin/dotenvy_run)
-    echo 'mv: cannot move the program: Operation not permitted' >&2
-    exit 1
-    ;;
-esac
-exec mv "$@"
-END
-    stand_in fixed_last mv <<'END'
-case $* in *new*/bin/dotenvy_exec)
-    echo 'mv: cannot move the last program: Operation not permitted' >&2
-    exit 1
-    ;;
-esac
-exec mv "$@"
-END
-    stand_in slow_copy cp <<'END'
-cp "$@"
-case $* in *man1/dotenvy_run.1*)
-    echo $$ >"$TEMPORARY/waiting"
-    sleep 0.3
-    ;;
-esac
-END
-    stand_in slow_rename mv <<'END'
-mv "$@"
-case $* in */man1/dotenvy_run.1)
-    echo $$ >"$TEMPORARY/waiting"
-    sleep 0.3
-    ;;
-esac
-END
-}
+case $name:$1 in
+    rt:run) mkdir -p out && printf "#!/bin/sh\necho new\n" >"out/$crate" ;;
+    rt:*) ;;
+    build.sh:*) cd "${0%/*}" && mkdir -p out && echo archive >out/libdotenvy.a && echo shared >out/libdotenvy.so.1 ;;
+    *) exec "$name" "$@" ;;
+esac'
 
-# Calls a command with the stand-ins of this directory, with that for rt, and with all commands.
-with() {
-    local ahead=$1
-    shift
-    PATH=$temporary/$ahead:$temporary/rt:$temporary/commands "$@"
-}
-
-without_rt() {
-    PATH=$temporary/commands "$@"
-}
-
-# --- The target ---
-
-empty_target() {
-    rm -rf "$target"
-    mkdir "$target"
-}
-
-# An older program, which can run for long, an older manual page, and a program that is none of ours.
-older_target() {
-    empty_target
-    mkdir -p "$target/bin" "$target/share/man/man1"
-    cp "$(command -v bash)" "$target/bin/dotenvy_run"
-    echo old >"$target/share/man/man1/dotenvy_run.1"
-    echo other >"$target/bin/other"
-}
-
-# The same, and the other program with its page.
-old_target() {
-    older_target
-    echo old >"$target/bin/dotenvy_check"
-    echo old >"$target/share/man/man1/dotenvy_check.1"
-    echo old >"$target/bin/dotenvy_exec"
-}
-
-# What a directory holds: the mode and name of each directory and file; and of a file its number and bytes.
-modes() {
-    find "$1" -mindepth 1 \( -type d -printf '%m %P/\n' -o -printf '%m %P\n' \) | sort
-}
-
-bytes() {
-    find "$1" -type f -exec md5sum {} + | sort
-}
-
-state() {
-    modes "$1"
-    find "$1" -type f -printf '%i %p\n' | sort
-    bytes "$1"
+plan() {
+    echo "$*" >"$ROOM/plan"
 }
 
 # --- What a call does ---
 
-# Calls install.sh with these arguments, and ends with its status. What it prints goes to files.
+# Calls the install.sh of `folder` with these words, and with the commands of `path`. What it prints goes to files. If
+# there is a signal `sent`, it is sent while a stand-in waits, which has to end by it, too.
 call() {
-    : >"$temporary/calls"
-    timeout 60 "$script" "$@" >"$temporary/output" 2>"$temporary/errors"
+    local process status=0
+    rm -f "$ROOM/waiting"
+    : >"$ROOM/calls"
+    # What runs beside a shell ignores SIGINT, unless told otherwise.
+    PATH=$path env --default-signal "$folder/install.sh" "$@" >"$ROOM/output" 2>"$ROOM/errors" &
+    process=$!
+    if [ -n "${sent-}" ]; then
+        until [ -s "$ROOM/waiting" ]; do
+            sleep 0.01
+        done
+        kill -s "$sent" "$process"
+    fi
+    wait "$process" || status=$?
+    [ -z "${sent-}" ] || ! kill -0 "$(cat "$ROOM/waiting")" 2>/dev/null || status=2
+    return "$status"
 }
 
-# Whether the last call printed one line on standard error, with these words.
-said() {
-    [ "$(wc -l <"$temporary/errors")" -eq 1 ] && grep -q '^install\.sh: ' "$temporary/errors" &&
-        grep -qF -- "$1" "$temporary/errors"
+# What the target has: the mode, number, name and link of each file, and of each folder, unless only files count; and
+# the bytes.
+state() {
+    find "$target" -mindepth 1 -printf '%y %m %i %P %l\n' | sed "$([ "$1" = all ] || echo '/^d/d')" | sort
+    bytes
 }
 
-# Whether a call with these arguments ends with status 1 and one line with these words.
+bytes() {
+    (cd "$target" && find . -type f -exec md5sum {} + | sort)
+}
+
+# Whether a call ends with status 1 and these words, and a last line of install.sh: `fails TEXT WORD..`.
 fails() {
-    local words=$1 status=0
-    shift
-    call "$@" || status=$?
-    [ "$status" -eq 1 ] && said "$words"
+    local status=0
+    call "${@:2}" || status=$?
+    [ "$status" -eq 1 ] && grep -qF -- "$1" "$ROOM/errors" && tail -n 1 "$ROOM/errors" | grep -q '^install\.sh: ' &&
+        [ "$(wc -l <"$ROOM/errors")" -le 2 ]
 }
 
-# The same, and the target stays as it is.
+# Whether it also leaves the target as it was: `keeps all|files TEXT WORD..`. While files are copied, folders are made.
+keeps() {
+    local before
+    before=$(state "$1")
+    fails "${@:2}" && [ "$before" = "$(state "$1")" ]
+}
+
+# Whether it also comes before rt is called: nobody waits for a proof before being told.
 refuses() {
-    local before
-    before=$(state "$target")
-    fails "$@" && [ "$before" = "$(state "$target")" ]
+    keeps all "$@" && [ ! -s "$ROOM/calls" ] && [ ! -s "$ROOM/output" ]
 }
 
-# The same, and rt is not called: nobody waits for a proof before being told.
-refuses_at_once() {
-    refuses "$@" && [ ! -s "$temporary/calls" ] && [ ! -s "$temporary/output" ]
-}
-
-# Whether a failed rename leaves the old bytes. Old files may have been put back, as other ones.
-puts_back() {
+# Whether each file is an old one or a new one, after a failure between two renames.
+leaves_whole_files() {
     local before
-    before=$(modes "$target" && bytes "$target")
-    fails "$@" && [ "$before" = "$(modes "$target" && bytes "$target")" ]
+    before=$(bytes)
+    fails "$@" && [ -z "$(comm -13 <(sort -u - "$ROOM/new_bytes" <<<"$before") <(bytes))" ]
 }
 
 prints_usage() {
-    call "$1" && grep -q '^usage: \./install\.sh \[PREFIX\]$' "$temporary/output" && [ ! -s "$temporary/errors" ] &&
-        [ ! -s "$temporary/calls" ]
+    call "$1" && grep -qxF 'usage: ./install.sh [PREFIX]' "$ROOM/output" && [ ! -s "$ROOM/errors" ]
 }
 
-installed() {
+# --- What is installed and shown ---
+
+# Whether a folder has the new files.
+has_new() {
     local name
     for name in "${names[@]}"; do
         # The script is no crate, so the stand-in for rt doesn't make it.
         [ "$name" = dotenvy_exec ] || [ "$("$1/bin/$name")" = new ] || return 1
-        cmp -s "$1/share/man/man1/$name.1" "$copy/docs/$name.1" || return 1
+        cmp "$1/share/man/man1/$name.1" "$copy/docs/$name.1" || return 1
     done
-    cmp -s "$1/bin/dotenvy_exec" "$copy/bin/dotenvy_exec"
+    cmp "$1/bin/dotenvy_exec" "$copy/bin/dotenvy_exec" && [ "$(readlink "$1/lib/libdotenvy.so")" = libdotenvy.so.1 ]
 }
 
-# Each file that is installed, and the link.
-all_files() {
-    local name
-    printf '%s\n' "${names[@]/#/bin/}" include/dotenvy.h lib/libdotenvy.{a,so,so.1} lib/pkgconfig/dotenvy.pc \
-        share/doc/dotenvy/{BUILT,LICENSE,NOTICES} "${names[@]/#/share/bash-completion/completions/}" \
-        "${names[@]/#/share/zsh/site-functions/_}"
-    for name in "${names[@]}"; do
-        printf '%s\n' "share/fish/vendor_completions.d/$name.fish" "share/man/man1/$name.1"
-    done
-}
-
-# Whether a directory holds these files and the directories of their paths, with the right modes, and nothing else.
-holds_them_alone() {
-    diff <(modes "$1") <(
+# Whether a folder has the files, those of the other words, and their folders, all with the right modes, and no more.
+has_only() {
+    local all=("${files[@]}" "${@:2}")
+    diff <(cd "$1" && find . -mindepth 1 -printf '%y %m %P\n' | sort) <(
         {
-            all_files | sed 's|^bin/|755 &|; t; s|^lib/libdotenvy.so$|777 &|; t; s|^|644 |'
-            all_files | sed 's|[^/]*$||' | awk -F / '{ path = ""; for (i = 1; i < NF; i++) print "755 " (path = path $i "/") }'
+            printf '%s\n' "${all[@]}" | sed 's|^bin/|f 755 &|; t; s|^lib/libdotenvy.so$|l 777 &|; t; s|^|f 644 |'
+            printf '%s\n' "${all[@]}" | sed -n ':up; s|/[^/]*$||p; t up' | sed 's|^|d 755 |'
         } | sort -u
     )
 }
 
-holds_other_too() {
-    diff <(cd "$target" && find . ! -type d -printf '%P\n' | sort) <({ all_files && echo bin/other; } | sort)
+says_where() {
+    diff <(sed -n 's/^Installed //p' "$ROOM/output" | sort) <(printf '%s\n' "${files[@]/#/"$1/"}" | sort) &&
+        [ "$(tail -n 1 "$ROOM/output")" = "Installed $1/bin/dotenvy_exec" ]
 }
 
-says_where() {
-    diff <(sed -n 's/^Installed //p' "$temporary/output" | sort) <(all_files | sed "s|^|$1/|" | sort) &&
-        [ "$(tail -n 1 "$temporary/output")" = "Installed $1/bin/dotenvy_exec" ]
+# Calls install.sh, and checks what it makes: `installs WHAT FOLDER OTHERS WORD..`. OTHERS are files that stay.
+installs() {
+    check "$1" call "${@:4}"
+    check "$1: nothing is printed on standard error" test ! -s "$ROOM/errors"
+    check "$1: all files are the new ones" has_new "$2"
+    # shellcheck disable=SC2086 # these are several words, or none
+    check "$1: and no others, all with the right modes" has_only "$2" $3
+    check "$1: the last lines say where they are" says_where "$2"
 }
 
 # Whether the texts of the licences are there, and what was built from what.
-holds_papers() {
-    local folder=$1/share/doc/dotenvy name
-    for name in memchr unicode thiserror clap strsim percent_encoding; do
-        grep -qxF "the terms of $name" "$folder/NOTICES" || return 1
-    done
-    cmp -s "$folder/LICENSE" LICENSE && grep -qxF 'kit of the test' "$folder/BUILT" && grep -q '^commit ' "$folder/BUILT" &&
-        grep -qxF "Version: $(release/version.sh)" "$1/lib/pkgconfig/dotenvy.pc"
+has_papers() {
+    local folder=$1/share/doc/dotenvy
+    diff <(grep '^the terms of' "$folder/NOTICES" | sort) <(cat "$ROOM"/kit/rattle/*/LICENSE | sort) &&
+        cmp "$folder/LICENSE" "$copy/LICENSE" && grep -qxF 'kit of the test' "$folder/BUILT" &&
+        grep -q '^commit ' "$folder/BUILT" &&
+        grep -qxF "Version: $("$copy/release/version.sh")" "$1/lib/pkgconfig/dotenvy.pc"
 }
 
-# The crates that the programs need, and themselves: names are added until the lines of crates.txt add no more.
-needed_crates() {
-    local name found='dotenvy_run dotenvy_check dotenvy_edit dotenvy_export dotenvy_c' before=
-    while [ "$found" != "$before" ]; do
-        before=$found
-        found=$(
-            for name in $found; do
-                echo "$name"
-                sed -n -E "s/^$name( staticlib)?: *//p" "$copy/crates.txt" | tr -s ' ' '\n'
-            done | sort -u | grep -xFf <(sed -n -E 's/( staticlib)?:.*//p' "$copy/crates.txt")
-        )
-    done
-    echo "$found"
+# Prints the crates that the programs and the library need, and these; or those of the words that come too early.
+crates() {
+    python3 - "$copy/crates.txt" "$@" <<'END'
+import re, sys
+lines = dict(re.findall(r"^(\w+)[^:#\n]*:([^#\n]*)", open(sys.argv[1]).read(), re.M))
+needs = {name: [word for word in words.split() if word in lines] for name, words in lines.items()}
+found = ["dotenvy_run", "dotenvy_check", "dotenvy_edit", "dotenvy_export", "dotenvy_c"]
+for name in found:
+    found += [word for word in needs[name] if word not in found]
+shown = sys.argv[2:]
+early = [name for place, name in enumerate(shown) if not set(needs[name]) <= set(shown[:place])]
+print("\n".join(early if shown else sorted(found)))
+END
 }
 
 shown_crates() {
-    sed -n -E 's/^(\w+), [0-9]+ of [0-9]+$/\1/p' "$temporary/output"
-}
-
-# Whether the lines that follow that of the crate say how much of it is checked.
-says_how_far() {
-    awk '/^dotenvy_items, / { getline; found = $0 == "  3 of 8 functions checked after 20 seconds" } END { exit !found }' \
-        "$temporary/output"
-}
-
-shows_each_crate() {
-    diff <(shown_crates | sort) <(needed_crates)
+    sed -n -E 's/^(\w+), [0-9]+ of [0-9]+$/\1/p' "$ROOM/output"
 }
 
 shows_numbers() {
     local count
-    count=$(needed_crates | wc -l)
-    diff <(sed -n -E 's/^\w+, ([0-9]+ of [0-9]+)$/\1/p' "$temporary/output") <(seq -f "%g of $count" "$count")
-}
-
-shows_needs_first() {
-    awk '
-        NR == FNR { place[$1] = NR; next }
-        { sub(/#.*/, ""); sub(/ staticlib/, ""); sub(/:/, "") }
-        $1 in place { for (i = 2; i <= NF; i++) if ($i in place && place[$i] > place[$1]) wrong = 1 }
-        END { exit wrong }
-    ' <(shown_crates) "$copy/crates.txt"
+    count=$(crates | wc -l)
+    diff <(sed -n -E 's/^\w+, ([0-9]+ of [0-9]+)$/\1/p' "$ROOM/output") <(seq -f "%g of $count" "$count")
 }
 
 calls_rt_for_each() {
-    diff "$temporary/calls" <(shown_crates | sed '
-        s/$/ lib/
-        s/^dotenvy_run lib$/dotenvy_run run -- --list/
-        s|^dotenvy_check lib$|dotenvy_check run -- /dev/null|
-        s/^dotenvy_edit lib$/dotenvy_edit run -- --version/
-        s|^dotenvy_export lib$|dotenvy_export run -- docker /dev/null|
-    ')
+    diff "$ROOM/calls" <(shown_crates | sed 's|$| lib|; s|^dotenvy_run lib|dotenvy_run run -- --list|
+        s|^dotenvy_check lib$|dotenvy_check run -- /dev/null|; s|^dotenvy_edit lib|dotenvy_edit run -- --version|
+        s|^dotenvy_export lib$|dotenvy_export run -- docker /dev/null|')
 }
 
 # Whether a text names the log, and the log has what rt printed for each crate that was shown.
@@ -370,268 +234,214 @@ names_log() {
     grep -qF -- "$log" "$1" && diff <(sed -n 's/^rt: chose --jobs 4 for //p' "$log") <(shown_crates)
 }
 
-# --- Signals, and a closed directory ---
+# --- The targets ---
 
-# Calls install.sh, sends it this signal while a command waits, and ends with its status. Both have to end soon.
-signalled() {
-    local signal=$1 script status=0 began=$SECONDS
-    shift
-    rm -f "$temporary/waiting"
-    # What runs beside a shell ignores SIGINT, unless told otherwise.
-    env --default-signal "$copy/install.sh" "$@" >"$temporary/output" 2>"$temporary/errors" &
-    script=$!
-    for _ in $(seq 500); do
-        [ ! -s "$temporary/waiting" ] || break
-        sleep 0.01
-    done
-    kill -s "$signal" "$script"
-    wait "$script" || status=$?
-    if kill -0 "$(cat "$temporary/waiting")" 2>/dev/null || [ $((SECONDS - began)) -gt 20 ]; then
-        status=2
-    fi
-    return "$status"
+empty_target() {
+    rm -rf "$target"
+    mkdir "$target"
 }
 
-stops_at() {
-    local before status=0
-    before=$(state "$target")
-    signalled "$@" || status=$?
-    [ "$status" -eq 1 ] && said 'stopped by a signal; nothing was installed' && [ "$before" = "$(state "$target")" ]
+# An older program, which can run for long, with its page, and a program that is none of ours.
+older_target() {
+    empty_target
+    mkdir -p "$target/bin" "$target/share/man/man1"
+    cp "$(command -v bash)" "$target/bin/dotenvy_run"
+    cp "$(type -P true)" "$target/bin/other"
+    echo old >"$target/share/man/man1/dotenvy_run.1"
 }
 
-is_closed() {
-    local status=0
-    chmod 555 "$target/share/man/man1"
-    refuses_at_once "cannot write in $target/share/man/man1: " "$target" || status=$?
-    chmod 755 "$target/share/man/man1"
-    return "$status"
+# The same, and two more programs, and a page.
+old_target() {
+    older_target
+    echo old | tee "$target"/bin/dotenvy_{check,exec} >"$target/share/man/man1/dotenvy_check.1"
 }
 
 # --- The checks ---
 
-make_copy
-# Root may write everywhere, so a wrong install.sh could spoil the machine.
-as_nobody=(setpriv --reuid=65534 --regid=65534 --clear-groups)
-if [ "$(id -u)" -eq 0 ] && chmod 711 "$temporary" && "${as_nobody[@]}" test -x "$copy/tests/install.sh"; then
-    check_as_nobody
-    exit
-fi
-link_commands
-make_stand_ins
-: >"$temporary/fail_in"
-: >"$temporary/slow_in"
-: >"$temporary/wait_in"
-
 check_arguments() {
+    local no_path='neither an absolute path nor an option'
     old_target
-    check '-h prints the usage' with rt prints_usage -h
-    check '--help prints the usage' with rt prints_usage --help
-    check 'an unknown option is refused' with rt refuses_at_once 'unknown option --prefix=/usr' --prefix=/usr
-    check 'a relative PREFIX is refused' with rt refuses_at_once "PREFIX must be an absolute path" usr
-    check 'an empty PREFIX is refused' with rt refuses_at_once "PREFIX must be an absolute path" ''
-    check 'two arguments are refused' with rt refuses_at_once 'too many arguments' "$target" "$target"
-    DESTDIR=usr check 'a relative DESTDIR is refused' with rt refuses_at_once 'DESTDIR must be an absolute path' "$target"
+    check '-h prints the usage' prints_usage -h
+    check '--help prints the usage' prints_usage --help
+    check 'an unknown option is refused' refuses "$no_path" --prefix=/usr
+    check 'a relative PREFIX is refused' refuses "$no_path" usr
+    check 'an empty PREFIX is refused' refuses "$no_path" ''
+    check 'two arguments are refused' refuses 'too many arguments' "$target" "$target"
+    DESTDIR=usr check 'a relative DESTDIR is refused' refuses 'DESTDIR must be an absolute path' "$target"
 }
 
-check_new() {
-    empty_target
-    check 'an empty directory gets all files' with rt call "$target/"
-    check 'they are those of the repository' installed "$target"
-    check 'it gets nothing else, and the modes are right' holds_them_alone "$target"
-    check 'the licences, the notices and the version are there' holds_papers "$target"
-    check 'nothing is printed on standard error' test ! -s "$temporary/errors"
-    check 'the last lines say where they are' says_where "$target"
-    check 'each crate that a program needs is shown' shows_each_crate
-    check 'the crates are numbered, and counted' shows_numbers
-    check 'each crate is shown after those that it needs' shows_needs_first
-    check 'rt is called for each crate' calls_rt_for_each
-    check 'what rt printed stays in a file, and its path is shown' names_log "$temporary/output"
-
-    empty_target
-    echo dotenvy_items >"$temporary/slow_in"
-    check 'a proof takes long' with hurried call "$target"
-    : >"$temporary/slow_in"
-    check 'meanwhile it is said how far it is' says_how_far
-    empty_target
-    mkdir "$target/a directory"
-    umask 077
-    check 'the umask may be closed, and PREFIX may have a space' with rt call "$target/a directory"
-    umask 022
-    check 'the modes are the same' holds_them_alone "$target/a directory"
-}
-
-# One crate more, on which the crate that was shown first depends.
-check_crates() {
+check_build() {
     local first
+    empty_target
+    installs 'an empty directory gets all files' "$target" '' "$target/"
+    check 'the licences, the notices and the version are there' has_papers "$target"
+    check 'each crate that a program needs is shown' diff <(shown_crates | sort) <(crates)
+    check 'the crates are numbered, and counted' shows_numbers
+    # shellcheck disable=SC2046 # a crate's name is one word
+    check 'each crate is shown after those that it needs' test -z "$(crates $(shown_crates))"
+    check 'rt is called for each crate' calls_rt_for_each
+    check 'what rt printed stays in a file, and its path is shown' names_log "$ROOM/output"
+    bytes >"$ROOM/new_bytes"
+    cp -a "$target" "$archive"
+    cp "$copy/install.sh" "$archive"
+    # One crate more, on which the crate that was shown first depends.
     first=$(shown_crates | head -n 1)
-    cp "$copy/crates.txt" "$temporary/crates.txt"
     mkdir "$copy/crates/one_more"
     sed -i "s/^$first:/one_more:\n& one_more/" "$copy/crates.txt"
-    empty_target
-    check 'crates.txt may have one crate more' with rt call "$target"
-    check 'it is shown as the first one' test "$(shown_crates | head -n 1)" = one_more
+    plan tell '*dotenvy_items'
+    umask 077
+    mkdir -m 755 "$target/a directory & more"
+    installs 'crates.txt may have one crate more, the umask may be closed, and PREFIX may have a space' \
+        "$target/a directory & more" '' -- "$target/a directory & more"
+    umask 022
+    check 'the crate is shown as the first one' test "$(shown_crates | head -n 1)" = one_more
     check 'and it counts' shows_numbers
-    mv "$temporary/crates.txt" "$copy/crates.txt"
+    check 'while a proof takes long, it is said how far it is' \
+        grep -qx '  3 of 8 functions checked after [0-9]*0 seconds' <(grep -A 1 '^dotenvy_items, ' "$ROOM/output")
+    cp "$ROOM/crates.txt" "$copy"
+    plan none
+}
+
+check_failed_builds() {
+    local crate name
+    for crate in dotenvy_lines dotenvy_run dotenvy_checker dotenvy_check; do
+        plan fail "rt * $crate"
+        old_target
+        check "$crate is not proved: older files stay" keeps all "rt failed at $crate, " "$target"
+        check "$crate is the last crate that is shown" test "$(shown_crates | tail -n 1)" = "$crate"
+        check 'the error names the file with what rt printed' names_log "$ROOM/errors"
+        empty_target
+        check "$crate is not proved: an empty directory stays empty" keeps all "rt failed at $crate, " "$target"
+    done
+    old_target
+    plan fail 'build.sh *'
+    check 'the library for C is not built: older files stay' keeps all 'bindings/build.sh failed: ' "$target"
+    plan none
+    for name in dotenvy_{run,check}.1; do
+        mv "$copy/docs/$name" "$ROOM"
+        check "without $name nothing is installed" keeps all "docs/$name" "$target"
+        mv "$ROOM/$name" "$copy/docs"
+    done
+    sed -i '/^dotenvy_check:/d' "$copy/crates.txt"
+    check 'without a line of crates.txt nothing is done' keeps all 'no line for dotenvy_check' "$target"
+    cp "$ROOM/crates.txt" "$copy"
+}
+
+# What is found before the proof.
+check_early() {
+    local name
+    old_target
+    path=$ROOM/commands check 'without rt on PATH nothing is done' refuses 'no command rt on PATH' "$target"
+    check 'PREFIX below a file is refused' refuses "cannot write in $target/bin/other" "$target/bin/other/x"
+    check 'PREFIX below /proc is refused' refuses 'cannot write in /proc' /proc/x
+    chmod 555 "$target/share/man/man1"
+    [ "$(id -u)" -eq 0 ] || check 'a directory that the user may not write in is refused' \
+        refuses "cannot write in $target/share/man/man1" "$target"
+    chmod 755 "$target/share/man/man1"
+    rm -r "$target/share"
+    for name in bin/other nowhere; do
+        ln -sf "$name" "$target/share"
+        check "a link to $name in place of share is refused" refuses "cannot write in $target/share" "$target"
+    done
+    for name in "${names[@]}"; do
+        empty_target
+        mkdir -p "$target/bin/$name"
+        check "a directory in place of $name is refused" refuses 'it is a directory' "$target"
+    done
 }
 
 check_old() {
     local running
     old_target
-    mkfifo "$temporary/pipe"
-    "$target/bin/dotenvy_run" -c "read -r _ <>'$temporary/pipe'" &
+    mkfifo "$ROOM/pipe"
+    "$target/bin/dotenvy_run" -c "read -r _ <>'$ROOM/pipe'" &
     running=$!
-    ln "$target/bin/dotenvy_run" "$temporary/old_program"
-    check 'an older program is replaced while it runs' with rt call "$target"
-    check 'all files are the new ones' installed "$target"
+    ln "$target/bin/dotenvy_run" "$ROOM/old_program"
+    installs 'an older program is replaced while it runs' "$target" bin/other "$target"
     check 'the older program runs on' kill -0 "$running"
-    check 'its bytes are as they were' cmp -s "$temporary/old_program" "$(command -v bash)"
-    check 'other files stay, and nothing else is left' holds_other_too
+    check 'its bytes are as they were' cmp "$ROOM/old_program" "$(command -v bash)"
     kill "$running"
-
     older_target
-    check 'an older program may be there alone' with rt call "$target"
-    check 'all files are there' installed "$target"
-    check 'other files stay' holds_other_too
-
+    installs 'an older program may be there alone' "$target" bin/other "$target"
     old_target
-    check 'a program that is a link is replaced, and the other file stays' with rt replaces_link
-    check 'all files are there' installed "$target"
-
+    ln -sf other "$target/bin/dotenvy_check"
+    installs 'a program that is a link is replaced' "$target" bin/other "$target"
+    check 'and the other file stays' cmp "$target/bin/other" "$(type -P true)"
     old_target
     mv "$target/bin" "$target/programs"
     ln -s programs "$target/bin"
-    check 'bin may be a link to a directory' with rt call "$target"
-    check 'it stays one' test -L "$target/bin" -a -x "$target/programs/dotenvy_run"
+    check 'bin may be a link to a directory' call "$target"
+    check 'it stays one' test -L "$target/bin" -a -x "$target/programs/dotenvy_exec"
 }
 
 check_destdir() {
     empty_target
-    DESTDIR=$target/a/ check 'DESTDIR goes before PREFIX' with rt call /opt/tools
-    check 'all files are there' holds_them_alone "$target/a/opt/tools"
-    DESTDIR=$target/b check 'DESTDIR goes before the default PREFIX' with rt call
-    check 'that is /usr/local' holds_them_alone "$target/b/usr/local"
-    check 'the last lines say where they are' says_where "$target/b/usr/local"
-    DESTDIR=$target/d// check 'DESTDIR may have slashes at its end' with rt call /usr
-    check 'the last lines have one' says_where "$target/d/usr"
-    DESTDIR=$target/c check 'PREFIX may be /' with rt call /
-    check 'all files are in DESTDIR' holds_them_alone "$target/c"
+    DESTDIR=$target/a/ installs 'DESTDIR goes before PREFIX' "$target/a/opt/tools" '' /opt/tools
+    DESTDIR=$target/b installs 'DESTDIR goes before the default PREFIX' "$target/b/usr/local" ''
+    DESTDIR=$target/d// installs 'DESTDIR may have slashes at its end' "$target/d/usr" '' /usr
+    DESTDIR=$target/c installs 'PREFIX may be /' "$target/c" '' /
 }
 
-# What can be found before the proof.
-check_early() {
-    local name
-    old_target
-    check 'without rt on PATH nothing is done' without_rt refuses_at_once 'no command rt on PATH' "$target"
-    mv "$copy/docs" "$temporary/docs"
-    check 'without the manual pages nothing is done' with rt refuses_at_once 'docs/dotenvy_run.1' "$target"
-    mv "$temporary/docs" "$copy/docs"
-    mv "$copy/docs/dotenvy_check.1" "$temporary"
-    check 'without one of them nothing is done' with rt refuses_at_once 'docs/dotenvy_check.1' "$target"
-    mv "$temporary/dotenvy_check.1" "$copy/docs"
-    cp "$copy/crates.txt" "$temporary/crates.txt"
-    sed -i '/^dotenvy_check:/d' "$copy/crates.txt"
-    check 'without a line of crates.txt nothing is done' with rt refuses 'no line for dotenvy_check' "$target"
-    mv "$temporary/crates.txt" "$copy/crates.txt"
-    check 'PREFIX below a file is refused' with rt \
-        refuses_at_once "$target/bin/other is not a directory" "$target/bin/other/x"
-    check 'PREFIX below /proc is refused' with rt refuses_at_once 'cannot write in /proc: ' /proc/x
-    rm -r "$target/share"
-    ln -s bin/other "$target/share"
-    check 'a file in place of share is refused' with rt \
-        refuses_at_once "$target/share is not a directory" "$target"
-    ln -sf nowhere "$target/share"
-    check 'a link to nowhere in place of share is refused' with rt \
-        refuses_at_once "$target/share is not a directory" "$target"
-    for name in "${names[@]}"; do
-        empty_target
-        mkdir -p "$target/bin/$name"
-        check "a directory in place of $name is refused" with rt refuses_at_once 'it is a directory' "$target"
-    done
-    if [ "$(id -u)" -ne 0 ]; then
-        old_target
-        check 'a directory that the user may not write in is refused' with rt is_closed
-    fi
-}
-
-check_failures() {
-    local crate make
-    for crate in dotenvy_lines dotenvy_run dotenvy_checker dotenvy_check; do
-        echo "$crate" >"$temporary/fail_in"
-        old_target
-        check "$crate is not proved: older files stay" with rt refuses "rt failed at $crate, " "$target"
-        check "$crate is the last crate that is shown" test "$(shown_crates | tail -n 1)" = "$crate"
-        check 'the error names the file with what rt printed' names_log "$temporary/errors"
-        empty_target
-        check "$crate is not proved: an empty directory stays empty" with rt refuses "rt failed at $crate, " "$target"
-    done
-    echo library >"$temporary/fail_in"
-    old_target
-    check 'the library for C is not built: older files stay' with rt refuses 'bindings/build.sh failed: ' "$target"
-    : >"$temporary/fail_in"
+check_failed_copies() {
+    local name make
     for make in empty_target older_target old_target; do
+        plan fill 'install *target/*man1/dotenvy_run.1*'
         "$make"
-        check "$make: the disk is full" with full refuses 'No space left on device' "$target"
-        "$make"
-        check "$make: a program cannot be renamed" with fixed puts_back 'Operation not permitted' "$target"
-        "$make"
-        check "$make: the last program cannot be renamed" with fixed_last puts_back 'Operation not permitted' "$target"
+        check "$make: the disk is full" keeps files 'No space left on device' "$target"
+        for name in dotenvy_run dotenvy_exec; do
+            plan fail "mv *bin/$name archive"
+            "$make"
+            check "$make: $name cannot be renamed" leaves_whole_files 'Operation not permitted' "$target"
+        done
     done
+    plan none
+    mv "$archive/lib/libdotenvy.a" "$ROOM"
+    check 'an archive that lacks a file is refused' keeps files 'lib/libdotenvy.a' "$target"
+    mv "$ROOM/libdotenvy.a" "$archive/lib"
 }
 
 check_signals() {
-    local signal make
-    for signal in HUP INT QUIT PIPE TERM; do
+    local sent make stopped='stopped by a signal; nothing was installed'
+    for sent in HUP INT QUIT PIPE TERM; do
         for make in empty_target old_target; do
+            plan wait 'rt * dotenvy_items'
             "$make"
-            echo dotenvy_items >"$temporary/wait_in"
-            check "$make: SIG$signal during the proof" with rt stops_at "$signal" "$target"
-            : >"$temporary/wait_in"
+            folder=./copy check "$make: SIG$sent during the proof" keeps all "$stopped" "$target"
+            plan pause 'install *target/*man1/dotenvy_run.1*'
             "$make"
-            check "$make: SIG$signal after the copies" with slow_copy stops_at "$signal" "$target"
+            check "$make: SIG$sent while files are copied" keeps files "$stopped" "$target"
         done
-        check "SIG$signal between the renames comes too late" with slow_rename signalled "$signal" "$target"
-        check 'all files are the new ones' installed "$target"
+        plan pause 'mv *man1/dotenvy_run.1 archive'
+        check "SIG$sent between the renames comes too late" call "$target"
+        check 'all files are the new ones' has_new "$target"
     done
 }
 
-# An unpacked archive has the files that are installed, and the script beside them.
-check_archive() {
-    local archive=$temporary/archive
-    empty_target
-    with rt call "$target"
-    cp -a "$target" "$archive"
-    cp install.sh "$archive"
-    script=$archive/install.sh
-    old_target
-    check 'an archive is installed without rt' without_rt call "$target"
-    check 'all its files are there' installed "$target"
-    check 'nothing is built' test ! -s "$temporary/calls"
-    check 'other files stay' holds_other_too
-    empty_target
-    DESTDIR=$target check 'an archive can go below DESTDIR' without_rt call /usr
-    check 'all its files are there, with the right modes' holds_them_alone "$target/usr"
-    rm "$archive/lib/libdotenvy.a"
-    old_target
-    check 'an archive that lacks a file is refused' without_rt refuses_at_once \
-        'lib/libdotenvy.a: the archive is not complete' "$target"
-    script=$copy/install.sh
-}
-
-# A program that is a link is replaced, and what it leads to stays.
-replaces_link() {
-    ln -sf other "$target/bin/dotenvy_check"
-    call "$target" && [ "$(cat "$target/bin/other")" = other ] && [ ! -L "$target/bin/dotenvy_check" ]
-}
-
+# Root may write everywhere, so a wrong install.sh could spoil the machine: nobody goes on.
+if [ ! -d "$copy" ]; then
+    make_copy
+    nobody=(setpriv --reuid=65534 --regid=65534 --clear-groups)
+    if [ "$(id -u)" -eq 0 ] && chown -R 65534:65534 "$ROOM" && "${nobody[@]}" test -x "$copy/tests/install.sh"; then
+        "${nobody[@]}" "$copy/tests/install.sh"
+        exit
+    fi
+fi
+export TMPDIR=$ROOM/temporary
+# Somebody may call the script from any folder.
+cd "$ROOM"
+folder=./copy path=$ROOM/tools:$ROOM/commands
+plan none
 check_arguments
-check_new
-check_crates
+check_build
+check_early
+check_failed_builds
+# An unpacked archive has the files that are installed, and the script beside them. It needs no rt.
+folder=./archive path=$ROOM/commands
 check_old
 check_destdir
-check_early
-check_failures
+path=$ROOM/tools:$ROOM/commands
+check_failed_copies
 check_signals
-check_archive
-
+check 'no temporary file is left' test -z "$(ls "$TMPDIR")"
 echo "$passed passed, $failed failed"
 [ "$failed" -eq 0 ]
