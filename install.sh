@@ -7,7 +7,7 @@
 # usage: ./install.sh [PREFIX]
 set -euo pipefail
 cd "$(dirname "$0")"
-# What is installed, but for a link. The programs come last, so that none is there without its manual page.
+# What is installed, except a link. The programs come last, so that none is there without its manual page.
 parts=(
     share/doc/dotenvy/{BUILT,LICENSE,NOTICES} include/dotenvy.h lib/libdotenvy.{a,so.1} lib/pkgconfig/dotenvy.pc
     share/bash-completion/completions/dotenvy_{run,check,edit,export,exec}
@@ -26,7 +26,8 @@ fail() {
 # Ends what still runs, and removes what was not put in its place.
 clean_up() {
     trap '' HUP INT QUIT PIPE TERM
-    jobs -pr | xargs -r kill || :
+    # shellcheck disable=SC2046 # each is a word
+    kill $(jobs -pr) 2>/dev/null || :
     wait
     rm -rf "$room" "${places[@]/%/.$$.new}"
 }
@@ -39,8 +40,7 @@ case ${1-/usr/local} in
 esac
 [[ ${DESTDIR:-/} == /* ]] || fail "DESTDIR must be an absolute path, one that begins with /: '$DESTDIR'"
 target=$(tr -s / <<<"${DESTDIR-}${1-/usr/local}/")
-target=${target%/}
-places=("${parts[@]/#/"$target/"}")
+places=("${parts[@]/#/"$target"}")
 
 # What can be found wrong at once is found before the proof.
 for place in "${places[@]}"; do
@@ -48,7 +48,7 @@ for place in "${places[@]}"; do
     until [ -e "${folder:-/}" ] || [ -L "$folder" ]; do
         folder=${folder%/*}
     done
-    [ -w "$folder/" ] || fail "cannot write in ${folder:-/}, for $place; ./install.sh PREFIX installs elsewhere"
+    [ -w "$folder/" ] || fail "cannot install $place: ${folder:-/} is no directory that you may write in"
     [ ! -d "$place" ] || [ -L "$place" ] || fail "cannot install $place: it is a directory"
 done
 tree=$PWD
@@ -70,11 +70,11 @@ fi
 for part in "${parts[@]}"; do
     mode=644
     [[ $part != bin/* ]] || mode=755
-    install -D -m "$mode" -- "$tree/$part" "$target/$part.$$.new" || fail "cannot copy $part; nothing was installed"
+    install -D -m "$mode" -- "$tree/$part" "$target$part.$$.new" || fail "cannot copy $part; nothing was installed"
 done
 trap '' HUP INT QUIT PIPE TERM
 for place in "${places[@]}"; do
-    mv -fT -- "$place.$$.new" "$place" || fail "cannot replace $place, nor what comes after it"
+    mv -fT -- "$place.$$.new" "$place" || fail "cannot replace $place; other files are new ones"
 done
-ln -sfT libdotenvy.so.1 "$target/lib/libdotenvy.so" || fail "cannot replace $target/lib/libdotenvy.so"
-printf 'Installed %s\n' "$target/lib/libdotenvy.so" "${places[@]}"
+ln -sfT libdotenvy.so.1 "${target}lib/libdotenvy.so" || fail "cannot replace ${target}lib/libdotenvy.so"
+printf 'Installed %s\n' "${target}lib/libdotenvy.so" "${places[@]}"

@@ -329,19 +329,19 @@ check_failed_builds() {
 
 # What is found before the proof.
 check_early() {
-    local name
+    local name no_folder='is no directory that you may write in'
     old_target
     path=$ROOM/commands check 'without rt on PATH nothing is done' refuses 'no command rt on PATH' "$target"
-    check 'PREFIX below a file is refused' refuses "cannot write in $target/bin/other" "$target/bin/other/x"
-    check 'PREFIX below /proc is refused' refuses 'cannot write in /proc' /proc/x
+    check 'PREFIX below a file is refused' refuses "$target/bin/other $no_folder" "$target/bin/other/x"
+    check 'PREFIX below /proc is refused' refuses "/proc $no_folder" /proc/x
     chmod 555 "$target/share/man/man1"
     [ "$(id -u)" -eq 0 ] || check 'a directory that the user may not write in is refused' \
-        refuses "cannot write in $target/share/man/man1" "$target"
+        refuses "$target/share/man/man1 $no_folder" "$target"
     chmod 755 "$target/share/man/man1"
     rm -r "$target/share"
     for name in bin/other nowhere; do
         ln -sf "$name" "$target/share"
-        check "a link to $name in place of share is refused" refuses "cannot write in $target/share" "$target"
+        check "a link to $name in place of share is refused" refuses "$target/share $no_folder" "$target"
     done
     for name in "${names[@]}"; do
         empty_target
