@@ -72,7 +72,7 @@ case "$name $* $crate" in $pattern)
         fill) mkdir -p "${last%/*}" && echo half >"$last" && echo "$name: No space left on device" >&2 && exit 1 ;;
         wait) echo $$ >"$ROOM/waiting" && exec sleep 60 ;;
         pause) "$name" "$@" && echo $$ >"$ROOM/waiting" && exec sleep 0.3 ;;
-        tell) echo "so far: 3 of 8 functions checked" && until grep -q " after " "$ROOM/output"; do sleep 0.1; done ;;
+        tell) echo "so far: 3 of 8 functions checked" && timeout 60 tail -f "$ROOM/output" | grep -qm 1 " after " ;;
     esac ;;
 esac
 case $name:$1 in
@@ -98,13 +98,15 @@ call() {
     PATH=$path env --default-signal "$folder/install.sh" "$@" >"$ROOM/output" 2>"$ROOM/errors" &
     process=$!
     if [ -n "${sent-}" ]; then
-        until [ -s "$ROOM/waiting" ]; do
+        until [ -s "$ROOM/waiting" ] || ! kill -0 "$process" 2>/dev/null; do
             sleep 0.01
         done
         kill -s "$sent" "$process"
     fi
     wait "$process" || status=$?
-    [ -z "${sent-}" ] || ! kill -0 "$(cat "$ROOM/waiting")" 2>/dev/null || status=2
+    if [ -n "${sent-}" ] && { [ ! -s "$ROOM/waiting" ] || kill -0 "$(cat "$ROOM/waiting")" 2>/dev/null; }; then
+        status=2
+    fi
     return "$status"
 }
 
