@@ -61,7 +61,13 @@ PATH=$ROOM/commands name=${0##*/} crate=${PWD##*/}
 case $name:$1 in
     rt:doc) echo "$ROOM/kit/START-HERE.md" && exit ;;
     rt:version) echo "kit of the test" && exit ;;
-    rt:*) echo "$crate $*" >>"$ROOM/calls" && echo "rt: chose --jobs 4 for $crate" ;;
+    rt:*)
+        echo "rt: chose --jobs 4 for $crate"
+        for need in $(sed -n -E "s/^$crate( staticlib)?: *([^#]*).*/\2/p" ../../crates.txt); do
+            [ ! -d "../$need" ] || grep -qx "$need lib" "$ROOM/calls" || { echo "rt: $need is not built" && exit 1; }
+        done
+        echo "$crate $*" >>"$ROOM/calls"
+        ;;
     sleep:*) exec sleep 0.1 ;;
 esac
 for last; do :; done
@@ -110,42 +116,34 @@ call() {
     return "$status"
 }
 
-# What the target has: the mode, number, name and link of each file, and of each folder, unless only files count; and
-# the bytes.
+# What the target has: the bytes of each file; for `files` also mode, number, name and link of each; for `all` these of
+# each folder, too.
 state() {
-    find "$target" -mindepth 1 -printf '%y %m %i %P %l\n' | sed "$([ "$1" = all ] || echo '/^d/d')" | sort
-    bytes
-}
-
-bytes() {
     (cd "$target" && find . -type f -exec md5sum {} + | sort)
+    case $1 in
+        files) find "$target" ! -type d -printf '%m %i %P %l\n' | sort ;;
+        all) find "$target" -printf '%y %m %i %P %l\n' | sort ;;
+    esac
 }
 
-# Whether a call ends with status 1 and these words, and a last line of install.sh: `fails TEXT WORD..`.
-fails() {
-    local status=0
-    call "${@:2}" || status=$?
-    [ "$status" -eq 1 ] && grep -qF -- "$1" "$ROOM/errors" && tail -n 1 "$ROOM/errors" | grep -q '^install\.sh: ' &&
-        [ "$(wc -l <"$ROOM/errors")" -le 2 ]
-}
-
-# Whether it also leaves the target as it was: `keeps all|files TEXT WORD..`. While files are copied, folders are made.
+# Whether a call ends with status 1, these words and a last line of install.sh, and keeps the state of the target:
+# `keeps all|files|whole TEXT WORD..`. For `whole` a file may also be the new one, as a whole installation has it.
 keeps() {
-    local before
+    local before after status=0
     before=$(state "$1")
-    fails "${@:2}" && [ "$before" = "$(state "$1")" ]
+    call "${@:3}" || status=$?
+    after=$(state "$1")
+    if [ "$1" = whole ]; then
+        # What is neither old nor new.
+        after=$(comm -23 - <(sort -u - "$ROOM/new_bytes" <<<"$before") <<<"$after") before=
+    fi
+    [ "$status" -eq 1 ] && grep -qF -- "$2" "$ROOM/errors" && tail -n 1 "$ROOM/errors" | grep -q '^install\.sh: ' &&
+        [ "$(wc -l <"$ROOM/errors")" -le 2 ] && [ "$before" = "$after" ]
 }
 
 # Whether it also comes before rt is called: nobody waits for a proof before being told.
 refuses() {
     keeps all "$@" && [ ! -s "$ROOM/calls" ] && [ ! -s "$ROOM/output" ]
-}
-
-# Whether each file is an old one or a new one, after a failure between two renames.
-leaves_whole_files() {
-    local before
-    before=$(bytes)
-    fails "$@" && [ -z "$(comm -13 <(sort -u - "$ROOM/new_bytes" <<<"$before") <(bytes))" ]
 }
 
 prints_usage() {
@@ -200,29 +198,26 @@ has_papers() {
         grep -qxF "Version: $("$copy/release/version.sh")" "$1/lib/pkgconfig/dotenvy.pc"
 }
 
-# Prints the crates that the programs and the library need, and these; or those of the words that come too early.
-crates() {
-    python3 - "$copy/crates.txt" "$@" <<'END'
-import re, sys
-lines = dict(re.findall(r"^(\w+)[^:#\n]*:([^#\n]*)", open(sys.argv[1]).read(), re.M))
-needs = {name: [word for word in words.split() if word in lines] for name, words in lines.items()}
-found = ["dotenvy_run", "dotenvy_check", "dotenvy_edit", "dotenvy_export", "dotenvy_c"]
-for name in found:
-    found += [word for word in needs[name] if word not in found]
-shown = sys.argv[2:]
-early = [name for place, name in enumerate(shown) if not set(needs[name]) <= set(shown[:place])]
-print("\n".join(early if shown else sorted(found)))
-END
-}
-
 shown_crates() {
     sed -n -E 's/^(\w+), [0-9]+ of [0-9]+$/\1/p' "$ROOM/output"
 }
 
+# Whether the crates are the programs, the library, and all that crates among them need, and no others.
+shows_each_crate() {
+    local crates
+    crates=$(shown_crates)
+    diff <(sort <<<"$crates") <(
+        {
+            printf '%s\n' dotenvy_{run,check,edit,export,c}
+            grep -E "^(${crates//$'\n'/|})( staticlib)?:" "$copy/crates.txt" | sed 's/^[^:]*://; s/#.*//' | tr ' ' '\n'
+        } | sort -u | grep -xFf <(ls "$copy/crates")
+    )
+}
+
 shows_numbers() {
-    local count
-    count=$(crates | wc -l)
-    diff <(sed -n -E 's/^\w+, ([0-9]+ of [0-9]+)$/\1/p' "$ROOM/output") <(seq -f "%g of $count" "$count")
+    diff <(grep -E '^\w+, [0-9]+ of [0-9]+$' "$ROOM/output") <(
+        shown_crates | awk -v count="$(shown_crates | wc -l)" '{ print $0 ", " NR " of " count }'
+    )
 }
 
 calls_rt_for_each() {
@@ -277,13 +272,12 @@ check_build() {
     empty_target
     installs 'an empty directory gets all files' "$target" '' "$target/"
     check 'the licences, the notices and the version are there' has_papers "$target"
-    check 'each crate that a program needs is shown' diff <(shown_crates | sort) <(crates)
+    check 'each crate that a program needs is shown' shows_each_crate
     check 'the crates are numbered, and counted' shows_numbers
-    # shellcheck disable=SC2046 # a crate's name is one word
-    check 'each crate is shown after those that it needs' test -z "$(crates $(shown_crates))"
+    check 'each crate is shown after those that it needs' test -z "$(grep 'is not built' "$log")"
     check 'rt is called for each crate' calls_rt_for_each
     check 'what rt printed stays in a file, and its path is shown' names_log "$ROOM/output"
-    bytes >"$ROOM/new_bytes"
+    state bytes >"$ROOM/new_bytes"
     cp -a "$target" "$archive"
     cp "$copy/install.sh" "$archive"
     # One crate more, on which the crate that was shown first depends.
@@ -393,7 +387,7 @@ check_failed_copies() {
         for name in dotenvy_run dotenvy_exec; do
             plan fail "mv *bin/$name archive"
             "$make"
-            check "$make: $name cannot be renamed" leaves_whole_files 'Operation not permitted' "$target"
+            check "$make: $name cannot be renamed" keeps whole 'Operation not permitted' "$target"
         done
     done
     plan none
