@@ -6,8 +6,16 @@
 set -euo pipefail
 cd "$(dirname "$0")/.."
 umask 022
-export ROOM=${ROOM-$(mktemp -d)}
-trap 'jobs -pr | xargs -r kill; rm -rf "$ROOM"' EXIT
+# The folder of all that is made, which is removed at the end. Where this script calls itself, it is the word.
+made=
+if [ "$#" -eq 0 ]; then
+    made=$(mktemp -d)
+elif [ "$0" != "$1/copy/tests/install.sh" ]; then
+    echo "tests/install.sh: it takes no words" >&2
+    exit 1
+fi
+trap 'jobs -pr | xargs -r kill; rm -rf "$made"' EXIT
+export ROOM=${1-$made}
 copy=$ROOM/copy target=$ROOM/target archive=$ROOM/archive log=$ROOM/copy/crates/dotenvy_run/out/install.log
 names=(dotenvy_run dotenvy_check dotenvy_edit dotenvy_export dotenvy_exec)
 # Each file that is installed, and a link.
@@ -414,11 +422,11 @@ check_signals() {
 }
 
 # Root may write everywhere, so a wrong install.sh could spoil the machine: nobody goes on.
-if [ ! -d "$copy" ]; then
+if [ -n "$made" ]; then
     make_copy
     nobody=(setpriv --reuid=65534 --regid=65534 --clear-groups)
     if [ "$(id -u)" -eq 0 ] && chown -R 65534:65534 "$ROOM" && "${nobody[@]}" test -x "$copy/tests/install.sh"; then
-        "${nobody[@]}" "$copy/tests/install.sh"
+        "${nobody[@]}" "$copy/tests/install.sh" "$ROOM"
         exit
     fi
 fi
