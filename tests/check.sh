@@ -8,50 +8,23 @@
 # shellcheck disable=SC2059 # the names of files in formats of printf are plain
 set -euo pipefail
 cd "$(dirname "$0")/.."
+. tests/lib.sh
 umask 022
-built=$(realpath -m "${1-crates/dotenvy_check/out/dotenvy_check}")
-version=${2-$(release/version.sh)}
-room=$(mktemp -d)
-trap 'jobs -pr | xargs -r kill; rm -rf "$room"' EXIT
-passed=0
-failed=0
-
-if [ ! -x "$built" ]; then
-    echo "FAILED: there is no program $built; rt run in crates/dotenvy_check builds it"
-    echo "0 passed, 1 failed"
-    exit 1
-fi
-cp "$built" "$room/program"
+take_program dotenvy_check "$@"
 # Root may read every file, so root has the checks made as nobody.
-as_nobody=(setpriv --reuid=65534 --regid=65534 --clear-groups)
-if [ "$(id -u)" -eq 0 ] && chmod 711 "$room" && "${as_nobody[@]}" test -x "$room/program"; then
-    cp tests/check.sh "$room"
-    mkdir -m 777 "$room/more" "$room/tests"
-    mv "$room/check.sh" "$room/tests"
-    TMPDIR=$room/more "${as_nobody[@]}" bash "$room/tests/check.sh" "$room/program" "$version"
+if has_nobody; then
+    run_as_nobody tests/lib.sh
     exit
 fi
-program=$room/program
-mkdir "$room/files"
 cd "$room/files"
 
 # Counts a check of the last call: what it is, and the status, standard output and standard error that are right.
 check() {
-    local what=$1
-    if [ "$status" = "$2" ] && printf '%s' "$3" | cmp -s - "$room/output" && printf '%s' "$4" | cmp -s - "$room/errors"; then
-        passed=$((passed + 1))
-        echo "passed: $what"
-    else
-        failed=$((failed + 1))
-        echo "FAILED: $what: status $status"
-        cat "$room/output" "$room/errors"
-    fi
+    holds "$1" ended "${@:2}"
 }
 
-# Calls the program with these words.
-call() {
-    status=0
-    "$program" "$@" >"$room/output" 2>"$room/errors" || status=$?
+show() {
+    show_call
 }
 
 # What is printed of places, each FILE:LINE:COL, by the kind of the finding.
@@ -652,5 +625,4 @@ check_streams
 check_search
 check_outputs
 
-echo "$passed passed, $failed failed"
-[ "$failed" -eq 0 ]
+tell_sums

@@ -11,75 +11,36 @@
 # shellcheck disable=SC2016 # dollars in single quotes belong to files and scripts
 set -euo pipefail
 cd "$(dirname "$0")/.."
+. tests/lib.sh
 umask 022
 export LC_ALL=C
 page=$PWD/docs/EDIT.md
-built=$(realpath -m "${1-crates/dotenvy_edit/out/dotenvy_edit}")
-version=${2-$(release/version.sh)}
-room=$(mktemp -d)
-trap 'rm -rf "$room"' EXIT
-passed=0
-failed=0
-
-if [ ! -x "$built" ]; then
-    echo "FAILED: there is no program $built; rt run in crates/dotenvy_edit builds it"
-    echo "0 passed, 1 failed"
-    exit 1
-fi
-install -m 755 "$built" "$room/program"
+take_program dotenvy_edit "$@"
 # Root may read every file, so root has the checks made as nobody. That somebody else's file keeps its owner, root checks.
-as_nobody=(setpriv --reuid=65534 --regid=65534 --clear-groups)
-if [ "$(id -u)" -eq 0 ] && chmod 711 "$room" && "${as_nobody[@]}" test -x "$room/program"; then
-    cp tests/edit.sh "$room"
-    mkdir -m 777 "$room/more" "$room/tests" "$room/docs"
-    mv "$room/edit.sh" "$room/tests"
-    install -m 644 "$page" "$room/docs"
+if has_nobody; then
     printf 'A=1\n' >"$room/owned.env"
     chmod 640 "$room/owned.env"
     chown 1234:1235 "$room/owned.env"
-    "$room/program" set "$room/owned.env" A 2
-    if [ "$(stat -c '%u:%g %a' "$room/owned.env") $(cat "$room/owned.env")" = '1234:1235 640 A=2' ]; then
-        echo "passed: somebody else's file keeps its owner"
-        kept=1
-    else
-        echo "FAILED: somebody else's file: $(stat -c '%u:%g %a' "$room/owned.env")"
-        kept=0
-    fi
-    TMPDIR=$room/more "${as_nobody[@]}" bash "$room/tests/edit.sh" "$room/program" "$version" >"$room/said" || :
-    sed '$d' "$room/said"
-    tail -n 1 "$room/said" | awk -v kept="$kept" '{ printf "%d passed, %d failed\n", $1 + kept, $3 + 1 - kept }'
-    grep -q '^[0-9]* passed, 0 failed$' <(tail -n 1 "$room/said") && [ "$kept" -eq 1 ]
+    "$program" set "$room/owned.env" A 2
+    found="$(stat -c '%u:%g %a' "$room/owned.env") $(cat "$room/owned.env")"
+    check "somebody else's file keeps its owner" test "$found" = '1234:1235 640 A=2'
+    count run_as_nobody tests/lib.sh docs/EDIT.md
+    tell_sums
     exit
 fi
-program=$room/program
-mkdir "$room/files"
 cd "$room/files"
 : >"$room/errors"
 nl=$'\n'
 
-# Counts a check: what it is, and the command that ends with status 0 if it holds. What was said is kept.
-holds() {
-    local what=$1
-    shift
+# Counts a check, and keeps what was said.
+check() {
     cat "$room/errors" >>"$room/said"
-    if "$@"; then
-        passed=$((passed + 1))
-        echo "passed: $what"
-    else
-        failed=$((failed + 1))
-        echo "FAILED: $what: status $status"
-        head -c 1000 "$room/output" "$room/errors" f.env || :
-    fi
+    holds "$@"
 }
 
-# Whether a file has exactly this text.
-has() {
-    printf '%s' "$2" | cmp -s - "$1"
-}
-
-# Whether the last call had this status, and wrote this to standard output and to standard error.
-ended() {
-    [ "$status" = "$1" ] && has "$room/output" "$2" && has "$room/errors" "$3"
+show() {
+    echo "    status $status"
+    head -c 1000 "$room/output" "$room/errors" f.env || :
 }
 
 # Makes f.env, alone in its folder, with this text.
@@ -104,16 +65,16 @@ call_with() {
 
 # The last call worked, said this, and made this of the file.
 check_new() {
-    holds "$1" ended 0 '' "${3-}"
-    holds "$1: the file" has f.env "$2"
-    holds "$1: nothing else is there" test "$(ls -A)" = f.env
+    check "$1" ended 0 '' "${3-}"
+    check "$1: the file" has f.env "$2"
+    check "$1: nothing else is there" test "$(ls -A)" = f.env
 }
 
 # The last call ended with this status and this error, and left the file, which was this.
 check_same() {
-    holds "$1" ended "$2" '' "dotenvy_edit: error: $3$nl"
-    holds "$1: the file is as it was" has f.env "$4"
-    holds "$1: nothing else is there" test "$(ls -A)" = f.env
+    check "$1" ended "$2" '' "dotenvy_edit: error: $3$nl"
+    check "$1: the file is as it was" has f.env "$4"
+    check "$1: nothing else is there" test "$(ls -A)" = f.env
 }
 
 # Warnings.
@@ -132,7 +93,7 @@ file "$old"
 call set f.env PORT 8080
 check_new 'a value is set' "${old/80/8080}"
 call get f.env PORT
-holds 'and is read' ended 0 "8080$nl" ''
+check 'and is read' ended 0 "8080$nl" ''
 file "$old"
 call set f.env MOTTO 'three good words'
 check_new 'a line with a fault is mended' "${old/two words/\'three good words\'}"
@@ -172,23 +133,23 @@ check_same 'a value has a NUL' 1 'A: the value has a NUL' "A=1$nl"
 old="A=1${nl}B=\"\$A \${C}.\"${nl}A=2${nl}C=two words${nl}D=4$nl"
 file "$old"
 call get f.env A
-holds 'the first declaration counts' ended 0 "1$nl" ''
+check 'the first declaration counts' ended 0 "1$nl" ''
 call get f.env B
-holds 'names are replaced' ended 0 "1 .$nl" ''
+check 'names are replaced' ended 0 "1 .$nl" ''
 C=3 call get f.env B
-holds 'the environment makes no difference' ended 0 "1 .$nl" ''
+check 'the environment makes no difference' ended 0 "1 .$nl" ''
 call get f.env D
 check_same 'a load stops before the name' 1 'f.env:4: a load stops at this line, before D' "$old"
 file "A='x\\$nl'$nl"
 call get f.env A
-holds 'a value has its line feed' ended 0 "x\\$nl$nl" ''
+check 'a value has its line feed' ended 0 "x\\$nl$nl" ''
 call get f.env B
 check_same 'a name is not there' 1 'f.env: B is not in this file' "A='x\\$nl'$nl"
 file $'A_1=a\nA=b\nB=$A_1\n'
 call get f.env B
-holds 'the first dialect' ended 0 "b_1$nl" ''
+check 'the first dialect' ended 0 "b_1$nl" ''
 call get --next f.env B
-holds 'the second dialect' ended 0 "a$nl" ''
+check 'the second dialect' ended 0 "a$nl" ''
 
 # What is refused.
 
@@ -273,30 +234,30 @@ check_diff() {
     file "$text"
     call "$@" --dry-run
     cp f.env "$room/before"
-    holds "$what: it could be done" test "$status" -eq 0
-    holds "$what: no file is written" has f.env "$text"
+    check "$what: it could be done" test "$status" -eq 0
+    check "$what: no file is written" has f.env "$text"
     cp "$room/output" "$room/diff"
-    holds "$what: patch makes the new file" patch_from "$@"
+    check "$what: patch makes the new file" patch_from "$@"
     cp "$room/diff" "$room/output"
     cp "$room/before" "$room/patched"
 }
 
 check_diff 'a line in the middle' "$(printf '%s=1\n' A B C D E F G H I J)$nl" set f.env E 2
-holds 'it is as diff prints it' is_as_diff
+check 'it is as diff prints it' is_as_diff
 check_diff 'the first line' "$(printf '%s=1\n' A B C D E)$nl" set f.env A 2
-holds 'it is as diff prints it' is_as_diff
+check 'it is as diff prints it' is_as_diff
 check_diff 'the last line' "$(printf '%s=1\n' A B C D E)$nl" set f.env E 2
-holds 'it is as diff prints it' is_as_diff
+check 'it is as diff prints it' is_as_diff
 check_diff 'a line more' "A=1$nl" set f.env B 2
-holds 'it is as diff prints it' is_as_diff
+check 'it is as diff prints it' is_as_diff
 check_diff 'a line less' "A=1$nl" unset f.env A
-holds 'it is as diff prints it' is_as_diff
+check 'it is as diff prints it' is_as_diff
 check_diff 'a line without its end' 'A=1' set f.env A 2
-holds 'it is as diff prints it' is_as_diff
+check 'it is as diff prints it' is_as_diff
 check_diff 'a line that gets its end' 'B=1' set f.env A 2
-holds 'it is as diff prints it' is_as_diff
+check 'it is as diff prints it' is_as_diff
 check_diff 'an empty file' '' set f.env A 2
-holds 'it is as diff prints it' is_as_diff
+check 'it is as diff prints it' is_as_diff
 check_diff 'several lines' "$(printf '%s=1\n' A B C D A E F A G H I J K)$nl" set f.env A 2
 check_diff 'lines with carriage returns' $'A=1\r\nB=2\r\n' set f.env A 2
 check_diff 'bytes that are no text' $'# \xe9\nA=1\n' set f.env A 2
@@ -304,10 +265,10 @@ file "A=1$nl"
 call set f.env A 1 --dry-run
 check_new 'nothing would change' "A=1$nl"
 call set f.env A --dry-run 2
-holds 'a difference is printed' ended 0 "--- f.env$nl+++ f.env$nl@@ -1 +1 @@$nl-A=1$nl+A=2$nl" ''
+check 'a difference is printed' ended 0 "--- f.env$nl+++ f.env$nl@@ -1 +1 @@$nl-A=1$nl+A=2$nl" ''
 call set --create --dry-run new.env A 2
-holds 'a file would be made' ended 0 "--- /dev/null$nl+++ new.env$nl@@ -0,0 +1 @@$nl+A=2$nl" ''
-holds 'and is not' test ! -e new.env
+check 'a file would be made' ended 0 "--- /dev/null$nl+++ new.env$nl@@ -0,0 +1 @@$nl+A=2$nl" ''
+check 'and is not' test ! -e new.env
 
 # Files.
 
@@ -316,41 +277,41 @@ chmod 600 f.env
 inode=$(stat -c %i f.env)
 call set f.env A 1
 check_new 'the same value again' "A=1$nl"
-holds 'no file is written' test "$(stat -c %i f.env)" = "$inode"
+check 'no file is written' test "$(stat -c %i f.env)" = "$inode"
 call set f.env A 2
-holds 'the permissions are kept' test "$(stat -c %a f.env)" = 600
+check 'the permissions are kept' test "$(stat -c %a f.env)" = 600
 file "A=1$nl"
 chmod 4755 f.env
 call set f.env A 2
-holds 'all of them' test "$(stat -c %a f.env)" = 4755
+check 'all of them' test "$(stat -c %a f.env)" = 4755
 file "A=1$nl"
 printf 'other' >f.env.dotenvy_edit-0
 call set f.env A 2
-holds "another call's file" has f.env "A=2$nl"
-holds 'is left as it is' has f.env.dotenvy_edit-0 other
+check "another call's file" has f.env "A=2$nl"
+check 'is left as it is' has f.env.dotenvy_edit-0 other
 touch f.env.dotenvy_edit-{1..999}
 call set f.env A 3
-holds 'all names for a new file are taken' ended 2 '' \
+check 'all names for a new file are taken' ended 2 '' \
     "dotenvy_edit: error: f.env: no new file can be made beside it: all names for a new file are taken$nl"
-holds 'the file is as it was' has f.env "A=2$nl"
+check 'the file is as it was' has f.env "A=2$nl"
 rm f.env.dotenvy_edit-999
 call set f.env A 3
-holds 'the last of them is free' has f.env "A=3$nl"
+check 'the last of them is free' has f.env "A=3$nl"
 file "A=1$nl"
 mkdir sub
 ln -s ../f.env sub/link.env
 ln f.env hard.env
 call set sub/link.env A 2
-holds 'a link is followed' has f.env "A=2$nl"
-holds 'and stays' test -L sub/link.env
-holds 'a hard link keeps the old file' has hard.env "A=1$nl"
+check 'a link is followed' has f.env "A=2$nl"
+check 'and stays' test -L sub/link.env
+check 'a hard link keeps the old file' has hard.env "A=1$nl"
 file "A=1$nl"
 call set --create new.env A 2
-holds 'a file is made' has new.env "A=2$nl"
-holds 'which only its owner reads' test "$(stat -c %a new.env)" = 600
+check 'a file is made' has new.env "A=2$nl"
+check 'which only its owner reads' test "$(stat -c %a new.env)" = 600
 mkdir sub
 call set --create sub/new.env A 2
-holds 'in a folder' has sub/new.env "A=2$nl"
+check 'in a folder' has sub/new.env "A=2$nl"
 rm -r new.env sub
 call set new.env A 2
 check_same 'a file is absent' 2 'new.env: No such file or directory (os error 2)' "A=1$nl"
@@ -370,28 +331,28 @@ call get $'no\nfile' A
 check_same 'a name of two lines' 2 'no\nfile: No such file or directory (os error 2)' "A=1$nl"
 ln -s nowhere dangling.env
 call set --create dangling.env A 2
-holds 'a link that leads nowhere' ended 2 '' "dotenvy_edit: error: dangling.env: No such file or directory (os error 2)$nl"
-holds 'stays' test -L dangling.env -a ! -e nowhere
+check 'a link that leads nowhere' ended 2 '' "dotenvy_edit: error: dangling.env: No such file or directory (os error 2)$nl"
+check 'stays' test -L dangling.env -a ! -e nowhere
 rm dangling.env
 mkfifo fifo
 call set fifo A 2
-holds 'a FIFO' ended 2 '' "dotenvy_edit: error: fifo: it is no regular file$nl"
+check 'a FIFO' ended 2 '' "dotenvy_edit: error: fifo: it is no regular file$nl"
 rm fifo
 chmod 0 f.env
 call set f.env A 2
-holds 'a file that may not be read' ended 2 '' "dotenvy_edit: error: f.env: Permission denied (os error 13)$nl"
+check 'a file that may not be read' ended 2 '' "dotenvy_edit: error: f.env: Permission denied (os error 13)$nl"
 chmod 644 f.env
 mkdir closed
 printf 'A=1\n' >closed/f.env
 chmod 555 closed
 call set closed/f.env A 2
-holds 'a folder that may not be written' ended 2 '' \
+check 'a folder that may not be written' ended 2 '' \
     "dotenvy_edit: error: closed/f.env: no new file can be made beside it: Permission denied (os error 13)$nl"
-holds 'the file is as it was' has closed/f.env "A=1$nl"
+check 'the file is as it was' has closed/f.env "A=1$nl"
 call set closed/f.env A 1
-holds 'nothing has to be written' ended 0 '' ''
+check 'nothing has to be written' ended 0 '' ''
 call get closed/f.env A
-holds 'it can be read' ended 0 "1$nl" ''
+check 'it can be read' ended 0 "1$nl" ''
 chmod 755 closed
 
 # Words.
@@ -421,8 +382,8 @@ check_refused 'an unknown short option' "unknown option '-x'" set f.env A 2 -x
 check_refused 'a value of an option' "unexpected value in '--next=yes'" set --next=yes f.env A 2
 file "A=1$nl"
 call set f.env A -hello
-holds 'letters after one -: the first one asks for help' grep -q '^Usage: dotenvy_edit set ' "$room/output"
-holds 'and nothing is set' has f.env "A=1$nl"
+check 'letters after one -: the first one asks for help' grep -q '^Usage: dotenvy_edit set ' "$room/output"
+check 'and nothing is set' has f.env "A=1$nl"
 for value in - -hello -q --next; do
     call_with "$value" set --exact f.env A
     check_new "any value comes from standard input: $value" "A=$value$nl"
@@ -431,23 +392,23 @@ file "A=1$nl"
 call set f.env A $'\xff'
 check_same 'a word is no text' 2 'a word of the command line is not UTF-8' "A=1$nl"
 call --version set f.env A 2
-holds 'the version' ended 0 "dotenvy_edit $version$nl" ''
+check 'the version' ended 0 "dotenvy_edit $version$nl" ''
 call -V
-holds 'the version' ended 0 "dotenvy_edit $version$nl" ''
+check 'the version' ended 0 "dotenvy_edit $version$nl" ''
 call set --help
-holds 'help' grep -q '^Usage: dotenvy_edit set ' "$room/output"
-holds 'a line of it has at most 80 characters' test "$(wc -L <"$room/output")" -le 80
+check 'help' grep -q '^Usage: dotenvy_edit set ' "$room/output"
+check 'a line of it has at most 80 characters' test "$(wc -L <"$room/output")" -le 80
 status=0
 "$program" get f.env A >/dev/full 2>"$room/errors" || status=$?
 : >"$room/output"
-holds 'standard output is full' ended 2 '' "dotenvy_edit: error: standard output: No space left on device (os error 28)$nl"
+check 'standard output is full' ended 2 '' "dotenvy_edit: error: standard output: No space left on device (os error 28)$nl"
 status=0
 "$program" set f.env A 2 2>&- >"$room/output" || status=$?
 : >"$room/errors"
-holds 'standard error is closed' ended 0 '' ''
+check 'standard error is closed' ended 0 '' ''
 status=0
 "$program" set f.env A <&- 2>"$room/errors" >"$room/output" || status=$?
-holds 'standard input is closed' ended 2 '' "dotenvy_edit: error: standard input: Bad file descriptor (os error 9)$nl"
+check 'standard input is closed' ended 2 '' "dotenvy_edit: error: standard input: Bad file descriptor (os error 9)$nl"
 
 # A long file: of 10 MB a value is set, and names are removed, in less than 5 seconds of the processor, and with no more than
 # three times the file in memory, besides the 6 MB of addresses that are enough for a small file.
@@ -471,20 +432,20 @@ file ''
 seq -f "KEY_%.0f='some value'  # of a line" 260000 >f.env
 length=$(wc -c <f.env)
 call_within $((3 * length / 1024 + 6144)) set f.env A 2
-holds "a file of $length bytes" ended 0 '' ''
-holds 'has a line more' is_last_line f.env A=2 $((length + 4))
+check "a file of $length bytes" ended 0 '' ''
+check 'has a line more' is_last_line f.env A=2 $((length + 4))
 call_within $((3 * length / 1024 + 6144)) set f.env KEY_1 2
-holds 'its first line is changed' ended 0 '' ''
-holds 'and no other' is_last_line f.env A=2 $((length - 5))
+check 'its first line is changed' ended 0 '' ''
+check 'and no other' is_last_line f.env A=2 $((length - 5))
 
 cp f.env "$room/whole"
 call_within $((3 * length / 1024 + 6144)) unset f.env KEY_1
-holds 'a line of it is removed' ended 0 '' ''
-holds 'and no other' is_without KEY_1
+check 'a line of it is removed' ended 0 '' ''
+check 'and no other' is_without KEY_1
 cp "$room/whole" f.env
 call_within $((3 * length / 1024 + 6144)) unset f.env KEY_260000 KEY_1 KEY_130000
-holds 'three lines of it are removed' ended 0 '' ''
-holds 'and no other' is_without 'KEY_260000|KEY_1|KEY_130000'
+check 'three lines of it are removed' ended 0 '' ''
+check 'and no other' is_without 'KEY_260000|KEY_1|KEY_130000'
 cp "$room/whole" f.env
 
 # A value of 2^40 bytes, by 40 lines. It makes no difference to a name before it.
@@ -493,9 +454,9 @@ for line in {1..40}; do
     echo "A$line=\${A$((line - 1))}\${A$((line - 1))}" >>f.env
 done
 call_within 60000 get f.env A40
-holds 'a value is too long for the memory' ended 2 '' "dotenvy_edit: error: out of memory$nl"
+check 'a value is too long for the memory' ended 2 '' "dotenvy_edit: error: out of memory$nl"
 call_within 60000 get f.env A1
-holds 'one before it is not' ended 0 "xx$nl" ''
+check 'one before it is not' ended 0 "xx$nl" ''
 cp "$room/whole" f.env
 
 # With less memory it is told that there is too little, until there is enough.
@@ -515,7 +476,7 @@ is_one_of() {
 for megabytes in 6 8 12 16 20 24 28 32; do
     [ "$(tail -n 1 f.env)" = A=2 ] || break
     call_within $((megabytes * 1024)) set f.env A 3
-    holds "in $megabytes MB" is_one_of
+    check "in $megabytes MB" is_one_of
 done
 
 # The page.
@@ -526,14 +487,14 @@ ln -s "$program" "$room/commands/dotenvy_edit"
 printf '#!/bin/sh\necho secret\n' >"$room/commands/make-password"
 chmod 755 "$room/commands/make-password"
 sed -n 's/^| to [^|]* | `\(.*\)` |$/\1/p' "$page" | sed 's/\\|/|/g' >"$room/page_commands"
-holds 'the page has commands' test "$(wc -l <"$room/page_commands")" -gt 5
+check 'the page has commands' test "$(wc -l <"$room/page_commands")" -gt 5
 while read -r command; do
     file ''
     rm f.env
     printf '%s=1\n' PORT OLD_PORT OLD_HOST DB_URL >service.env
     status=0
     PATH=$room/commands:$PATH bash -o pipefail -c "$command" >"$room/output" 2>"$room/errors" </dev/null || status=$?
-    holds "$command" test "$status" -eq 0 -a ! -s "$room/errors"
+    check "$command" test "$status" -eq 0 -a ! -s "$room/errors"
 done <"$room/page_commands"
 
 # Its texts, as patterns, one a line, each for one REASON. The number of a line and so on are what they can be.
@@ -575,11 +536,10 @@ page_texts() {
 }
 
 page_texts >"$room/patterns"
-holds 'the page has texts' test "$(wc -l <"$room/patterns")" -gt 30
-holds 'each text that is said is one of the page' test -z "$(grep -vxEf "$room/patterns" "$room/said")"
+check 'the page has texts' test "$(wc -l <"$room/patterns")" -gt 30
+check 'each text that is said is one of the page' test -z "$(grep -vxEf "$room/patterns" "$room/said")"
 while read -r pattern; do
-    holds "it is said: $pattern" grep -qxE -- "$pattern" "$room/said"
+    check "it is said: $pattern" grep -qxE -- "$pattern" "$room/said"
 done <"$room/patterns"
 
-echo "$passed passed, $failed failed"
-[ "$failed" -eq 0 ]
+tell_sums

@@ -9,13 +9,10 @@
 # is tried, and a line says so. The last line is `N passed, M failed`.
 set -euo pipefail
 cd "$(dirname "$0")/.."
+. tests/lib.sh
 umask 022
 export LC_ALL=C
 page=$PWD/docs/EDIT.md
-room=$(mktemp -d)
-trap 'rm -rf "$room"' EXIT
-passed=0
-failed=0
 calls=(open openat openat2 read pread64 lseek fstat stat lstat newfstatat statx readlink readlinkat getcwd write pwrite64 writev
     chown fchown fchownat chmod fchmod fchmodat fchmodat2 ftruncate fsync fdatasync rename renameat renameat2 close)
 
@@ -63,28 +60,16 @@ if [ "${1-}" = --stand-in ]; then
 else
     program=("$(realpath -m "${1-crates/dotenvy_edit/out/dotenvy_edit}")")
 fi
-if [ ! -x "${program[0]}" ]; then
-    echo "FAILED: there is no program ${program[0]}; rt run in crates/dotenvy_edit builds it"
-    echo "0 passed, 1 failed"
-    exit 1
-fi
+need_program "${program[0]}" dotenvy_edit
 if ! strace -o /dev/null true 2>"$room/errors"; then
     echo "left out: all of it, as strace doesn't run: $(head -n 1 "$room/errors")"
     echo "0 passed, 0 failed"
     exit 0
 fi
 
-# Counts a check: what it is, and the command that ends with status 0 if it holds.
-check() {
-    local what=$1
-    shift
-    if "$@"; then
-        passed=$((passed + 1))
-    else
-        failed=$((failed + 1))
-        echo "FAILED: $what: status $status, $(head -c 300 "$room/errors")"
-        find "$room/files" -type f -printf '    there is %f, %U:%G %m\n'
-    fi
+show() {
+    echo "    status $status, $(head -c 300 "$room/errors")"
+    find "$room/files" -type f -printf '    there is %f, %U:%G %m\n'
 }
 
 # Puts the old file into an empty folder. Root gives it to somebody else.
@@ -197,5 +182,4 @@ if ! "$is_stand_in"; then
     check 'the next call writes it' is_whole_after_kill
 fi
 
-echo "$passed passed, $failed failed"
-[ "$failed" -eq 0 ]
+tell_sums

@@ -8,39 +8,23 @@
 # shellcheck disable=SC2016 # dollars in single quotes belong to files and to other shells
 set -euo pipefail
 cd "$(dirname "$0")/.."
+. tests/lib.sh
 umask 022
 version=$(release/version.sh)
 folder=${1-crates/dotenvy_export/out}
 [ $# -gt 0 ] || [ -x "$folder/dotenvy_export" ] || folder=$(dirname "$(command -v dotenvy_export || echo "$folder/")")
-room=$(mktemp -d)
-trap 'jobs -pr | xargs -r kill; rm -rf "$room"' EXIT
-passed=0
-failed=0
 shell=
 
-if [ ! -x "$folder/dotenvy_export" ]; then
-    echo "FAILED: there is no program $folder/dotenvy_export; rt run in crates/dotenvy_export builds it"
-    echo "0 passed, 1 failed"
-    exit 1
-fi
+need_program "$folder/dotenvy_export" dotenvy_export
 folder=$(realpath "$folder")
 
 # Counts a check: what it is, and the command that ends with status 0 if it holds.
 check() {
-    local what=$1
-    shift
-    if "$@"; then
-        passed=$((passed + 1))
-        echo "passed: $shell: $what"
-    else
-        failed=$((failed + 1))
-        echo "FAILED: $shell: $what: status $status"
-        head -c 2000 "$room/output" "$room/errors" | tr '\0' '\n'
-    fi
+    holds "$shell: $1" "${@:2}"
 }
 
-left_out() {
-    echo "left out: $1, $2"
+show() {
+    show_call | tr '\0' '\n'
 }
 
 # Runs a command, and keeps its status and what it prints for the checks.
@@ -567,5 +551,4 @@ for name in dash bash busybox zsh ksh93 mksh; do
     check_shell
 done
 
-echo "$passed passed, $failed failed"
-[ "$failed" -eq 0 ]
+tell_sums

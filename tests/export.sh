@@ -8,32 +8,15 @@
 # shellcheck disable=SC2016 # dollars in single quotes belong to files and scripts
 set -euo pipefail
 cd "$(dirname "$0")/.."
+. tests/lib.sh
 umask 022
 export LC_ALL=C
-built=$(realpath -m "${1-crates/dotenvy_export/out/dotenvy_export}")
-version=${2-$(release/version.sh)}
-room=$(mktemp -d)
-trap 'jobs -pr | xargs -r kill; rm -rf "$room"' EXIT
-passed=0
-failed=0
-
-if [ ! -x "$built" ]; then
-    echo "FAILED: there is no program $built; rt run in crates/dotenvy_export builds it"
-    echo "0 passed, 1 failed"
-    exit 1
-fi
-cp "$built" "$room/program"
+take_program dotenvy_export "$@"
 # Root may read every file, so root has the checks made as nobody.
-as_nobody=(setpriv --reuid=65534 --regid=65534 --clear-groups)
-if [ "$(id -u)" -eq 0 ] && chmod 711 "$room" && "${as_nobody[@]}" test -x "$room/program"; then
-    cp tests/export.sh "$room"
-    mkdir -m 777 "$room/more" "$room/tests"
-    mv "$room/export.sh" "$room/tests"
-    TMPDIR=$room/more "${as_nobody[@]}" bash "$room/tests/export.sh" "$room/program" "$version"
+if has_nobody; then
+    run_as_nobody tests/lib.sh
     exit
 fi
-program=$room/program
-mkdir "$room/files"
 cd "$room/files"
 here=$PWD
 nl=$'\n'
@@ -41,22 +24,11 @@ unset A B C OUTER
 
 # Counts a check of the last call: what it is, and the status, standard output and standard error that are right.
 check() {
-    local what=$1
-    if [ "$status" = "$2" ] && printf '%s' "$3" | cmp -s - "$room/output" && printf '%s' "$4" | cmp -s - "$room/errors"; then
-        passed=$((passed + 1))
-        echo "passed: $what"
-    else
-        failed=$((failed + 1))
-        echo "FAILED: $what: status $status"
-        head -c 2000 "$room/output"
-        head -c 2000 "$room/errors"
-    fi
+    holds "$1" ended "${@:2}"
 }
 
-# Calls the program with these words.
-call() {
-    status=0
-    "$program" "$@" >"$room/output" 2>"$room/errors" || status=$?
+show() {
+    show_call
 }
 
 # What the program says: an error, and a name that is left out.
@@ -492,5 +464,4 @@ check_search
 check_outputs
 check_sizes
 
-echo "$passed passed, $failed failed"
-[ "$failed" -eq 0 ]
+tell_sums

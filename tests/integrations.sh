@@ -9,25 +9,9 @@
 # shellcheck disable=SC2016 # dollars in single quotes belong to documents, files and another shell
 set -euo pipefail
 cd "$(dirname "$0")/.."
+. tests/lib.sh
 top=$PWD
 built=$(realpath -m "${1-crates/dotenvy_check/out/dotenvy_check}")
-room=$(mktemp -d)
-trap 'rm -rf "$room"' EXIT
-passed=0
-failed=0
-
-# Counts a check: what it is, and the command that ends with status 0 if it holds.
-check() {
-    local what=$1
-    shift
-    if "$@"; then
-        passed=$((passed + 1))
-        echo "passed: $what"
-    else
-        failed=$((failed + 1))
-        echo "FAILED: $what"
-    fi
-}
 
 # Whether a file has these bytes. The difference is printed.
 has() {
@@ -289,5 +273,4 @@ check 'bash completes a command behind a file' completes_for dotenvy_exec 'sha25
 check 'bash completes a command behind two dashes' completes_for dotenvy_exec 'sha256sum' --strict -- sha256
 check 'bash completes no option of a command' completes_for dotenvy_exec '' -f a.env ls --ig
 
-echo "$passed passed, $failed failed"
-[ "$failed" -eq 0 ]
+tell_sums

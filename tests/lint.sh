@@ -4,27 +4,11 @@
 # It takes some ten seconds, and no proof. The last line is `N passed, M failed`.
 set -euo pipefail
 cd "$(dirname "$0")/.."
-room=$(mktemp -d)
-trap 'rm -rf "$room"' EXIT
-passed=0
-failed=0
+. tests/lib.sh
 scripts_in_shell=()
 scripts_in_python=()
 # What programs read and print in their stored runs: each byte of it is meant.
 recorded=(':!crates/*/data/*' ':!crates/*/args' ':!crates/*/stdin' ':!crates/*/stdout' ':!crates/*/status')
-
-# Counts a check: what it is, and the command that ends with status 0 if it holds.
-check() {
-    local what=$1
-    shift
-    if "$@"; then
-        passed=$((passed + 1))
-        echo "passed: $what"
-    else
-        failed=$((failed + 1))
-        echo "FAILED: $what"
-    fi
-}
 
 # Calls git on this clone, also if another user owns it.
 git_here() {
@@ -83,7 +67,7 @@ if ! git_here ls-files -z >"$room/paths" 2>"$room/errors"; then
 fi
 find_scripts
 # Whatever the user's own settings are.
-export SHELLCHECK_OPTS='--norc --format=gcc'
+export SHELLCHECK_OPTS='--norc --format=gcc --external-sources'
 lint shellcheck "${scripts_in_shell[@]}"
 lint flake8 "${scripts_in_python[@]}"
 check 'each remark that is disabled has its reason beside it' \
@@ -94,5 +78,4 @@ check 'no line has a tab, except in tables of them and in Go' no_line_has $'\t' 
 check 'no line ends in a carriage return' no_line_has $'\r$' "${recorded[@]}"
 check 'each file ends with a line feed' end_with_line_feeds
 
-echo "$passed passed, $failed failed"
-[ "$failed" -eq 0 ]
+tell_sums

@@ -30,7 +30,7 @@ case $#:${1-} in
     ;;
 esac
 
-room=$(mktemp -d)
+. tests/lib.sh
 
 # Ends what still runs, each part with all that it started, and waits until rt has put away its files.
 clean_up() {
@@ -46,43 +46,6 @@ trap clean_up EXIT
 trap 'exit 129' HUP
 trap 'exit 130' INT
 trap 'exit 143' TERM
-passed=0
-failed=0
-
-# Counts a check: what it is, and the command that ends with status 0 where it holds.
-check() {
-    local what=$1
-    shift
-    if "$@"; then
-        passed=$((passed + 1))
-        echo "passed: $what"
-    else
-        failed=$((failed + 1))
-        echo "FAILED: $what"
-    fi
-}
-
-# Runs a test whose last line is `N passed, M failed`, and counts these. Without that line, or with a fault that it does
-# not count, it is one failure. If something failed, all that it printed is shown, except what passed.
-count() {
-    local status=0 failures=1 last
-    "$@" >"$room/said" 2>&1 || status=$?
-    last=$(tail -n 1 "$room/said")
-    if [[ $last =~ ^([0-9]+)' passed, '([0-9]+)' failed'$ ]]; then
-        passed=$((passed + BASH_REMATCH[1]))
-        failures=${BASH_REMATCH[2]}
-    fi
-    if [ "$status" -ne 0 ] && [ "$failures" -eq 0 ]; then
-        failures=1
-    fi
-    failed=$((failed + failures))
-    if [ "$failures" -eq 0 ]; then
-        echo "passed: $*: $last"
-    else
-        grep -v '^passed: ' "$room/said" || :
-        echo "FAILED: $*"
-    fi
-}
 
 # The rows of a file that are played. A row that repeats a text a thousand times, or is very long itself, takes seconds,
 # and is left to the gate. Of the others all are played, or every STEP-th of its kind in the files that take longest.
@@ -211,25 +174,11 @@ play_part() {
     dotenvy_run) check "$name" play_dotenvy_run ;;
     *) check "$name" play data stdout ;;
     esac >"$own/said" 2>&1
-    echo "$passed $failed" >"$own/counts"
+    tell_sums >"$own/sums" || :
     sed "\$s/\$/: its stored run, $((SECONDS - begun)) s/" "$own/said"
 }
 
-# Adds what a part counted. One that was cut off is a failure.
-add_counts() {
-    local more=0 less=1
-    if [ -f "$room/$1/counts" ]; then
-        read -r more less <"$room/$1/counts"
-    else
-        echo "FAILED: $1: it did not end"
-    fi
-    passed=$((passed + more))
-    failed=$((failed + less))
-}
-
-count tests/documents.sh
-count python3 tests/words.py
-count tests/manual_page.sh
+count tests/run.py documents words manual_page
 
 # The rows take longest, so they come first.
 parts=(test_replay)
@@ -255,8 +204,8 @@ for name in "${parts[@]}"; do
 done
 wait
 for name in "${parts[@]}"; do
-    add_counts "$name"
+    # A part that was cut off has no sums.
+    add_sums 0 "$room/$name/sums" || echo "FAILED: $name"
 done
 echo "$SECONDS seconds"
-echo "$passed passed, $failed failed"
-[ "$failed" -eq 0 ]
+tell_sums

@@ -18,6 +18,7 @@
 # shellcheck disable=SC2016 # the shells that they are for replace them
 set -euo pipefail
 cd "$(dirname "$0")/.."
+. tests/lib.sh
 top=$PWD
 page=$top/docs/COMMAND.md
 run=$(realpath -m "${1-crates/dotenvy_run/out}/dotenvy_run")
@@ -25,23 +26,6 @@ checker=$(realpath -m "${1-crates/dotenvy_check/out}/dotenvy_check")
 exporter=$(realpath -m "${1-crates/dotenvy_export/out}/dotenvy_export")
 version=$(sed -n 's/^version = "\(.*\)"/\1/p' bindings/python/pyproject.toml)
 archive=dotenvy-$version-linux-x86_64
-room=$(mktemp -d)
-trap 'jobs -pr | xargs -r kill; rm -rf "$room"' EXIT
-passed=0
-failed=0
-
-# Counts a check: what it is, and the command that ends with status 0 where it holds.
-check() {
-    local what=$1
-    shift
-    if "$@"; then
-        passed=$((passed + 1))
-        echo "passed: $what"
-    else
-        failed=$((failed + 1))
-        echo "FAILED: $what"
-    fi
-}
 
 # Whether a program is installed. If not, a line says what is left out.
 installed() {
@@ -604,5 +588,4 @@ fi
 check_exports
 check_exec
 
-echo "$passed passed, $failed failed"
-[ "$failed" -eq 0 ]
+tell_sums

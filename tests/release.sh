@@ -6,34 +6,7 @@
 set -euo pipefail
 dist=$(realpath -- "$1")
 cd "$(dirname "$0")/.."
-room=$(mktemp -d)
-trap 'rm -rf "$room"' EXIT
-passed=0
-failed=0
-
-# Counts a check: what it is, and the command that ends with status 0 if it holds.
-check() {
-    local what=$1
-    shift
-    if "$@"; then
-        passed=$((passed + 1))
-        echo "passed: $what"
-    else
-        failed=$((failed + 1))
-        echo "FAILED: $what"
-    fi
-}
-
-# Adds what another test counted in its last line, which is in a file.
-add_counts() {
-    if [[ $(tail -n 1 "$1") =~ ^([0-9]+)' passed, '([0-9]+)' failed'$ ]]; then
-        passed=$((passed + BASH_REMATCH[1]))
-        failed=$((failed + BASH_REMATCH[2]))
-    else
-        failed=$((failed + 1))
-        echo "FAILED: it did not end"
-    fi
-}
+. tests/lib.sh
 
 sums_hold() {
     (cd "$dist" && sha256sum --check --quiet SHA256SUMS)
@@ -98,7 +71,7 @@ check_as_user() {
     local home=$room/home status=0
     mkdir -p "$home/dist"
     cp "$dist"/* "$home/dist"
-    cp tests/release_user.sh "$home"
+    cp tests/lib.sh tests/release_user.sh "$home"
     chmod 711 "$room"
     [ "$(id -u)" -ne 0 ] || chown -R 65534:65534 "$home"
     tests/veil.sh "$home" ./release_user.sh >"$room/user" 2>&1 || status=$?
@@ -107,7 +80,7 @@ check_as_user() {
         return
     fi
     cat "$room/user"
-    add_counts "$room/user"
+    add_sums "$status" "$room/user" || echo "FAILED: tests/release_user.sh, with status $status"
 }
 
 # --- From another repository of Rattle ---
@@ -172,5 +145,4 @@ check "pip builds the wheel of the module dotenv" pip_builds_drop_in
 check "the same bytes are packed elsewhere" packs_the_same
 check_as_user
 check_pack
-echo "$passed passed, $failed failed"
-[ "$failed" -eq 0 ]
+tell_sums

@@ -6,21 +6,8 @@
 #
 # usage: release_user.sh    (in a folder that has the release's files, in its folder dist)
 set -uo pipefail
-passed=0
-failed=0
-
-# Counts a check: what it is, and the command that ends with status 0 if it holds.
-check() {
-    local what=$1
-    shift
-    if "$@"; then
-        passed=$((passed + 1))
-        echo "passed: $what"
-    else
-        failed=$((failed + 1))
-        echo "FAILED: $what"
-    fi
-}
+# shellcheck source=tests/lib.sh
+. ./lib.sh
 
 # Whether a command prints this, and ends with this status.
 prints() {
@@ -233,5 +220,4 @@ check_archive
 check_library
 check_wheel
 check_crate
-echo "$passed passed, $failed failed"
-[ "$failed" -eq 0 ]
+tell_sums

@@ -6,50 +6,18 @@
 # The last line is `N passed, M failed`. It needs what bindings/build.sh builds.
 set -uo pipefail
 cd "$(dirname "$0")" || exit
+# shellcheck source=tests/lib.sh
+. ../../tests/lib.sh
 kit=$(dirname "$(rt doc)")
 out=../out
-folder=$(mktemp -d)
-trap 'rm -rf "$folder"' EXIT
 export LC_ALL=C
-passed=0
-failed=0
-
-# Runs a test program, and adds what it counted. If it fails and counts no failure, that is one failure.
-run() {
-    local output status=0 failures=1
-    output=$("$@") || status=$?
-    printf '%s\n' "$output" >&2
-    if [[ ${output##*$'\n'} =~ ^([0-9]+)' passed, '([0-9]+)' failed'$ ]]; then
-        passed=$((passed + BASH_REMATCH[1]))
-        failures=${BASH_REMATCH[2]}
-    fi
-    if [ "$status" -ne 0 ] && [ "$failures" -eq 0 ]; then
-        failures=1
-    fi
-    failed=$((failed + failures))
-    [ "$failures" -eq 0 ] || echo "FAILED: $*, with status $status" >&2
-}
-
-# Counts a check.
-check() {
-    if "${@:2}"; then
-        passed=$((passed + 1))
-    else
-        echo "FAILED: $1" >&2
-        failed=$((failed + 1))
-    fi
-}
-
-left_out() {
-    echo "left out: $1, since $2" >&2
-}
 
 by_toolchain() {
     "$kit/toolchain/bin/clang" -std=c11 -O1 -Wall -Wextra -Werror -nostdinc -I . -I freestanding -c test.c \
-        -o "$folder/test.o" || return
-    if ! "$kit/bin/rattle-link" --target x86_64-unknown-linux-gnu --toolchain "$kit/toolchain" -o "$folder/test" \
-        "$folder/test.o" ../../crates/dotenvy_c/out/libdotenvy_c.a 2>"$folder/linked"; then
-        cat "$folder/linked" >&2
+        -o "$room/test.o" || return
+    if ! "$kit/bin/rattle-link" --target x86_64-unknown-linux-gnu --toolchain "$kit/toolchain" -o "$room/test" \
+        "$room/test.o" ../../crates/dotenvy_c/out/libdotenvy_c.a 2>"$room/linked"; then
+        cat "$room/linked" >&2
         return 1
     fi
 }
@@ -57,13 +25,13 @@ by_toolchain() {
 # Builds the test by cc, with these options more, over the archive with its allocator.
 by_cc() {
     cc -std=c11 -g -Wall -Wextra -Wpedantic -Werror -DSHIPPED -Wl,--wrap=malloc,--wrap=realloc,--wrap=free -I . \
-        "${@:2}" test.c "$out/libdotenvy.a" -o "$folder/$1"
+        "${@:2}" test.c "$out/libdotenvy.a" -o "$room/$1"
 }
 
 # Whether cc builds a program with these options that runs.
 cc_can() {
-    echo 'int main(void) { return 0; }' >"$folder/empty.c"
-    cc "$@" "$folder/empty.c" -o "$folder/empty" 2>"$folder/said" && "$folder/empty" 2>"$folder/said"
+    echo 'int main(void) { return 0; }' >"$room/empty.c"
+    cc "$@" "$room/empty.c" -o "$room/empty" 2>"$room/said" && "$room/empty" 2>"$room/said"
 }
 
 # The example in the header's comment.
@@ -74,27 +42,27 @@ header_example() {
 
 # Whether the example builds, and prints what it says.
 example_runs() {
-    header_example >"$folder/example.c"
-    cc -Wall -Wextra -Werror -I . "$folder/example.c" "$out/libdotenvy.a" -o "$folder/example" &&
-        [ "$("$folder/example")" = $'HOST=localhost\nPORT=9\nURL=http://localhost:9/' ]
+    header_example >"$room/example.c"
+    cc -Wall -Wextra -Werror -I . "$room/example.c" "$out/libdotenvy.a" -o "$room/example" &&
+        [ "$("$room/example")" = $'HOST=localhost\nPORT=9\nURL=http://localhost:9/' ]
 }
 
 test_by_cc() {
     local sanitizers=-fsanitize=address,undefined memcheck
     check "the example of the header runs" example_runs
     check "the test builds with cc" by_cc plain
-    run "$folder/plain"
+    count "$room/plain"
     if cc_can "$sanitizers"; then
         check "the test builds with AddressSanitizer" by_cc sanitized "$sanitizers" -fno-sanitize-recover=all
-        run "$folder/sanitized"
+        count "$room/sanitized"
     else
-        left_out "the test with AddressSanitizer" "cc has none"
+        left_out "the test with AddressSanitizer" "as cc has none"
     fi
     memcheck=(valgrind --quiet --error-exitcode=99 --leak-check=full --show-leak-kinds=all --errors-for-leak-kinds=all)
-    if "${memcheck[@]}" true 2>"$folder/said"; then
-        run "${memcheck[@]}" "$folder/plain"
+    if "${memcheck[@]}" true 2>"$room/said"; then
+        count "${memcheck[@]}" "$room/plain"
     else
-        left_out "the test under valgrind" "it isn't there"
+        left_out "the test under valgrind" "which isn't there"
     fi
 }
 
@@ -119,16 +87,15 @@ has_soname() {
 }
 
 check "the test builds with the toolchain alone" by_toolchain
-run "$folder/test"
-check "the header's structs have the layout of layout.txt" cmp <("$folder/test" layout) ../rust/layout.txt
-if cc --version >"$folder/said" 2>&1; then
+count "$room/test"
+check "the header's structs have the layout of layout.txt" cmp <("$room/test" layout) ../rust/layout.txt
+if cc --version >"$room/said" 2>&1; then
     test_by_cc
 else
-    left_out "the tests by cc" "it isn't there"
+    left_out "the tests by cc" "which isn't there"
 fi
 check "the header declares nine functions" test "$(declared_names | wc -l)" -eq 9
 check "the archive has these names, and no others" diff <(archive_names) <(declared_names)
 check "so has the shared object, with a version" diff <(shared_names) <(declared_names | sed 's/$/@@DOTENVY_1/')
 check "the shared object is libdotenvy.so.1" has_soname
-echo "$passed passed, $failed failed"
-[ "$failed" -eq 0 ]
+tell_sums

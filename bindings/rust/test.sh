@@ -12,11 +12,8 @@ if ! cargo --version >/dev/null 2>&1 || ! cc --version >/dev/null 2>&1; then
     echo "0 passed, 0 failed"
     exit 0
 fi
-room=$(mktemp -d)
-trap 'rm -rf "$room"' EXIT
-passed=0
-failed=0
-status=0
+# shellcheck source=tests/lib.sh
+. ../../tests/lib.sh
 export CARGO_TARGET_DIR=$room/target
 output=$(cargo test --offline --quiet --no-fail-fast --all-features 2>&1) || status=$?
 echo "$output" >&2
@@ -29,37 +26,19 @@ if { [ "$status" -ne 0 ] || [ "$passed" -eq 0 ]; } && [ "$failed" -eq 0 ]; then
 fi
 
 # Counts a command of cargo as one test. Where it fails, what it says is shown.
-check() {
-    local said
-    if said=$(cargo "$@" 2>&1); then
-        passed=$((passed + 1))
-    else
-        failed=$((failed + 1))
-        printf '%s\nFAILED: cargo %s\n' "$said" "$*" >&2
-    fi
+check_cargo() {
+    check "cargo $1" cargo "$@" >"$room/said" 2>&1
+    cat "$room/said"
 }
 
-RUSTDOCFLAGS='-D warnings' check doc --offline --quiet --no-deps --all-features
+RUSTDOCFLAGS='-D warnings' check_cargo doc --offline --quiet --no-deps --all-features
 if cargo clippy --version >/dev/null 2>&1; then
     # What Rust 1.56 doesn't have, unsafe code without a reason, and what lacks documentation.
-    check clippy --offline --quiet --all-features -- -A clippy::all -D missing_docs \
+    check_cargo clippy --offline --quiet --all-features -- -A clippy::all -D missing_docs \
         -D clippy::incompatible_msrv -D clippy::undocumented_unsafe_blocks
 else
     echo "left out: the lints of the Rust crate, which need cargo clippy" >&2
 fi
-
-# Runs a script whose last line has its numbers.
-add() {
-    local last
-    last=$("$@" | tail -n 1)
-    if [[ $last =~ ^([0-9]+)' passed, '([0-9]+)' failed'$ ]]; then
-        passed=$((passed + BASH_REMATCH[1]))
-        failed=$((failed + BASH_REMATCH[2]))
-    else
-        failed=$((failed + 1))
-    fi
-    echo "$1: $last" >&2
-}
 
 # Prints the folder in which the crate should be.
 crate_folder() {
@@ -74,17 +53,16 @@ crate_folder() {
 }
 
 if python3 --version >/dev/null 2>&1; then
-    add ./programs.py
+    count ./programs.py
     crate=$(crate_folder)
     if [ -d "$crate/tests" ]; then
-        add ./programs.py "$crate"
-        add ./crate_tests.py "$crate"
+        count ./programs.py "$crate"
+        count ./crate_tests.py "$crate"
     else
         echo "left out: the tests of the crate dotenvy 0.15.7, which isn't there" >&2
     fi
-    add ./mutants.py
+    count ./mutants.py
 else
     echo "left out: deliberate bugs, and programs that were written for the crate dotenvy 0.15, which need python3" >&2
 fi
-echo "$passed passed, $failed failed"
-[ "$failed" -eq 0 ]
+tell_sums
