@@ -10,16 +10,12 @@ and goes on with the words of their definitions. Words of std are not followed. 
 in an order in which they can be read, and then each contract with the words that it cites.
 """
 
-import functools
-import itertools
-import pathlib
 import re
 import signal
 import sys
 
-from words import blocks, members, text_of, without_generics
+from rattle import TOP, cited, items_of, read_files, source_files
 
-TOP = pathlib.Path(__file__).resolve().parent.parent
 PAGE = TOP / "docs" / "CONTRACTS.md"
 SUMS = re.compile(r"The contracts of these \d+ calls, types and laws cite definitions [^\n]*? lines\.")
 
@@ -28,174 +24,34 @@ SUMS = re.compile(r"The contracts of these \d+ calls, types and laws cite defini
 LIBRARY = ("dotenvy_format", "dotenvy_base", "dotenvy_lines", "dotenvy_items", "dotenvy")
 PROGRAM = ("dotenvy_command",)
 
-WORD = re.compile(r"[^\s(){}\[\],;.:λ∀→×⊎≡≢|↦]+")
-DEFINITION = re.compile(r"(?:abbrev |unfoldable )?pub (?:abbrev |unfoldable )?(record |data )?(\S+)")
-SKIPPED = re.compile(r"pub (?:mod|use)\b")
-IMPORT = re.compile(r"^ *(?:pub |ghost )?use Rattle\.([\w.]+)(?:\.\{([^}]*)\})?(?: as (\w+))?;?$", re.M)
-CLAUSE = re.compile(r"\b(?:requires|ensures)(?: (\w+))? \{")
-
-
-class File:
-    """A file of definitions: its lines, where each definition begins and ends, and what it imports."""
-
-    def __init__(self, path):
-        text = path.read_text(encoding="utf-8")
-        self.lines = text.split("\n")
-        self.imports, self.modules = imports_of(text)
-        self.places, self.owners, self.found = {}, {}, {}
-        matches = [(DEFINITION.match(line), number) for number, line in enumerate(self.lines)]
-        starts = [(found, number) for found, number in matches if found and not SKIPPED.match(found.string)]
-        ends = [number for _, number in starts[1:]] + [len(self.lines)]
-        for (found, start), end in zip(starts, ends):
-            while not self.lines[end - 1].strip() or self.lines[end - 1].startswith("--"):
-                end -= 1
-            self.places[found.group(2)] = (start, end)
-            if found.group(1) == "data ":
-                self.add_cases(found.group(2), start + 1, end)
-
-    def add_cases(self, owner, start, end):
-        """The cases of a `data` lead to it."""
-        for line in self.lines[start:end]:
-            for case in line.partition(" : ")[0].split() if " : " in line else []:
-                self.owners[case] = owner
-
-    def head(self):
-        """The comment at the top."""
-        comment = itertools.takewhile(lambda line: line.startswith("-- "), self.lines)
-        return " ".join(line.removeprefix("-- ") for line in comment)
-
-    def comment(self, start):
-        """The comment over the definition that begins on this line."""
-        above = itertools.takewhile(lambda line: line.startswith("-- "), reversed(self.lines[:start]))
-        return " ".join(line.removeprefix("-- ") for line in reversed(list(above)))
-
-    def cited(self, files, module, name):
-        """The definitions that one of this file cites."""
-        if name not in self.found:
-            start, end = self.places[name]
-            text = "\n".join(self.lines[start:end])
-            self.found[name] = cited(files, text, module, self.imports, self.modules)
-        return self.found[name]
-
 
 class Root:
-    """What the table names: its name there, its file, and its contract."""
+    """What the table names: its name there, its file, its contract, and the imports of the file."""
 
-    def __init__(self, name, file, contract):
-        self.name, self.file, self.contract = name, file, contract
-        self.imports, self.modules = imports_of(text_of(TOP / file))
+    def __init__(self, name, items, contract):
+        self.name, self.contract = name, contract
+        self.file, self.imports, self.modules = items[0].file, items[0].imports, items[0].modules
 
     def cited(self, files):
         """The definitions that the contract cites."""
-        return cited(files, self.contract, None, self.imports, self.modules)
+        return cited(files, self.contract, self)
 
 
-def imports_of(text):
-    """The words that a file imports, each with its module and its name there; and the modules, by their names here."""
-    words, modules = {}, {}
-    for module, listed, short in IMPORT.findall(text):
-        for word in filter(None, (each.strip() for each in listed.split(","))):
-            theirs, _, ours = word.partition(" as ")
-            words[ours or theirs] = (module, theirs)
-        if not listed:
-            modules[short or module.rpartition(".")[2]] = module
-    return words, modules
+def meant(items, name):
+    """The items that a name of the table means: a function that users can call, or what a type or a trait says."""
+    path = name.split("::")
+    calls = [item for item in items if item.path[2:] == path and item.is_function() and (item.is_public or path[1:])]
+    return calls[:1] or [item for item in items if item.path[2:-1] == path and item.is_public]
 
 
-def read_files(top):
-    """All files of definitions of the crates, by their modules."""
-    found = {}
-    for path in sorted((top / "crates").glob("*/specs/**/*.antt")):
-        module = ".".join(path.relative_to(top / "crates").with_suffix("").parts)
-        found[module] = File(path)
-    return found
-
-
-def resolved(files, word, module, imports):
-    """The module and the name of the definition that a word means in a file, if it is one of ours."""
-    module, word = imports.get(word, (module, word))
-    if module and module not in files:
-        # The library re-exports this file of another crate.
-        library, _, name = module.rpartition(".")
-        module = files[library + ".Lib"].modules.get(name) if library + ".Lib" in files else None
-    file = files.get(module)
-    if file is None:
-        return None
-    name = file.owners.get(word, word)
-    if name in file.places:
-        return module, name
-    return resolved(files, name, None, file.imports) if name in file.imports else None
-
-
-def cited(files, text, module, imports, modules):
-    """The definitions that a text cites."""
-    found = {resolved(files, word, module, imports) for word in WORD.findall(text)}
-    for short, word in re.findall(r"(\w+)\.(\w+)", text):
-        if short in modules:
-            found.add(resolved(files, word, modules[short], {}))
-    return found - {None}
-
-
-def clauses(block, wanted=None):
-    """The clauses of a function, or those of them that are wanted."""
-    for found in CLAUSE.finditer(block):
-        end, depth = found.end(), 1
-        while depth:
-            depth += {"{": 1, "}": -1}.get(block[end], 0)
-            end += 1
-        if wanted is None or found.group(1) in wanted:
-            yield block[found.end():end - 1]
-
-
-def owner(block):
-    """The type or the trait whose members a block has, without its parameters: `&mut R` for a reference."""
-    head = re.sub(r"'\w+ ", "", without_generics(block.partition("{")[0]))
-    found = re.match(r"pub trait (\w+)|impl (?:[\w:]+ for )?([&\w ]+?)\s*$", head.partition("\n")[0].strip())
-    return found and (found.group(1) or found.group(2))
-
-
-def is_method(member, name=r"\w+"):
-    """Whether a member of a block is a function with this name that users can call."""
-    return re.match(rf"(pub )?fn {name}\b", member) is not None
-
-
-def own_contracts(block):
-    """What the members of a block say to users: the contracts of its functions, and its own `ghost` lines."""
-    is_shown = block.startswith("pub trait") or " for " in block.partition("\n")[0]
-    for member in members(block):
-        if member.startswith("ghost") and not member.startswith("ghost use"):
-            yield member
-        elif is_method(member) and (is_shown or member.startswith("pub ")):
-            yield from clauses(member)
-
-
-@functools.cache
-def items_of(file):
-    """The items of a source file, without its comments."""
-    return list(blocks(text_of(file)))
-
-
-def contract_in(items, name, wanted):
-    """The contract of a function, a method, a type or a trait in these items of a file, or None if it isn't there."""
-    kind, _, method = name.rpartition("::")
-    if kind:
-        inside = [member for block in items if owner(block) == kind for member in members(block)]
-        functions = [member for member in inside if is_method(member, method)]
-    else:
-        functions = [block for block in items if re.match(rf"pub fn {name}\b", block)]
-    if functions:
-        return "\n".join(clauses(functions[0], wanted))
-    parts = [part for block in items if owner(block) == name for part in own_contracts(block)]
-    return "\n".join(parts) or None
-
-
-def root_of(top, name, wanted):
+def root_of(name, wanted):
     """What the table means by a name. Of a call of the program these clauses are wanted, of one of the library all."""
     for crate in LIBRARY + PROGRAM:
-        for file in sorted((top / "crates" / crate / "src").glob("*.rt")):
-            contract = contract_in(items_of(file), name, wanted if crate in PROGRAM else None)
-            if contract is not None:
-                return Root(name, file.relative_to(top), contract)
+        for file in source_files(crate):
+            found = meant(items_of(file), name)
+            parts = [part for item in found for part in item.contract(wanted if crate in PROGRAM else None)]
+            if parts:
+                return Root(name, found, "\n".join(parts))
     raise SystemExit(f"docs/CONTRACTS.md, The headline: there is no public {name}")
 
 
@@ -211,9 +67,9 @@ def names_of(page):
     return found
 
 
-def roots(top, page):
+def roots(page):
     """The calls, types and laws that the headline's table names, in its order."""
-    return [root_of(top, name, wanted) for name, wanted in names_of(page).items()]
+    return [root_of(name, wanted) for name, wanted in names_of(page).items()]
 
 
 def believed(files, first):
@@ -266,7 +122,7 @@ class Wanted:
             crate, *parts = module.split(".")
             yield f"\ncrates/{crate}/{'/'.join(parts)}.antt\n  {self.files[module].head()}"
             for (start, _), name in sorted(by_file[module]):
-                yield f"    {name}   {self.files[module].comment(start)}".rstrip()
+                yield f"    {name}   {self.files[module].comment(name)}".rstrip()
         for root in self.roots:
             names = sorted({name for _, name in root.cited(self.files)}, key=str.lower)
             yield f"\n{root.name}, {root.file}\n    {', '.join(names) or 'none'}"
@@ -285,7 +141,7 @@ def faults(page, wanted):
 def main():
     """Prints, compares or writes."""
     page = PAGE.read_text(encoding="utf-8")
-    wanted = Wanted(read_files(TOP), roots(TOP, page))
+    wanted = Wanted(read_files(), roots(page))
     if "--write" in sys.argv[1:]:
         PAGE.write_text(SUMS.sub(wanted.sums, page), encoding="utf-8")
     elif "--check" in sys.argv[1:]:

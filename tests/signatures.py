@@ -8,50 +8,30 @@ With --check it prints what differs, and ends with status 1 if anything does. Ge
 clauses are left out: `Environment::len(&self) -> usize`.
 """
 
-import pathlib
 import re
 import signal
 import sys
 
-TOP = pathlib.Path(__file__).resolve().parent.parent
+from rattle import CRATES, TOP, dependencies, items_of, re_exported, source_files
+
 PAGE = TOP / "docs" / "LIBRARY.md"
 LIBRARIES = ["dotenvy", "env_layers"]
 
 
-def crates_below(name, lines):
+def crates_below(name, needs):
     """This crate of the repository and those on which it depends."""
-    found = [name]
-    for below in lines.get(name, []):
-        if below in lines:
-            found += crates_below(below, lines)
-    return found
+    return {name}.union(*(crates_below(below, needs) for below in needs.get(name, []) if below in needs))
 
 
-def dependencies():
-    """What each line of crates.txt says."""
-    lines = [line.split("#")[0].split(":") for line in (TOP / "crates.txt").read_text().split("\n")]
-    return {name.split()[0]: below.split() for name, below in (line for line in lines if len(line) == 2)}
-
-
-def exported(root):
+def exported(library):
     """The public names of a library, each with the module that its users call it by, if it isn't at the root."""
-    module, names = "", {}
-    # Lists in braces that go over several lines are joined first.
-    text = re.sub(r"\{([^{}]*)\}", lambda found: "{" + " ".join(found.group(1).split()) + "}", root.read_text())
-    for line in text.split("\n"):
-        opened = re.match(r"pub mod (\w+) \{", line)
-        used = re.match(r"\s*pub use (?:\w+::)+(?:\{(.*)\}|(\w+));", line)
-        if opened:
-            module = opened.group(1) + "::"
-        elif line == "}":
-            module = ""
-        elif used:
-            for name in re.findall(r"\w+", used.group(1) or used.group(2)):
-                names[name] = module if name not in names else min(module, names[name])
+    names = {}
+    for name, _, module in re_exported(CRATES / library / "src" / "lib.rt"):
+        names[name] = min(names.get(name, "~"), module and module + "::")
     return names
 
 
-def without_generics(text):
+def without_parameters(text):
     """A signature without the parameters in angle brackets that follow its name."""
     name = re.match(r"\w+", text).group()
     rest, depth = text[len(name):], 0
@@ -64,47 +44,23 @@ def without_generics(text):
 
 
 def signature(lines):
-    """The signature that begins on the first of these lines, on one line."""
-    text = ""
-    for line in lines:
-        text += " " + line.strip()
-        end = re.search(r"(?:\s+(?:requires|ensures|where)\b|\s*\{|;)", text)
-        if end:
-            text = text[: end.start()]
-            break
-    text = without_generics(re.sub(r"^.*?\bfn ", "", text))
+    """The signature in these lines, on one line."""
+    text = re.split(r"\s(?:requires|ensures|where)\b|\s*\{", " ".join(line.strip() for line in lines))[0]
+    text = without_parameters(re.sub(r"^.*?\bfn ", "", text).strip())
     text = re.sub(r"([(,] ?)mut (?=\w+[:,)])", r"\1", text.replace("( ", "("))
     return re.sub(r",? \)", ")", text)
-
-
-def public_calls(file, names):
-    """The public calls of a file, free ones and those of a public type or trait: what users write before the name of
-    each, and the lines that begin with it."""
-    owner, is_trait, lines = None, False, file.read_text().split("\n")
-    for place, line in enumerate(lines):
-        opened = re.match(r"impl(?:<.*?>)? (\w+)(?:<.*>)?(?: \{| where|$)", line)
-        trait = re.match(r"pub trait (\w+)", line)
-        if opened or trait:
-            owner, is_trait = (opened or trait).group(1), bool(trait)
-        elif line == "}":
-            owner, is_trait = None, False
-        elif re.match(r"impl\b", line):
-            owner = None
-        elif line.startswith("pub fn ") and re.match(r"pub fn (\w+)", line).group(1) in names:
-            yield names[re.match(r"pub fn (\w+)", line).group(1)], lines[place:]
-        elif owner in names and re.match("    fn " if is_trait else "    pub fn ", line):
-            yield names[owner] + owner + "::", lines[place:]
 
 
 def calls_of_code():
     """Every public call of the libraries: the file in which it is, and its signature."""
     needs = dependencies()
     for library in LIBRARIES:
-        names = exported(TOP / "crates" / library / "src" / "lib.rt")
-        for crate in sorted(set(crates_below(library, needs)) - set(LIBRARIES) | {library}):
-            for file in sorted((TOP / "crates" / crate / "src").rglob("*.rt")):
-                for before, lines in public_calls(file, names):
-                    yield file.relative_to(TOP), before + signature(lines)
+        names = exported(library)
+        for crate in sorted(crates_below(library, needs) - set(LIBRARIES) | {library}):
+            for item in (item for file in source_files(crate) for item in items_of(file)):
+                public, *method = item.path[2:]
+                if item.is_call() and public in names:
+                    yield item.file, names[public] + (public + "::" if method else "") + signature(item.lines)
 
 
 def names_on_page():

@@ -8,6 +8,7 @@ check doesn't see, and ends with status 1 if there is anything.
 import sys
 
 import believed
+import rattle
 
 
 def table_without(page, name):
@@ -31,7 +32,7 @@ def unseen_in_contracts(files, page, all_roots):
     """The definitions of which one can go from a contract unseen."""
     for root in all_roots:
         contract = root.contract
-        words = {word: believed.resolved(files, word, None, root.imports) for word in believed.WORD.findall(contract)}
+        words = {word: rattle.resolved(files, word, None, root.imports) for word in rattle.WORD.findall(contract)}
         for definition in sorted(set(words.values()) - {None}):
             root.contract = " ".join(word for word, meant in words.items() if meant != definition)
             if not list(believed.faults(page, believed.Wanted(files, all_roots))):
@@ -42,7 +43,7 @@ def unseen_in_contracts(files, page, all_roots):
 def main():
     """Tries all on the page as it is."""
     page = believed.PAGE.read_text(encoding="utf-8")
-    files, all_roots = believed.read_files(believed.TOP), believed.roots(believed.TOP, page)
+    files, all_roots = rattle.read_files(), believed.roots(page)
     unseen = list(believed.faults(page, believed.Wanted(files, all_roots)))
     unseen += unseen_in_table(files, page, all_roots)
     unseen += unseen_in_contracts(files, page, all_roots)

@@ -8,101 +8,39 @@ Public is what lib.rt and laws.rt of crates/dotenvy re-export. Nothing is proved
 The last line is `N passed, M failed`.
 """
 
-import pathlib
 import re
 import sys
 
-CRATES = pathlib.Path(__file__).resolve().parent.parent / "crates"
+from rattle import CRATES, WORD, items_of, re_exported, text_of, without_generics
+
 LIBRARY = CRATES / "dotenvy"
-ITEM = re.compile(r"(?:pub(?:\(crate\))? )?(?:ghost|fn|struct|enum|trait|impl|mod|use|type|const)\b")
-FUNCTION = re.compile(r"(pub )?fn (\w+)")
 MODULE = r"Rattle\.dotenvy\w*\.specs\.[\w.]+?"
 
 
-def text_of(path):
-    """The text of a file without its comments."""
-    return re.sub(r"^\s*(//|--).*\n", "", path.read_text(encoding="utf-8"), flags=re.M)
-
-
-def blocks(text):
-    """The items of a file in the layout of rt fmt: an item starts at the margin with one of these words."""
-    block = []
-    for line in text.split("\n"):
-        if ITEM.match(line) and block:
-            yield "\n".join(block)
-            block = []
-        if block or ITEM.match(line):
-            block.append(line)
-    if block:
-        yield "\n".join(block)
-
-
-def members(block):
-    """The items of a trait or an impl."""
-    return list(blocks(re.sub(r"^    ", "", block.partition("\n")[2], flags=re.M)))
-
-
-def clauses(block):
-    """The texts of the `requires` and `ensures` of a function."""
-    for found in re.finditer(r"\b(?:requires|ensures)(?: \w+)? \{", block):
-        start = end = found.end()
-        depth = 1
-        while depth:
-            depth += {"{": 1, "}": -1}.get(block[end], 0)
-            end += 1
-        yield block[start:end]
-
-
-def without_generics(head):
-    """The head of an item without everything between angle brackets."""
-    head = head.replace("->", "")
-    while re.search("<[^<>]*>", head):
-        head = re.sub("<[^<>]*>", "", head)
-    return head
-
-
-def re_exported():
+def public_names():
     """The source files with the items that the library re-exports, and the names of these items."""
     found = {}
     for page in ("lib.rt", "laws.rt"):
-        for path, names in re.findall(r"pub use ([\w:]+)::(\{[^}]*\}|\w+);", text_of(LIBRARY / "src" / page)):
+        for name, path, _ in re_exported(LIBRARY / "src" / page):
             crate, _, module = path.rpartition("::")
             file = CRATES / (crate or "dotenvy") / "src" / (module + ".rt")
-            found.setdefault(file, set()).update(re.findall(r"\w+", names))
+            found.setdefault(file, set()).add(name)
     return found
 
 
-def public_texts(file, public):
-    """The texts of the public contracts of a file, each with the `ghost use` lines that apply to it."""
-    items = list(blocks(text_of(file)))
-    lines = [item for item in items if item.startswith("ghost use")]
-    for item in items:
-        function = FUNCTION.match(item)
-        if function and function.group(1) and function.group(2) in public:
-            yield list(clauses(item)), lines
-        if not re.match(r"pub trait|impl\b", item):
-            continue
-        names = re.findall(r"\w+", without_generics(item.partition("{")[0]))
-        if not public.intersection(names):
-            continue
-        inside = members(item)
-        above = lines + [member for member in inside if member.startswith("ghost use")]
-        for member in inside:
-            function = FUNCTION.match(member)
-            if function and (function.group(1) or names[0] != "impl" or "for" in names):
-                yield list(clauses(member)), above
-            elif re.match(r"ghost (?!use\b|view\b)", member):
-                yield [member], above
+def is_public(item, public):
+    """Whether users meet an item: a public function, or what a block says of a public type or trait."""
+    block = re.findall(r"\w+", without_generics(item.block.partition("{")[0]))
+    is_view = item.lines[0].startswith("ghost view")
+    return item.is_public and not is_view and not public.isdisjoint(block or item.path[2:])
 
 
-def cited(texts, lines):
-    """The words of the library in these texts: the module and the name of each."""
-    for line in lines:
-        found = re.match(r"ghost use (" + MODULE + r")\.\{(.*)\};", line)
-        for name in found.group(2).split(", ") if found else []:
-            word = r"(?<![\w'-])" + re.escape(name.split(" as ")[-1]) + r"(?![\w'-])"
-            if any(re.search(word, text) for text in texts):
-                yield found.group(1), name.split(" as ")[0]
+def cited(item):
+    """The words of the library that the contract of an item cites: the module and the name of each."""
+    for word in set(WORD.findall("\n".join(item.contract()))):
+        module, name = item.imports.get(word, ("", ""))
+        if re.fullmatch(MODULE, "Rattle." + module):
+            yield "Rattle." + module, name
 
 
 def is_word(module):
@@ -121,14 +59,14 @@ def cited_by(module):
 def words():
     """The modules whose words users need, and the laws that contracts cite, each with its module."""
     modules, laws = set(), set()
-    for file, public in re_exported().items():
+    for file, public in public_names().items():
         for name in public:
             if not re.search(rf"^pub (?:fn|struct|enum|trait|type) {name}\b", text_of(file), flags=re.M):
                 raise SystemExit(f"{file}: there is no public {name}")
-        for texts, lines in public_texts(file, public):
-            for module, name in cited(texts, lines):
-                modules.add(module)
-                laws.update({(module, name)} if module.endswith(".Laws") else {})
+        for item in items_of(file):
+            found = set(cited(item)) if is_public(item, public) else set()
+            modules.update(module for module, _ in found)
+            laws.update(word for word in found if word[0].endswith(".Laws"))
         for name in re.findall(r"^pub enum (\w+)", text_of(file), flags=re.M):
             if name in public:
                 modules.add(f"Rattle.{file.parts[-3]}.specs.declared.{file.stem}.{name}.TheVariants")
