@@ -1,17 +1,14 @@
 #!/usr/bin/env -S python3 -B
 """Prints the examples of docs/CHECK.md as rows (docs/ROWS.md), which are crates/test_replay/data/check_page.rows.
 
-The first example is the block labelled `env`, and the block labelled `report` is what is reported of it. Rows, names
-and phrases of the tables are those of tests/grammar_rows.py. Each line of a table of findings is a row of its file. The
-page names their kinds, and tests/report_model.py says where they are and what is printed of each. If it finds others,
-the script ends with status 1.
+The first example is the block labelled `env`, and the block labelled `report` is what is reported of it. Each line of a
+table of findings is a row of its file. The page names their kinds, and tests/report_model.py says where they are and
+what is printed of each. If it finds others, the script ends with status 1.
 """
 
-import re
-import sys
-
 import report_model
-from grammar_rows import CODE, DOCS, FILE, listed, phrase, phrases, print_rows, refuse, written
+from page_rows import CODE, FILE, listed, phrase, phrases, print_rows, refuse, written
+from pages import blocks, text_of
 
 # The tables that have no examples, by their header lines.
 NO_EXAMPLES = ["| Word | Means |", "| Line | Means |", "| Text | Means |", "| Status | When |", "| Text | When |"]
@@ -43,30 +40,26 @@ def check_row(name, dialect, pairs, file, kinds):
     return ["check", name, dialect, ".env", listed(pairs), written(file), "", answer_of(findings, ".env")]
 
 
-def finding_rows(name, table):
+def finding_row(name, table):
     """What is reported of a file."""
     dialect, environment, file, said = table[-1].values()
     pairs = phrases(environment, ", ", "", CODE)
     kinds = phrases(said, ", then ", "none", FINDING)
-    return [check_row(name, DIALECTS[dialect], pairs, phrase(file, FILE), kinds)]
+    return check_row(name, DIALECTS[dialect], pairs, phrase(file, FILE), kinds)
 
 
 def first_example():
     """Prints what is reported of the first example, which has faults and warnings."""
-    page = (DOCS / "CHECK.md").read_text(encoding="utf-8")
-    blocks = [re.search("^```" + label + "\n(.*?)^```", page, re.M | re.S) for label in ("env", "report")]
-    if not all(blocks):
+    found = [list(blocks(text_of("docs/CHECK.md"), label)) for label in ("env", "report")]
+    if not all(found):
         refuse("CHECK.md has no block of an environment file, or none of its report")
-    file, report = [block.group(1) for block in blocks]
+    file, report = [first[0][1] for first in found]
     answer = listed(["faults and warnings", report])
     if answer != answer_of(report_model.report(file.encode()), "service.env"):
         refuse("CHECK.md has another report of its first example than the model")
     print("|".join(["check", "the-first-example", "v15", "service.env", "", written(file), "", answer]))
-    sys.stdout.flush()
 
-
-TABLES = {"| Dialect | Environment | File | Findings |": finding_rows}
 
 if __name__ == "__main__":
-    print_rows("CHECK.md", TABLES, NO_EXAMPLES)
+    print_rows("docs/CHECK.md", {"| Dialect | Environment | File | Findings |": [finding_row]}, NO_EXAMPLES)
     first_example()

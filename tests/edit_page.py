@@ -11,7 +11,8 @@ import shlex
 import sys
 
 import edit_model
-from grammar_rows import DOCS, phrase, refuse
+from page_rows import phrase, refuse
+from pages import DOCS
 
 PAGE = DOCS / "EDIT.md"
 # The tables that have no examples, by their header lines.

@@ -18,7 +18,7 @@ import sys
 
 import report
 import report_model
-from grammar_rows import FILE, phrase
+from page_rows import FILE, phrase
 
 PAGE = report_model.TOP / "docs" / "KINDS.md"
 MANUAL = report_model.TOP / "docs" / "dotenvy_check.1"

@@ -1,71 +1,58 @@
 #!/usr/bin/env -S python3 -B
 """Prints the examples of docs/OTHER_LIBRARIES.md as rows (docs/ROWS.md): crates/test_replay/data/other_libraries.rows.
 
-Rows, names and phrases are those of tests/grammar_rows.py and tests/check_page_rows.py. Where a table says what to
-write instead, each of its lines is two rows: one for the line, and one for what to write instead, whose name ends with
-`-instead`. In these tables a code without a name is the value of `A`. What the page says of other libraries isn't read.
+Where a table says what to write instead, each of its lines is two rows: one for the line, and one for what to write
+instead, whose name ends with `-instead`. What the page says of other libraries isn't read.
 """
 
-import re
-
+import grammar_rows
 from check_page_rows import FINDING, check_row
-from grammar_rows import CODE, EXAMPLES, FILE, file_rows, in_order, listed, phrase, phrases, print_rows
+from examples import CODE, FILE, FILE_ROW, READERS, UNDER, in_order, inside, listed, phrase, phrases, print_rows
 
-# The table that has no examples, by its header line: tests/other_readers.py compares it with the page.
-NO_EXAMPLES = ["| Environment | Line | systemd | docker | kubectl | direnv | godotenv |"]
+# The tables that have no examples, by their header lines.
+NO_EXAMPLES = ["| Tool | Of several files | A variable that exists |"]
+# That of other readers is compared with the page by tests/other_readers.py.
+NO_EXAMPLES += ["| Environment | Line | systemd | docker | kubectl | direnv | godotenv |"]
 
 # The bytes of a step that writes a file, which may have none.
 WRITE = {"an empty file": "", **{pattern: " " + text for pattern, text in FILE.items()}}
 
 
-def with_name(said):
-    """What a line gives, in the words of the grammar. A value alone is that of `A`."""
-    return "`A` is " + said if re.fullmatch("`[^`]*`|empty", said) else said
+def warned_row(name, table):
+    """What dotenvy_check reports of a line."""
+    line, _, warnings = table[-1].values()
+    return check_row(name + "-warned", "v15", [], phrase(line, FILE), phrases(warnings, ", then ", "nothing", FINDING))
 
 
-def instead_rows(name, table):
-    """What a line gives, and what the text gives that is to be written instead."""
-    line = table[-1]
-    here = {**line, "Gives": with_name(line["Here"])}
-    instead = {**line, "Line": line["Write instead"], "Gives": with_name(line["Then"])}
-    return file_rows(name, [here]) + file_rows(name + "-instead", [instead])
+def instead(under):
+    """The rows of a line, and of what is to be written instead."""
+    row = FILE_ROW.replace("{name}", "{name}-instead")
+    return [FILE_ROW % (under, "Line", "Here"), row % (under, "Write instead", "Then")]
 
 
-def warned_rows(name, table):
-    """What a line gives, and what dotenvy_check reports of it."""
-    line, here, warnings = table[-1].values()
-    kinds = phrases(warnings, ", then ", "nothing", FINDING)
-    warned = check_row(name + "-warned", "v15", [], phrase(line, FILE), kinds)
-    return file_rows(name, [{"Line": line, "Gives": with_name(here)}]) + [warned]
+def variables(said):
+    """The variables with which a command is started."""
+    return "".join(" " + inside(pair.replace("=", "=[", 1) + "]") for pair in in_order(phrases(said, ", ", "", CODE)))
 
 
-def command_rows(name, table):
-    """Which variables the program starts a command with that loads two files, in the order of their columns."""
-    environment, first, second, gets = table[-1].values()
-    steps = ["write first.env" + phrase(first, WRITE), "write second.env" + phrase(second, WRITE)]
-    steps += ["entry " + pair for pair in phrases(environment, ", ", "", CODE)]
-    variables = [pair.replace("=", "=[", 1) + "]" for pair in in_order(phrases(gets, ", ", "", CODE))]
-    notes = ["/first.env", "/second.env", " ".join(["start [./serve]", *variables])]
-    words = "[-f][first.env][-f][second.env][./serve]"
-    return [["run", name, listed(steps), words, "", "", "status 0", "", listed(notes)]]
-
-
-def layer_rows(name, table):
-    """What two layers leave over an environment. The second one replaces."""
-    environment, keep, override, gives = table[-1].values()
-    layers = listed(["keep " + phrase(keep, FILE), "override " + phrase(override, FILE)])
-    before, after = [listed(in_order(phrases(pairs, ", ", "", CODE))) for pairs in (environment, gives)]
-    return [["layers", name, before, layers, "ok; ok", after, "", "ok"]]
-
+READERS["bytes"] = lambda said: inside(phrase(said, WRITE))
+READERS["entries"] = lambda said: "".join("; " + listed(["entry " + pair]) for pair in phrases(said, ", ", "", CODE))
+READERS["variables"] = variables
 
 # The tables of examples, beside those that docs/GRAMMAR.md has too.
 TABLES = {
-    "| Line | Here | `dotenvy_check` warns |": warned_rows,
-    "| Line | Here | Elsewhere | Write instead | Then |": instead_rows,
-    "| Environment | Line | Here | Elsewhere | Write instead | Then |": instead_rows,
-    "| Environment | `-f first.env` | `-f second.env` | The command gets |": command_rows,
-    "| Environment | Layer with `Mode::Keep` | Layer with `Mode::Override` | Gives |": layer_rows,
+    "| Line | Here | `dotenvy_check` warns |": [FILE_ROW % ("", "Line", "Here"), warned_row],
+    "| Line | Here | Elsewhere | Write instead | Then |": instead(""),
+    "| Environment | Line | Here | Elsewhere | Write instead | Then |": instead(UNDER),
+    "| Environment | `-f first.env` | `-f second.env` | The command gets |": [
+        "run|{name}|"
+        "write first.env{`-f first.env`:bytes}; write second.env{`-f second.env`:bytes}{Environment:entries}|"
+        "[-f][first.env][-f][second.env][./serve]|||status 0||"
+        "/first.env; /second.env; start [./serve]{The command gets:variables}"],
+    "| Environment | Layer with `Mode::Keep` | Layer with `Mode::Override` | Gives |": [
+        "layers|{name}|{Environment:sorted}|"
+        "keep {Layer with `Mode::Keep`:file}; override {Layer with `Mode::Override`:file}|ok; ok|{Gives:sorted}||ok"],
 }
 
 if __name__ == "__main__":
-    print_rows("OTHER_LIBRARIES.md", {**EXAMPLES, **TABLES}, NO_EXAMPLES)
+    print_rows("docs/OTHER_LIBRARIES.md", {**grammar_rows.TABLES, **TABLES}, NO_EXAMPLES)

@@ -18,8 +18,8 @@ import signal
 import sys
 
 import export_tools
-from grammar_rows import DOCS, FILE, ITEM, phrase, phrases
-from other_libraries_rows import with_name
+from examples import FILE, ITEM, phrase, phrases
+from pages import DOCS
 
 TABLE = pathlib.Path(__file__).resolve().parent / "other_readers.tsv"
 PAGE = DOCS / "OTHER_LIBRARIES.md"
@@ -34,7 +34,7 @@ def rows():
 
 def here(said):
     """The pairs that are read here, or None for a fault, as the page says them."""
-    return None if said.startswith("fault") else phrases(with_name(said), ", then ", "nothing", ITEM)
+    return None if said.startswith("fault") else phrases(said, ", then ", "nothing", ITEM)
 
 
 def value_cell(value):
@@ -53,7 +53,7 @@ def cell(read, line, said):
         return "as here"
     if not pairs:
         return "nothing"
-    if "\n".join(pairs) == phrase(line, FILE).removesuffix("\n"):
+    if "\n".join(pairs) == re.sub(r"\n\Z", "", phrase(line, FILE)):
         return "as written"
     if len(pairs) == 1 and pairs[0].startswith("A="):
         return value_cell(pairs[0][2:])

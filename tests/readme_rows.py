@@ -2,14 +2,15 @@
 """Prints the examples of README.md as rows (docs/ROWS.md), which are crates/test_replay/data/readme.rows.
 
 Each block labelled `env` is the file service.env, and the block labelled `console` after it calls the programs on this
-file. What the first file gives is the column "Gives" of the table below it, from top to bottom, in the phrases of
-tests/grammar_rows.py. An example that isn't understood here ends the script with status 1, so that none is skipped.
+file. What the first file gives is the column "Gives" of the table below it, from top to bottom. An example that isn't
+understood here ends the script with status 1, so that none is skipped.
 """
 
 import re
 import shlex
 
-from grammar_rows import DOCS, ITEM, cells, in_order, listed, phrase, refuse, written
+from page_rows import ITEM, by_columns, in_order, listed, phrase, refuse, written
+from pages import tables, text_of
 
 HEADER = "| Line | Gives | |"
 EXAMPLE = re.compile("^```env\n(.*?)^```\n+```console\n(.*?)^```", re.M | re.S)
@@ -63,12 +64,12 @@ def call_rows(file, console, pairs):
 
 def main():
     """Prints the rows."""
-    page = (DOCS.parent / "README.md").read_text(encoding="utf-8")
-    table = re.search(re.escape(HEADER) + "\n[|-]+\n((?:[|].*\n)+)", page)
+    page = text_of("README.md")
+    gives = [phrase(by_columns(HEADER, line)["Gives"], ITEM)
+             for _, _, header, lines in tables(page) if header == HEADER for line in lines]
     examples = EXAMPLE.findall(page)
-    if not table or not examples or any(len(examples) != page.count(f"```{label}\n") for label in ("env", "console")):
+    if not gives or not examples or any(len(examples) != page.count(f"```{label}\n") for label in ("env", "console")):
         refuse("README.md has no table of what its file gives, or a file without calls, or calls without a file")
-    gives = [phrase(cells(line, HEADER)["Gives"], ITEM) for line in table.group(1).splitlines()]
     print("# The examples of README.md, as tests/readme_rows.py prints them.")
     print("|".join(["file", "the-first-example", "v15", "", written(examples[0][0]), listed(gives), "*", "*", "*"]))
     number = 0

@@ -6,9 +6,9 @@
     run.py --quick     runs those that need no built program
     run.py --passed .. prints what passed, too
 
-Of a test everything is printed but the lines `passed: ..`, and then its sums. The last line is `N passed, M failed`. The
-status is 1 if anything failed: also if a test printed no sums, ended with a status that they don't explain, or left out
-checks. A program is needed in crates/NAME/out, where `rt run` in crates/NAME, or `rt ci`, puts it.
+Of a test everything is printed but the lines `passed: ..`, and then its sums. The last line is `N passed, M failed`.
+The status is 1 if anything failed: also if a test printed no sums, ended with a status that they don't explain, or left
+out checks. A program is needed in crates/NAME/out, where `rt run` in crates/NAME, or `rt ci`, puts it.
 """
 
 import collections
