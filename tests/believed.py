@@ -14,6 +14,7 @@ import re
 import signal
 import sys
 
+from counting import tell
 from rattle import TOP, cited, items_of, read_files, source_files
 
 PAGE = TOP / "docs" / "CONTRACTS.md"
@@ -145,14 +146,13 @@ def main():
     if "--write" in sys.argv[1:]:
         PAGE.write_text(SUMS.sub(wanted.sums, page), encoding="utf-8")
     elif "--check" in sys.argv[1:]:
-        found = list(faults(page, wanted))
-        print("\n".join(found), end="\n" if found else "")
-        sys.exit(1 if found else 0)
+        return tell(faults(page, wanted))
     else:
         # A reader, such as `head`, may end before all is printed.
         signal.signal(signal.SIGPIPE, signal.SIG_DFL)
         print(wanted.text())
+    return 0
 
 
 if __name__ == "__main__":
-    main()
+    sys.exit(main())

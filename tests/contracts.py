@@ -14,6 +14,7 @@ import re
 import signal
 import sys
 
+from counting import tell
 from believed import LIBRARY, PAGE, PROGRAM, names_of
 from rattle import TOP, cited, dependencies, items_of, read_files, source_files
 
@@ -100,14 +101,13 @@ def main():
     # A reader, such as `head`, may end before all is printed.
     signal.signal(signal.SIGPIPE, signal.SIG_DFL)
     if names == ["--check"]:
-        wrong = list(faults(found, page))
-        print("\n".join(wrong), end="\n" if wrong else "")
-        sys.exit(1 if wrong else 0)
-    elif names == ["--headline"]:
+        return tell(faults(found, page))
+    if names == ["--headline"]:
         print("\n\n\n".join(texts([item for item in found if item.path[0] in LIBRARY + PROGRAM], names_of(page))))
     else:
         print("\n\n\n".join(texts(found, names)))
+    return 0
 
 
 if __name__ == "__main__":
-    main()
+    sys.exit(main())

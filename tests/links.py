@@ -4,44 +4,19 @@ named in running text has to be a link. The list at the top of docs/DECISIONS.md
 place that is wrong, and ends with status 1 if there is one.
 """
 
-import pathlib
 import re
 import sys
 
-TOP = pathlib.Path(__file__).resolve().parent.parent
+from counting import tell
+from pages import LINK, TOP, anchor, anchors, prose
+
 LISTED = TOP / "docs" / "DECISIONS.md"
-LINK = re.compile(r"\[([^\]]*)\]\(([^)\s]+)\)")
 
 
 def pages():
-    """The pages of the repository."""
-    return sorted(page for page in TOP.rglob("*.md") if not {"out", ".git"} & set(page.relative_to(TOP).parts))
-
-
-def prose(page):
-    """The numbered lines of a page without its blocks of code."""
-    inside = False
-    for number, line in enumerate(page.read_text(encoding="utf-8").split("\n"), 1):
-        if line.lstrip().startswith("```"):
-            inside = not inside
-        elif not inside:
-            yield number, line
-
-
-def anchor(heading):
-    """The name by which a heading is linked: its words in lower case, with hyphens between them."""
-    text = LINK.sub(r"\1", heading).lower()
-    return re.sub(r"[^\w\- ]", "", text).strip().replace(" ", "-")
-
-
-def anchors(page):
-    """The anchors of a page. A heading that comes again has a number after its name."""
-    counts = {}
-    for _, line in prose(page):
-        if re.match("#+ ", line):
-            name = anchor(line.lstrip("#"))
-            counts[name] = counts.get(name, -1) + 1
-            yield name if counts[name] == 0 else name + "-" + str(counts[name])
+    """The pages of the repository, with their texts."""
+    found = sorted(page for page in TOP.rglob("*.md") if not {"out", ".git"} & set(page.relative_to(TOP).parts))
+    return {page: page.read_text(encoding="utf-8") for page in found}
 
 
 def fault_of(page, target):
@@ -52,14 +27,14 @@ def fault_of(page, target):
     file = (page.parent / path).resolve() if path else page
     if not file.exists() or TOP not in [file, *file.parents]:
         return "there is no " + path
-    if place and place not in set(anchors(file)):
+    if place and place not in set(anchors(file.read_text(encoding="utf-8"))):
         return "no heading is " + target
     return None
 
 
-def faults(page):
+def faults(page, text):
     """Each line of a page with a link that leads nowhere, or with a page that is named and not linked."""
-    for number, line in prose(page):
+    for number, line in prose(text):
         for _, target in LINK.findall(line):
             fault = fault_of(page, target)
             if fault:
@@ -69,9 +44,9 @@ def faults(page):
                 yield number, named + " is no link"
 
 
-def unlisted(page):
+def unlisted(text):
     """Each decision of a page that the list at its top lacks."""
-    lines = list(prose(page))
+    lines = list(prose(text))
     listed = {target for _, line in lines if line.startswith("- **") for _, target in LINK.findall(line)}
     for number, line in lines:
         if line.startswith("### ") and "#" + anchor(line.lstrip("#")) not in listed:
@@ -80,13 +55,11 @@ def unlisted(page):
 
 def main():
     """Prints the faults of all pages."""
-    found = [(page, *fault) for page in pages() for fault in faults(page)]
-    found += [(LISTED, *fault) for fault in unlisted(LISTED)]
-    for page, number, fault in found:
-        print(f"{page.relative_to(TOP)}:{number}: {fault}")
-    if found or not pages():
-        sys.exit(1)
+    texts = pages()
+    found = [(page, *fault) for page, text in texts.items() for fault in faults(page, text)]
+    found += [(LISTED, *fault) for fault in unlisted(texts[LISTED])]
+    return tell(f"{page.relative_to(TOP)}:{number}: {fault}" for page, number, fault in found)
 
 
 if __name__ == "__main__":
-    main()
+    sys.exit(main())

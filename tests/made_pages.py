@@ -12,7 +12,6 @@
 """
 
 import difflib
-import pathlib
 import re
 import sys
 import textwrap
@@ -20,9 +19,8 @@ import textwrap
 import kept_names
 import kinds
 import report
+from pages import DOCS, TOP, cells
 
-TOP = pathlib.Path(__file__).resolve().parent.parent
-DOCS = TOP / "docs"
 # The page of each program, and what the program does.
 MANUALS = {
     "dotenvy_run": ("COMMAND.md", "start a command with the settings of environment files"),
@@ -168,11 +166,6 @@ def block(lines):
     lines = [escaped(line, SIGNS) for line in lines]
     lines = ["\\&" + line if line.startswith(".") else line for line in lines]
     return [".PP", ".RS 4", ".EX", *lines, ".EE", ".RE"]
-
-
-def cells(row):
-    """The cells of a row of a table."""
-    return [cell.strip().replace("\\|", "|") for cell in re.split(r"(?<!\\)\|", row)[1:-1]]
 
 
 def table(rows):

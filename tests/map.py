@@ -11,14 +11,13 @@ With --check it prints what has none, and ends with status 1 if anything has non
 """
 
 import ast
-import pathlib
 import re
 import signal
 import subprocess
 import sys
 
-TOP = pathlib.Path(__file__).resolve().parent.parent
-CRATES = TOP / "crates"
+from counting import tell
+from rattle import CRATES, TOP, dependencies, source_files
 
 
 def paragraph(lines):
@@ -42,12 +41,6 @@ def comment_at_top(path):
     return paragraph([line[1:].strip() for line in lines[:end]])
 
 
-def dependencies():
-    """Each crate of crates.txt, with the crates that it depends on."""
-    lines = re.findall(r"^(\w+)[^:#\n]*:(.*)$", (TOP / "crates.txt").read_text(encoding="utf-8"), re.M)
-    return {name: below.split() for name, below in lines}
-
-
 def root_of(crate):
     """The file in which a crate begins."""
     source = CRATES / crate / "src"
@@ -56,7 +49,7 @@ def root_of(crate):
 
 def modules_of(crate):
     """The source files of a crate, without the one in which it begins."""
-    return [file for file in sorted((CRATES / crate / "src").rglob("*.rt")) if file != root_of(crate)]
+    return [file for file in source_files(crate) if file != root_of(crate)]
 
 
 def files_of(crate, folder):
@@ -112,9 +105,8 @@ def main():
         files = [file for crate in crates for file in [root_of(crate), *modules_of(crate)]]
         files += [file for crate in crates for folder in ("specs", "proofs") for file in files_of(crate, folder)]
         silent = [file for file in files + scripts() if not comment_at_top(file)]
-        for file in silent:
-            print(f"{file.relative_to(TOP)} doesn't say at its top what it is")
-        sys.exit(1 if silent or not files else 0)
+        faults = [f"{file.relative_to(TOP)} doesn't say at its top what it is" for file in silent]
+        return tell(faults if files else ["crates.txt has no crate"])
     if words == ["--scripts"]:
         print("\n".join(f"{path.relative_to(TOP)}: {comment_at_top(path)}" for path in scripts()))
     elif set(words) - set(crates):
@@ -124,7 +116,8 @@ def main():
     else:
         print("\n".join(f"{crate}: {comment_at_top(root_of(crate))}\n  depends on: {', '.join(below) or 'none'}"
                         for crate, below in crates.items()))
+    return 0
 
 
 if __name__ == "__main__":
-    main()
+    sys.exit(main())

@@ -15,7 +15,9 @@ import pathlib
 import re
 import sys
 
-CRATES = pathlib.Path(__file__).resolve().parent.parent / "crates"
+from counting import judge
+from rattle import CRATES
+
 FUNCTION = re.compile(r"( *)(?:pub(?:\(\w+\))? )?(?:unsafe )?(?:extern \"C\" )?fn (\w+)")
 SAID = re.compile(r"^(?:rt: )?must-fail (\w+)/(\S+\.edit): (.*)$", re.M)
 # What is printed is cut at some length, perhaps within the name of the goal.
@@ -143,14 +145,9 @@ def main():
     printed = pathlib.Path(sys.argv[1]).read_text(encoding="utf-8") if sys.argv[1:] else ""
     for crate, name, text in SAID.findall(printed):
         answers.setdefault(crate, {})[name] = text
-    found, failed = mutants(), 0
-    for mutant in found:
-        holds, what = judged(mutant, answers)
-        failed += not holds
-        print(f"{'passed' if holds else 'FAILED'}: {mutant.crate}/{mutant.name}: {what}")
-    print(f"{len(found) - failed} passed, {failed} failed")
-    sys.exit(1 if failed or not found else 0)
+    checks = [(f"{mutant.crate}/{mutant.name}", *judged(mutant, answers)) for mutant in mutants()]
+    return judge((f"{name}: {what}" if holds else name, [] if holds else [what]) for name, holds, what in checks)
 
 
 if __name__ == "__main__":
-    main()
+    sys.exit(main())

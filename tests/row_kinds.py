@@ -8,11 +8,13 @@
 With --check it prints what is wrong, and ends with status 1 if anything is.
 """
 
-import pathlib
 import re
 import sys
 
-REPLAY = pathlib.Path(__file__).resolve().parent.parent / "crates" / "test_replay"
+from counting import tell
+from pages import TOP
+
+REPLAY = TOP / "crates" / "test_replay"
 
 
 def kinds():
@@ -46,6 +48,7 @@ def fits(fields, row):
 def faults(found):
     """What is wrong with the file."""
     wanted = played()
+    yield from [] if found else ["has nothing"]
     yield from (f"lacks the kind {kind}" for kind in sorted(wanted - set(found)))
     yield from (f"has a kind that isn't played: {kind}" for kind in sorted(set(found) - wanted))
     for kind, (fields, text, row) in found.items():
@@ -58,10 +61,7 @@ def main():
     """Prints kinds, or faults."""
     found, words = kinds(), sys.argv[1:]
     if words == ["--check"]:
-        wrong = list(faults(found))
-        for fault in wrong:
-            print("crates/test_replay/data/kinds.rows " + fault)
-        sys.exit(1 if wrong or not found else 0)
+        return tell("crates/test_replay/data/kinds.rows " + fault for fault in faults(found))
     for kind in words:
         if kind not in found:
             raise SystemExit(f"no kind of row is called {kind}")
@@ -69,7 +69,8 @@ def main():
         print("\n".join([fields, "", *text, "", row, ""]))
     if not words:
         print("\n".join(fields for fields, _, _ in found.values()))
+    return 0
 
 
 if __name__ == "__main__":
-    main()
+    sys.exit(main())

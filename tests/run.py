@@ -34,9 +34,9 @@ def edit_checks():
 
 
 TESTS = [
-    Test("documents", "tests/documents.sh", "", "10 s"),
+    Test("documents", "tests/documents.py", "", "10 s"),
     Test("words", "tests/words.py", "", "1 s"),
-    Test("manual_page", "tests/manual_page.sh", "", "1 s"),
+    Test("manual_page", "tests/manual_page.py", "", "1 s"),
     Test("lint", "tests/lint.sh", "", "40 s"),
     Test("install", "tests/install.sh", "", "10 s"),
     Test("report_model", "tests/report_model.py --examples", "", "1 s"),

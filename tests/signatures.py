@@ -12,6 +12,7 @@ import re
 import signal
 import sys
 
+from counting import tell
 from rattle import CRATES, TOP, dependencies, items_of, re_exported, source_files
 
 PAGE = TOP / "docs" / "LIBRARY.md"
@@ -69,21 +70,20 @@ def names_on_page():
     return [name for line in table.splitlines() for name in re.findall("`([^`]+)`", line.split("|")[2])]
 
 
-def check(names):
-    """Prints what is on one side and not on the other one, and whether there is anything."""
+def faults(names):
+    """What is on one side and not on the other one."""
     page = names_on_page()
     wrong = ["docs/LIBRARY.md lacks " + name for name in sorted(names - set(page))]
     wrong += ["no public call is " + name for name in sorted(set(page) - names)]
     wrong += ["docs/LIBRARY.md has twice " + name for name in sorted(set(page)) if page.count(name) > 1]
-    print("\n".join(wrong), end="\n" if wrong else "")
-    return bool(wrong) or len(names) < 40
+    return wrong + ["the code has too few public calls"] * (len(names) < 40)
 
 
 def main(words):
     """Reads the command line."""
     calls = list(dict.fromkeys(calls_of_code()))
     if words == ["--check"]:
-        return check({call.partition("(")[0] for _, call in calls})
+        return tell(faults({call.partition("(")[0] for _, call in calls}))
     # A reader, such as `head`, may end before all is printed.
     signal.signal(signal.SIGPIPE, signal.SIG_DFL)
     last = None

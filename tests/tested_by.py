@@ -10,12 +10,13 @@ MODULE::TEST` for a test of that crate; or the path of a script or a table.
 
 import fnmatch
 import functools
-import pathlib
 import re
 import signal
 import sys
 
-TOP = pathlib.Path(__file__).resolve().parent.parent
+from counting import tell
+from pages import TOP
+
 LIST = TOP / "tests" / "only_tested.txt"
 DATA = TOP / "crates" / "test_replay" / "data"
 TESTS = TOP / "crates" / "test_worked" / "src"
@@ -43,7 +44,7 @@ def entries():
     return found
 
 
-@functools.cache
+@functools.lru_cache(None)
 def row_names(file):
     """The names of the rows of a file."""
     path = DATA / (file + ".rows")
@@ -77,16 +78,14 @@ def main():
     """Prints the table, or the faults."""
     found = entries()
     if "--check" in sys.argv[1:]:
-        wrong = list(faults(found))
-        for fault in wrong:
-            print("tests/only_tested.txt: " + fault)
-        sys.exit(1 if wrong else 0)
+        return tell("tests/only_tested.txt: " + fault for fault in faults(found))
     # A reader, such as `head`, may end before all is printed.
     signal.signal(signal.SIGPIPE, signal.SIG_DFL)
     print("| Of | What is tested | By |\n|---|---|---|")
     for entry in found:
         print(f"| {entry.subject} | {entry.what} | {', '.join('`' + test + '`' for test in entry.tests)} |")
+    return 0
 
 
 if __name__ == "__main__":
-    main()
+    sys.exit(main())

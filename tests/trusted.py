@@ -14,6 +14,8 @@ import re
 import subprocess
 import sys
 
+from counting import judge
+
 TOP = pathlib.Path(__file__).resolve().parent.parent
 LIST = TOP / "tests" / "trusted.txt"
 CRATES = ("dotenvy_run", "dotenvy_check", "dotenvy_edit", "dotenvy_export", "dotenvy_c")
@@ -72,12 +74,8 @@ def main():
     lines = [line for text in texts.values() for line in verdicts(text)]
     lines += [line for file in sys.argv[1:] for line in verdicts(pathlib.Path(file).read_text(encoding="utf-8"))]
     checks.append(("the words of the verdicts", sorted(word_faults(lines))))
-    for what, faults in checks:
-        print(f"{'FAILED' if faults else 'passed'}: {what}" + "".join("\n    " + fault for fault in faults))
-    failed = sum(bool(faults) for _, faults in checks)
-    print(f"{len(checks) - failed} passed, {failed} failed")
-    sys.exit(1 if failed else 0)
+    return judge(checks)
 
 
 if __name__ == "__main__":
-    main()
+    sys.exit(main())

@@ -11,6 +11,7 @@ The last line is `N passed, M failed`.
 import re
 import sys
 
+from counting import judge
 from rattle import CRATES, WORD, items_of, re_exported, text_of, without_generics
 
 LIBRARY = CRATES / "dotenvy"
@@ -99,12 +100,8 @@ def main():
         else:
             checks.append((path in lines and is_word(module), path + " has its line in Lib.antt"))
     checks += [((module, name) in named, f"{module}.{name} has its name in Laws.antt") for module, name in sorted(laws)]
-    for holds, what in checks:
-        print(("passed: " if holds else "FAILED: ") + what)
-    failed = sum(not holds for holds, _ in checks)
-    print(f"{len(checks) - failed} passed, {failed} failed")
-    sys.exit(1 if failed or not checks else 0)
+    return judge((what, [] if holds else ["it hasn't"]) for holds, what in checks)
 
 
 if __name__ == "__main__":
-    main()
+    sys.exit(main())
