@@ -1,14 +1,14 @@
 #!/usr/bin/env bash
 # Looks over the files that git tracks: shellcheck over each shell script; flake8, as .flake8 says, over each Python
 # file; and the white space that .editorconfig asks for. A linter that isn't installed is left out.
-# It takes some ten seconds, and no proof. The last line is `N passed, M failed`.
+# `tests/lint.sh FILE..` looks over these alone. It takes some ten seconds. The last line is `N passed, M failed`.
 set -euo pipefail
 cd "$(dirname "$0")/.."
 . tests/lib.sh
 scripts_in_shell=()
 scripts_in_python=()
 # What programs read and print in their stored runs: each byte of it is meant.
-recorded=(':!crates/*/data/*' ':!crates/*/args' ':!crates/*/stdin' ':!crates/*/stdout' ':!crates/*/status')
+recorded=("$@" ':!crates/*/data/*' ':!crates/*/args' ':!crates/*/stdin' ':!crates/*/stdout' ':!crates/*/status')
 
 # Calls git on this clone, also if another user owns it.
 git_here() {
@@ -60,7 +60,7 @@ end_with_line_feeds() {
     return "$status"
 }
 
-if ! git_here ls-files -z >"$room/paths" 2>"$room/errors"; then
+if ! git_here ls-files -z -- "$@" >"$room/paths" 2>"$room/errors"; then
     echo "left out: all of it, since git doesn't list the files: $(head -n 1 "$room/errors")"
     echo "0 passed, 0 failed"
     exit 0

@@ -2,7 +2,7 @@
 """Runs tests, and sums up what they count.
 
     run.py             lists the tests: the programs that each needs, and about how long it takes
-    run.py NAME..      runs these
+    run.py NAME..      runs these; NAME:WORD runs a part, as the test itself says: documents:chart, lint:tests/run.py
     run.py --quick     runs those that need no built program
     run.py --passed .. prints what passed, too
 
@@ -23,7 +23,7 @@ import time
 TOP = pathlib.Path(__file__).resolve().parent.parent
 SUMS = re.compile(rb"(\d+) passed, (\d+) failed\n")
 
-Test = collections.namedtuple("Test", "name command needs takes checks", defaults=[None])
+Test = collections.namedtuple("Test", "name command needs takes checks part", defaults=[None, None])
 
 
 def edit_checks():
@@ -66,7 +66,8 @@ def play(test, shows_all):
     """Runs a test, and prints what it prints: the last line and the status."""
     last = b""
     environment = {**os.environ, "PYTHONDONTWRITEBYTECODE": "1"}
-    with subprocess.Popen(shlex.split(test.command), cwd=TOP, env=environment, stdout=subprocess.PIPE) as process:
+    command = shlex.split(test.command) + ([test.part] if test.part else [])
+    with subprocess.Popen(command, cwd=TOP, env=environment, stdout=subprocess.PIPE) as process:
         for line in process.stdout:
             # The sums come last, and are printed with the name.
             if last and not SUMS.fullmatch(last) and (shows_all or not last.startswith(b"passed: ")):
@@ -85,7 +86,7 @@ def count(test, shows_all):
     faults = [] if sums else [f"it printed no sums, but ends with {last.decode(errors='backslashreplace').rstrip()!r}"]
     if status != 0 and failed == 0:
         failed, faults = 1, [f"it ended with status {status}"]
-    if test.checks:
+    if test.checks and not test.part:
         made, wanted = passed + failed, test.checks()
         passed, failed = (passed + 1, failed) if made == wanted else (passed, failed + 1)
         faults += [] if made == wanted else [f"{made} checks in place of {wanted}"]
@@ -100,19 +101,24 @@ def listing():
     return "\n".join(f"{test.name:16} {test.takes:>6}  {test.needs or '-':40} {test.command}" for test in TESTS)
 
 
+def asked(words):
+    """The tests that the words of the command line name."""
+    by_name = {test.name: test for test in TESTS}
+    for name, _, part in (word.partition(":") for word in words):
+        if name not in by_name:
+            raise SystemExit(f"run.py: there is no test {name}; without a word it lists them")
+        yield by_name[name]._replace(part=part)
+
+
 def main(words):
     """Does what the words of the command line say, and returns the status."""
     shows_all = "--passed" in words
     words = [word for word in words if word != "--passed"]
-    by_name = {test.name: test for test in TESTS}
-    if words == ["--quick"]:
-        words = [test.name for test in TESTS if not test.needs]
-    if not words or any(word not in by_name for word in words):
-        unknown = [word for word in words if word not in by_name]
-        print(f"no test is called {unknown[0]}; these are:" if unknown else __doc__)
-        print(listing())
-        return 2 if unknown else 0
-    counts = [count(by_name[word], shows_all) for word in words]
+    if not words or words[0].startswith("-") and words != ["--quick"]:
+        print(__doc__.strip(), listing(), sep="\n\n")
+        return 2 if words and words != ["--help"] else 0
+    tests = [test for test in TESTS if not test.needs] if words == ["--quick"] else list(asked(words))
+    counts = [count(test, shows_all) for test in tests]
     passed, failed = map(sum, zip(*counts))
     print(f"{passed} passed, {failed} failed")
     return 1 if failed else 0

@@ -32,7 +32,7 @@ def side(place, signs):
 def make(change, copy):
     """Makes the change of one block."""
     name, *lines = change.rstrip("\n").split("\n")
-    file = copy / name.removeprefix("--- ")
+    file = copy / name[len("--- "):]
     for place in "\n".join(lines).split("\n@@\n"):
         old, new = (side(place.split("\n"), signs) for signs in (" -", " +"))
         text = file.read_text(encoding="utf-8") if file.exists() else ""
