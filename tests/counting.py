@@ -26,16 +26,24 @@ class Count:
     def status(self):
         """Prints the sums, and returns the status of the test."""
         print(f"{self.passed} passed, {self.failed} failed")
-        return 1 if self.failed or not self.passed else 0
+        return 1 if self.failed else 0
+
+
+def status_of(counts):
+    """Prints the sums of several counts, and returns the status."""
+    whole, counts = Count(), list(counts)
+    whole.passed, whole.failed = sum(count.passed for count in counts), sum(count.failed for count in counts)
+    return whole.status()
 
 
 def judge(checks):
-    """Prints each check and what is wrong with it: pairs of what it is and a list of faults. Returns the status."""
+    """Prints each check and what is wrong with it, from pairs of a name and a list of faults. Returns the status, which
+    is 1 without a check, too."""
     count = Count()
     for what, faults in checks:
         count.passed, count.failed = count.passed + (not faults), count.failed + bool(faults)
         print("\n    ".join([f"{'FAILED' if faults else 'passed'}: {what}", *faults]), flush=True)
-    return count.status()
+    return count.status() or int(not count.passed)
 
 
 def tell(faults):

@@ -32,11 +32,11 @@ import tempfile
 import edit_drawing
 import edit_model
 import edit_page
+from counting import Count
 
 PROGRAM = edit_model.TOP / "crates" / "dotenvy_edit" / "out" / "dotenvy_edit"
 DIALECTS = ["v15", "next"]
 CASES_IN_TASK = 250
-MOST_SHOWN = 10
 SECONDS = 60
 FILE = "drawn.env"
 
@@ -245,21 +245,6 @@ MUTANTS = {
 # Checks.
 
 
-class Count:
-    """How many checks passed and failed. The first ones that fail are shown."""
-
-    def __init__(self):
-        self.passed = self.failed = 0
-
-    def check(self, holds, *said):
-        """Counts a check, and shows the words that say what fails."""
-        self.passed, self.failed = self.passed + bool(holds), self.failed + (not holds)
-        if not holds and self.failed <= MOST_SHOWN:
-            print("FAILED:", *said, sep="\n    ")
-        elif not holds and self.failed == MOST_SHOWN + 1:
-            print("further checks that fail are not shown")
-
-
 def is_refusal(call, errors, refusals):
     """Whether the text is one error, with the reason and the line of one of these refusals."""
     found = re.fullmatch(r"dotenvy_edit: error: ([^\n]*)\n", errors)
@@ -412,8 +397,7 @@ def main():
         check_cases(count, make, word, words.jobs, f"files `A=` with up to {words.short} characters", "short",
                     edit_drawing.short_files(words.short))
         check_values(count, make, word, words.values)
-    print(f"{count.passed} passed, {count.failed} failed")
-    return 1 if count.failed else 0
+    return count.status()
 
 
 if __name__ == "__main__":

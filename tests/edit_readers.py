@@ -33,6 +33,7 @@ import tempfile
 import edit
 import edit_drawing
 import edit_model
+from counting import Count
 
 # Lines in which a value is set. The name is always A.
 LINES = [
@@ -121,7 +122,7 @@ def main():
     reader.add_argument("--first", type=int, default=0)
     reader.add_argument("--lines", type=int, default=len(LINES), choices=range(1, len(LINES) + 1))
     reader.add_argument("--readers", default=",".join(READERS))
-    words, count = reader.parse_args(), edit.Count()
+    words, count = reader.parse_args(), Count()
     if not words.model and not pathlib.Path(words.program).exists():
         print(f"FAILED: there is no program {words.program}; rt run in crates/dotenvy_edit builds it")
         print("0 passed, 1 failed")
@@ -144,8 +145,7 @@ def main():
                 file = pathlib.Path(path).read_bytes()
                 count.check(found == text, name, repr(file)[:600], f"{text!r} is read as {found!r}"[:1200])
             print(f"{name}: {sum(differ.values())} of {len(files)} differ: {dict(+differ)}")
-    print(f"{count.passed} passed, {count.failed} failed")
-    return 1 if count.failed else 0
+    return count.status()
 
 
 if __name__ == "__main__":

@@ -30,9 +30,9 @@ import export_model
 import export_readers
 import export_recorded
 import export_tools
+from counting import Count, status_of
 
 PROGRAM = export_tools.TOP / "crates" / "dotenvy_export" / "out" / "dotenvy_export"
-MOST_SHOWN = 10
 SECONDS = 60
 # A pair of this name is in the environment of the program, and in no file.
 BESIDE = ("BESIDE", "x")
@@ -89,20 +89,18 @@ class Model:
         return Answer(0, export_model.written(target, pairs, KEPT), "")
 
 
-class Count:
+class OfTool(Count):
     """How many environments a tool reads as they are, and how many are refused."""
 
     def __init__(self, tool):
-        self.tool, self.passed, self.failed = tool, 0, 0
-        self.refused = collections.Counter()
+        super().__init__()
+        self.tool, self.refused = tool, collections.Counter()
 
-    def check(self, holds, case, *said):
+    def add(self, holds, case, *said):
         """Counts an environment."""
-        self.passed, self.failed = self.passed + bool(holds), self.failed + (not holds)
-        if not holds and self.failed <= MOST_SHOWN:
-            print(f"FAILED: {self.tool}, {case.target}, the drawn environment {case.number}: {str(case.pairs)[:400]}",
-                  f"    status {case.answer.status}, error {case.answer.errors[:200]!r}",
-                  f"    written: {case.answer.output[:400]!r}", *said, sep="\n")
+        self.check(holds, f"{self.tool}, {case.target}, the drawn environment {case.number}: {str(case.pairs)[:400]}",
+                   f"status {case.answer.status}, error {case.answer.errors[:200]!r}",
+                   f"written: {case.answer.output[:400]!r}", *said)
 
     def tell(self):
         """Prints the numbers."""
@@ -136,14 +134,14 @@ def check(count, case, read):
     if refused:
         for why in set(refused.values()):
             count.refused[why] += 1
-        count.check(is_named(case, refused), case, f"    to be refused: {refused}")
+        count.add(is_named(case, refused), case, f"    to be refused: {refused}")
         return
     if case.answer.status != 0 or case.answer.errors:
-        count.check(False, case, "    nothing of it is to be refused")
+        count.add(False, case, "    nothing of it is to be refused")
         return
     pairs = sorted((name.encode(), value.encode()) for name, value in case.pairs)
     found = read(case.number, case.answer.output)
-    count.check(found == pairs, case, f"    the tool reads: {str(found)[:400]}")
+    count.add(found == pairs, case, f"    the tool reads: {str(found)[:400]}")
 
 
 def play(count, writer, numbers, target, read):
@@ -171,7 +169,7 @@ def play_shells(writer, numbers, names):
     for shell in export_tools.shells(names):
         with export_tools.opened(shell):
             for target in ("sh", "exec"):
-                count = Count(f"{shell.name} {shell.version}, {target}")
+                count = OfTool(f"{shell.name} {shell.version}, {target}")
                 yield play(count, writer, numbers, target, shell_reader(shell, target == "exec"))
 
 
@@ -180,7 +178,7 @@ def play_model(writer, numbers):
     tables = {"kubernetes": "kubectl", "systemd": "unit"}
     for target in export_model.READERS:
         read = export_recorded.MODELS[tables.get(target, target)]
-        yield play(Count(f"the model, {target}"), writer, numbers, target, lambda _, data, read=read: read(data))
+        yield play(OfTool(f"the model, {target}"), writer, numbers, target, lambda _, data, read=read: read(data))
 
 
 def plays(words, writer):
@@ -197,7 +195,7 @@ def plays(words, writer):
         if tool is not None:
             with export_tools.opened(tool):
                 more = [True] if name == "systemd" else []
-                yield play(Count(f"{name} {tool.version}"), writer, numbers, target,
+                yield play(OfTool(f"{name} {tool.version}"), writer, numbers, target,
                            lambda _, data, tool=tool, more=more: tool.read(data, *more))
     if not words.tools or set(words.tools) - {"model", *tools}:
         yield from play_shells(writer, numbers, words.tools)
@@ -219,10 +217,7 @@ def main():
         print(f"FAILED: there is no program {words.program}; rt run in crates/dotenvy_export builds it")
         print("0 passed, 1 failed")
         return 1
-    counts = list(plays(words, Model() if words.model else Program(words.program)))
-    failed = sum(count.failed for count in counts)
-    print(f"{sum(count.passed for count in counts)} passed, {failed} failed")
-    return 1 if failed else 0
+    return status_of(plays(words, Model() if words.model else Program(words.program)))
 
 
 if __name__ == "__main__":

@@ -16,27 +16,23 @@ import sys
 import export_drawing
 import export_model
 import export_tools
+from counting import Count, status_of
 
-MOST_SHOWN = 10
 LOCALES = [None, "C.UTF-8"]
 
 
-class Count:
+class OfTool(Count):
     """How many files a tool reads as the model does."""
 
     def __init__(self, tool):
-        self.tool, self.passed, self.failed, self.unsaid, self.refused = tool, 0, 0, 0, 0
+        super().__init__()
+        self.tool, self.unsaid, self.refused = tool, 0, 0
 
     def add(self, number, data, found, wanted):
         """Counts a file."""
         self.refused += wanted is export_model.REFUSED
-        if found == wanted:
-            self.passed += 1
-            return
-        self.failed += 1
-        if self.failed <= MOST_SHOWN:
-            print(f"FAILED: {self.tool}, the drawn file {number}: {data[:300]!r}", f"    the tool:  {shown(found)}",
-                  f"    the model: {shown(wanted)}", sep="\n")
+        self.check(found == wanted, f"{self.tool}, the drawn file {number}: {data[:300]!r}",
+                   f"the tool:  {shown(found)}", f"the model: {shown(wanted)}")
 
     def tell(self):
         """Prints the numbers."""
@@ -81,7 +77,7 @@ def in_order(wanted, absent=None, order=list):
 
 def compare_docker(tool, numbers):
     """docker, which leaves out a name that its environment hasn't."""
-    count = Count(f"docker {tool.version}")
+    count = OfTool(f"docker {tool.version}")
     compare(count, numbers, export_drawing.draw_file, lambda _, data: tool.read(data),
             lambda data: in_order(export_model.read_docker(data)))
     return count
@@ -89,7 +85,7 @@ def compare_docker(tool, numbers):
 
 def compare_kubectl(tool, numbers):
     """kubectl, for which a name that its environment hasn't is empty."""
-    count = Count(f"kubectl {tool.version}")
+    count = OfTool(f"kubectl {tool.version}")
     compare(count, numbers, export_drawing.draw_file, lambda _, data: tool.read(data),
             lambda data: in_order(export_model.read_kubernetes(data), "", sorted))
     return count
@@ -97,7 +93,7 @@ def compare_kubectl(tool, numbers):
 
 def compare_systemd(tool, numbers, in_unit):
     """systemd's parser, or what a unit has."""
-    count = Count(f"{'a unit of ' if in_unit else ''}systemd {tool.version}")
+    count = OfTool(f"{'a unit of ' if in_unit else ''}systemd {tool.version}")
     model = export_model.read_unit if in_unit else export_model.read_systemd
     compare(count, numbers, lambda number: export_drawing.draw_file(number, 5000),
             lambda _, data: tool.read(data, in_unit), lambda data: in_order(model(data)))
@@ -106,7 +102,7 @@ def compare_systemd(tool, numbers, in_unit):
 
 def compare_json(tool, numbers):
     """Python's json."""
-    count = Count(f"json {tool.version}")
+    count = OfTool(f"json {tool.version}")
     compare(count, numbers, export_drawing.draw_json, lambda _, data: tool.read(data),
             lambda data: in_order(export_model.read_json(data)))
     return count
@@ -114,7 +110,7 @@ def compare_json(tool, numbers):
 
 def compare_shell(tool, numbers, has_words):
     """A shell, by `eval` or as a file, in two locales in turn."""
-    count = Count(f"{tool.name} {tool.version}{', with words of a command' if has_words else ''}")
+    count = OfTool(f"{tool.name} {tool.version}{', with words of a command' if has_words else ''}")
     ways = list(tool.WAYS)
     model = export_model.read_exec if has_words else export_model.read_sh
     read = tool.read_exec if has_words else tool.read
@@ -164,10 +160,7 @@ def main():
     reader.add_argument("tools", nargs="*")
     words = reader.parse_args()
     export_tools.refuse_unknown(reader, words.tools, ["docker", "kubectl", "systemd", "unit", "json"])
-    done = list(counts(words))
-    passed, failed = sum(count.passed for count in done), sum(count.failed for count in done)
-    print(f"{passed} passed, {failed} failed")
-    return 1 if failed else 0
+    return status_of(counts(words))
 
 
 if __name__ == "__main__":

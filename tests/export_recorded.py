@@ -23,13 +23,13 @@ import export_model
 import export_readers
 import export_tools
 import report_model
+from counting import Count, status_of
 
 FOLDER = pathlib.Path(__file__).resolve().parent / "export"
 FILES = FOLDER / "files.tsv"
 DRAWN = 250
 # The first of the files that are drawn, of which no other test draws any.
 FIRST_DRAWN = 10_000_000
-MOST_SHOWN = 10
 SHELLS = ["dash", "bash", "bash --posix", "busybox", "zsh", "zsh --emulate sh"]
 
 MODELS = {
@@ -128,20 +128,18 @@ def record(table):
 
 
 def compare(table):
-    """Compares the model with a table: how many lines are the same, and how many differ."""
+    """Compares the model with a table, and counts its lines."""
     head, *lines = (FOLDER / f"{table}.tsv").read_text(encoding="utf-8").splitlines()
-    passed = failed = 0
+    count = Count()
     for line in lines:
         file, *cells = line.split("\t")
         pairs = MODELS[table](bytes_of(file))
         modelled = ["nothing"] if pairs == export_model.UNSAID else answer(pairs)
-        passed, failed = passed + (modelled == cells), failed + (modelled != cells)
-        if modelled != cells and failed <= MOST_SHOWN:
-            print(f"FAILED: {table}: {file[:200]}", f"    the tool:  {' | '.join(cells)[:300]}",
-                  f"    the model: {' | '.join(modelled)[:300]}", sep="\n")
+        count.check(modelled == cells, f"{table}: {file[:200]}", f"the tool:  {' | '.join(cells)[:300]}",
+                    f"the model: {' | '.join(modelled)[:300]}")
     refused = sum(line.endswith("\trefused") for line in lines)
-    print(f"{head.split(chr(9))[1]}: {len(lines)} files, {refused} of them refused, {failed} differ")
-    return passed, failed
+    print(f"{head.split(chr(9))[1]}: {len(lines)} files, {refused} of them refused, {count.failed} differ")
+    return count
 
 
 def main(words):
@@ -149,10 +147,7 @@ def main(words):
     if words[:1] == ["--record"]:
         record(words[1])
         return 0
-    numbers = [compare(table) for table in words or MODELS]
-    failed = sum(one for _, one in numbers)
-    print(f"{sum(one for one, _ in numbers)} passed, {failed} failed")
-    return 1 if failed else 0
+    return status_of(compare(table) for table in words or MODELS)
 
 
 if __name__ == "__main__":

@@ -31,6 +31,7 @@ import sys
 import tempfile
 
 import export_tools
+from counting import judge
 
 TABLE = pathlib.Path(__file__).resolve().parent / "kept_names.tsv"
 CODE = export_tools.TOP / "crates" / "dotenvy_exporter" / "src" / "reserved.rt"
@@ -242,11 +243,7 @@ def compare_lists():
     checks += [(name in manual, f"docs/dotenvy_export.1 has {name}") for name in names]
     checks.append((manual == names, "docs/dotenvy_export.1 has the names of src/reserved.rt, in order"))
     checks.append((names == sorted(set(names)) != [], "src/reserved.rt has names, each once and in order"))
-    for _, what in (one for one in checks if not one[0]):
-        print("FAILED:", what)
-    failed = sum(not holds for holds, _ in checks)
-    print(f"{len(checks) - failed} passed, {failed} failed")
-    return 1 if failed else 0
+    return judge((what, [] if holds else ["it isn't so"]) for holds, what in checks)
 
 
 def main(words):

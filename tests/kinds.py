@@ -18,6 +18,7 @@ import sys
 
 import report
 import report_model
+from counting import Count
 from page_rows import FILE, phrase
 
 PAGE = report_model.TOP / "docs" / "KINDS.md"
@@ -144,7 +145,7 @@ def main(words):
     """Does what the words of the command line say, and returns the status."""
     sys.stdout.reconfigure(encoding="utf-8", errors="backslashreplace")
     make, path, _ = report.asked(words)
-    count = report.Count()
+    count = Count()
     count.check(severities().keys() == report.MESSAGES.keys(), "kind.rt has other names than messages")
     lines = page_rows(count)
     check_page(count, lines)
@@ -156,8 +157,7 @@ def main(words):
         check_files(count, lines, make(path))
         if make is report.Program:
             check_rules(count, make(path))
-    print(f"{count.passed} passed, {count.failed} failed")
-    return 1 if count.failed else 0
+    return count.status()
 
 
 if __name__ == "__main__":

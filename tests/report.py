@@ -28,6 +28,7 @@ import tempfile
 import formats
 import report_drawing
 import report_model
+from counting import Count
 
 TOP = report_model.TOP
 PROGRAM = TOP / "crates" / "dotenvy_check" / "out" / "dotenvy_check"
@@ -35,7 +36,6 @@ MISTAKES = TOP / "tests" / "mistakes.tsv"
 ADVICE = TOP / "tests" / "advice.tsv"
 DIALECTS = ["v15", "next"]
 FILES_IN_CALL = 500
-MOST_SHOWN = 10
 SECONDS = 300
 # A line that leaves a quote open.
 OPEN_LINE = b"TITLE=Tom's shop\n"
@@ -140,30 +140,6 @@ def as_written(data):
 
 
 # Counts.
-
-
-class Count:
-    """How many checks passed and failed. The first ones that fail are shown."""
-
-    def __init__(self):
-        self.passed = self.failed = self.shown = 0
-
-    def part(self, what):
-        """Says what the next checks are of, and shows failed ones of it again."""
-        self.shown = 0
-        print(what)
-
-    def check(self, holds, *said):
-        """Counts a check, and shows the words that say what fails."""
-        if holds:
-            self.passed += 1
-            return
-        self.failed += 1
-        self.shown += 1
-        if self.shown <= MOST_SHOWN:
-            print("FAILED:", *said, sep="\n    ")
-        elif self.shown == MOST_SHOWN + 1:
-            print("further ones of these that fail are not shown")
 
 
 def rows(path):
@@ -433,8 +409,7 @@ def main(words):
             check_options(count, reader)
         count.part(f"{amount} files that are drawn have the findings of the model")
         check_drawn(count, make, path, amount)
-    print(f"{count.passed} passed, {count.failed} failed")
-    return 1 if count.failed else 0
+    return count.status()
 
 
 def check_options(count, reader):

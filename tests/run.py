@@ -39,6 +39,7 @@ TESTS = [
     Test("manual_page", "tests/manual_page.py", "", "1 s"),
     Test("lint", "tests/lint.sh", "", "40 s"),
     Test("install", "tests/install.sh", "", "10 s"),
+    Test("slips", "tests/slips.py", "", "1 min"),
     Test("report_model", "tests/report_model.py --examples", "", "1 s"),
     Test("report_by_model", "tests/report.py --model", "", "20 s"),
     Test("kinds_by_model", "tests/kinds.py --model", "", "1 s"),
