@@ -85,39 +85,28 @@ mentions=$(unknown_name mentions.env:1:3)$nl
 unset CHECKED NOT
 
 check_statuses() {
-    call good.env
-    check 'a file without findings' 0 '' ''
-    call bad.env
-    check 'a file with a fault and warnings' 1 "$bad" ''
-    call mentions.env
-    check 'a file with a warning' 0 "$mentions" ''
-    call mentions.env --strict
-    check 'a warning with --strict' 1 "$mentions" ''
-    CHECKED=1 call --strict mentions.env
-    check 'a name of the environment has a value' 0 '' ''
-    HOME=/srv call --strict home.env
-    check 'so has one in braces, in the middle of a value' 0 '' ''
-    CHECKED='' call --strict mentions.env
-    check 'an empty one has a value' 0 '' ''
-    CHECKED=$'\377' call mentions.env
-    check 'one that is no text has none' 0 "$mentions" ''
+    gives 'a file without findings' 0 '' '' good.env
+    gives 'a file with a fault and warnings' 1 "$bad" '' bad.env
+    gives 'a file with a warning' 0 "$mentions" '' mentions.env
+    gives 'a warning with --strict' 1 "$mentions" '' mentions.env --strict
+    CHECKED=1 gives 'a name of the environment has a value' 0 '' '' --strict mentions.env
+    HOME=/srv gives 'so has one in braces, in the middle of a value' 0 '' '' --strict home.env
+    CHECKED='' gives 'an empty one has a value' 0 '' '' --strict mentions.env
+    CHECKED=$'\377' gives 'one that is no text has none' 0 "$mentions" '' mentions.env
     cat >next.env <<'END'
 A=1
 B="$A"
 END
-    call --next next.env
-    check 'the second dialect' 0 '' ''
+    gives 'the second dialect' 0 '' '' --next next.env
     local bare='in double quotes a name needs braces; write ${NAME}, or \$ for a dollar [bare-name-in-quotes]'
-    call next.env
-    check 'the first dialect' 1 "next.env:2:4: error: $bare$nl" ''
+    gives 'the first dialect' 1 "next.env:2:4: error: $bare$nl" '' next.env
 }
 
 # Calls the program with a word that is refused, and tells why.
 check_refused() {
     local what=$1 text=$2
     shift 2
-    call "$@"
-    check "$what" 2 '' "$(failure "$text; try 'dotenvy_check --help'")$nl"
+    gives "$what" 2 '' "$(failure "$text; try 'dotenvy_check --help'")$nl" "$@"
 }
 
 # Values of options that are refused, and options without their value.
@@ -138,8 +127,7 @@ check_values() {
     for option in --text --together --ignore-environment; do
         check_refused "$option with a value" "unexpected value in '$option=1'" "$option=1" bad.env
     done
-    call --allow none --version
-    check 'a wrong value before --version' 0 "dotenvy_check $version$nl" ''
+    gives 'a wrong value before --version' 0 "dotenvy_check $version$nl" '' --allow none --version
 }
 
 check_words() {
@@ -155,10 +143,8 @@ check_words() {
         "unknown option '-\\u{202e}\\u{2066}\\u{2028}\\u{2029}'" $'-\u202e\u2066\u2028\u2029'
     call bad.env $'\377.env'
     check 'a word that is no text: nothing is checked' 2 '' "$(failure 'a word of the command line is not UTF-8')$nl"
-    call --version
-    check 'the version' 0 "dotenvy_check $version$nl" ''
-    call -V bad.env
-    check 'the version by its letter: nothing is checked' 0 "dotenvy_check $version$nl" ''
+    gives 'the version' 0 "dotenvy_check $version$nl" '' --version
+    gives 'the version by its letter: nothing is checked' 0 "dotenvy_check $version$nl" '' -V bad.env
     call --help
     cp "$room/output" "$room/help"
     check 'help' 0 "$(cat "$room/help")$nl" ''
@@ -172,23 +158,17 @@ check_words() {
     call bad.env -h -x
     check 'help by its letter: nothing is checked, and no word after it is read' 0 "$(cat "$room/help")$nl" ''
     printf 'A\n' >$'a\nb.env'
-    call $'a\nb.env'
-    check 'a file name with a line feed' 1 "$(no_equals_sign 'a\nb.env:1:2')$nl" ''
-    call ''
-    check 'a file without a name' 2 "$(unread '' 'No such file or directory (os error 2)')$nl" ''
-    call ./-x
-    check 'a file whose name begins with a dash' 2 "$(unread ./-x 'No such file or directory (os error 2)')$nl" ''
-    call -- -x
-    check 'one after --' 2 "$(unread -x 'No such file or directory (os error 2)')$nl" ''
-    call --strict --strict mentions.env --strict
-    check 'an option that is repeated' 1 "$mentions" ''
+    gives 'a file name with a line feed' 1 "$(no_equals_sign 'a\nb.env:1:2')$nl" '' $'a\nb.env'
+    gives 'a file without a name' 2 "$(unread '' 'No such file or directory (os error 2)')$nl" '' ''
+    gives 'a file whose name begins with a dash' 2 "$(unread ./-x 'No such file or directory (os error 2)')$nl" '' ./-x
+    gives 'one after --' 2 "$(unread -x 'No such file or directory (os error 2)')$nl" '' -- -x
+    gives 'an option that is repeated' 1 "$mentions" '' --strict --strict mentions.env --strict
     local number all=
     for number in $(seq 300); do
         all+=$(unread "absent$number.env" 'No such file or directory (os error 2)')$nl
     done
     # shellcheck disable=SC2046 # each number is a word of its own
-    call $(seq 300 | sed 's/.*/absent&.env/')
-    check 'three hundred files' 2 "$all" ''
+    gives 'three hundred files' 2 "$all" '' $(seq 300 | sed 's/.*/absent&.env/')
 }
 
 # Which findings are reported, and which count.
@@ -196,45 +176,31 @@ check_counts() {
     local warnings
     printf 'A=$CHECKED\nB=~/x\n' >warnings.env
     warnings=$(unknown_name warnings.env:1:3)$nl$(tilde warnings.env:2:3)$nl
-    call warnings.env --allow unknown-name
-    check 'a kind that is allowed' 0 "$(tilde warnings.env:2:3)$nl" ''
-    call --strict --allow=unknown-name warnings.env --allow tilde
-    check 'two kinds that are allowed, with --strict' 0 '' ''
+    gives 'a kind that is allowed' 0 "$(tilde warnings.env:2:3)$nl" '' warnings.env --allow unknown-name
+    gives 'two kinds that are allowed, with --strict' 0 '' '' --strict --allow=unknown-name warnings.env --allow tilde
     call --allow name-before-underscore bad.env
     check 'a fault beside a kind that is allowed' 1 "$(space_in_value bad.env:2:6)$nl" ''
-    call --deny tilde warnings.env
-    check 'a kind that is denied' 1 "$warnings" ''
-    call --deny default --deny open-brace warnings.env
-    check 'kinds that are denied and not there' 0 "$warnings" ''
+    gives 'a kind that is denied' 1 "$warnings" '' --deny tilde warnings.env
+    gives 'kinds that are denied and not there' 0 "$warnings" '' --deny default --deny open-brace warnings.env
     call --deny tilde --allow tilde warnings.env
     check 'a kind that is denied and allowed' 0 "$(unknown_name warnings.env:1:3)$nl" ''
-    call -q --deny tilde warnings.env
-    check 'a kind that is denied, quietly' 1 '' ''
+    gives 'a kind that is denied, quietly' 1 '' '' -q --deny tilde warnings.env
 }
 
 # Which names have a value that the file doesn't declare.
 check_names() {
-    call --known CHECKED --strict mentions.env
-    check 'a known name' 0 '' ''
-    call --known=NOT mentions.env
-    check 'another known name' 0 "$mentions" ''
-    call --known 1A --known '' mentions.env
-    check 'known names that are none' 0 "$mentions" ''
-    CHECKED=1 call --ignore-environment mentions.env
-    check 'a name of the environment that is ignored' 0 "$mentions" ''
+    gives 'a known name' 0 '' '' --known CHECKED --strict mentions.env
+    gives 'another known name' 0 "$mentions" '' --known=NOT mentions.env
+    gives 'known names that are none' 0 "$mentions" '' --known 1A --known '' mentions.env
+    CHECKED=1 gives 'a name of the environment that is ignored' 0 "$mentions" '' --ignore-environment mentions.env
     CHECKED=1 call --ignore-environment --known CHECKED --strict mentions.env
     check 'a known name beside an environment that is ignored' 0 '' ''
     echo 'CHECKED=1' >before.env
-    call --strict before.env mentions.env
-    check 'a name of another file' 1 "$mentions" ''
-    call --strict --together before.env mentions.env
-    check 'a name of the file before, together' 0 '' ''
-    call --together mentions.env before.env
-    check 'a name of the file behind, together' 0 "$mentions" ''
-    call --strict --together before.env before.env
-    check 'a name that two files declare, together' 0 '' ''
-    call --together - mentions.env <before.env
-    check 'a name of standard input, together' 0 '' ''
+    gives 'a name of another file' 1 "$mentions" '' --strict before.env mentions.env
+    gives 'a name of the file before, together' 0 '' '' --strict --together before.env mentions.env
+    gives 'a name of the file behind, together' 0 "$mentions" '' --together mentions.env before.env
+    gives 'a name that two files declare, together' 0 '' '' --strict --together before.env before.env
+    gives 'a name of standard input, together' 0 '' '' --together - mentions.env <before.env
     CHECKED=1 call --together --ignore-environment mentions.env
     check 'a name of the environment that is ignored, together' 0 "$mentions" ''
 }
@@ -247,21 +213,16 @@ check_schema() {
     printf 'Z=1\nB=1\n' >others.env
     missing=$(not_declared names.schema B Z)$nl
     extra=$(not_in_schema names.schema B_ C)$nl
-    call --schema names.schema some.env
-    check 'names that are missing, and others' 1 "$missing$extra" ''
-    call some.env others.env --schema=names.schema
-    check 'names of two files, and others' 0 "$extra" ''
-    call --strict --schema names.schema some.env others.env
-    check 'other names with --strict' 1 "$extra" ''
+    gives 'names that are missing, and others' 1 "$missing$extra" '' --schema names.schema some.env
+    gives 'names of two files, and others' 0 "$extra" '' some.env others.env --schema=names.schema
+    gives 'other names with --strict' 1 "$extra" '' --strict --schema names.schema some.env others.env
     printf 'A=1\n' >one.env
-    call --strict --schema names.schema one.env others.env
-    check 'each name in one of two files' 0 '' ''
+    gives 'each name in one of two files' 0 '' '' --strict --schema names.schema one.env others.env
     call --schema names.schema others.env bad.env
     check 'names come behind findings' 1 "$bad$(not_in_schema names.schema C)$nl" ''
     CHECKED=1 A=1 call --known A --schema names.schema others.env
     check 'a name of the environment is not declared' 1 "$(not_declared names.schema A)$nl" ''
-    call -q --schema names.schema some.env
-    check 'names that are missing, quietly' 1 '' ''
+    gives 'names that are missing, quietly' 1 '' '' -q --schema names.schema some.env
     call --schema absent.schema one.env
     check 'an absent file of names' 2 "$(unread absent.schema 'No such file or directory (os error 2)')$nl" ''
     call --format github --schema names.schema one.env others.env some.env
@@ -288,10 +249,8 @@ check_folders() {
     ln -s ../bare many/d.env
     mkfifo many/e.env
     found=$(no_equals_sign many/{-x.env,.env,.env.local,b.env}:1:2)$nl
-    call many
-    check 'a folder' 1 "$found" ''
-    call many/
-    check 'a folder with a slash' 1 "$found" ''
+    gives 'a folder' 1 "$found" '' many
+    gives 'a folder with a slash' 1 "$found" '' many/
     check_refused 'a value that begins with a dash, as a word' "no value after '--exclude'" --exclude -x.env many
     call --exclude=-x.env many --exclude .env
     check 'two names that are left out of a folder' 1 "$(no_equals_sign many/{.env.local,b.env}:1:2)$nl" ''
@@ -300,10 +259,8 @@ check_folders() {
     call many/below good.env many/below.env
     check 'folders below it, around a file' 1 "$(no_equals_sign many/below/a.env:1:2 many/below.env/a.env:1:2)$nl" ''
     ln -s many/below linked
-    call linked
-    check 'a link to a folder' 1 "$(no_equals_sign linked/a.env:1:2)$nl" ''
-    call bare
-    check 'a folder without files' 0 '' ''
+    gives 'a link to a folder' 1 "$(no_equals_sign linked/a.env:1:2)$nl" '' linked
+    gives 'a folder without files' 0 '' '' bare
     cd many/below
     call .
     cd ../..
@@ -317,31 +274,26 @@ check_folders() {
         call bare good.env
         found=$(no_equals_sign bare/z.env:1:2)$nl$(unread bare 'a file here has a name that is not UTF-8')$nl
         check 'a folder with a name that is no text' 2 "$found" ''
-        call -q bare
-        check 'a folder with a name that is no text, quietly' 2 '' ''
+        gives 'a folder with a name that is no text, quietly' 2 '' '' -q bare
     fi
 }
 
 # A report in another format.
 check_formats() {
     local format
-    call --format text bad.env
-    check 'a report as text' 1 "$bad" ''
+    gives 'a report as text' 1 "$bad" '' --format text bad.env
     check_github
     check_json
     check_sarif
     for format in text github json sarif; do
-        call --format "$format" --quiet bad.env absent.env
-        check "a quiet check in the format $format" 2 '' ''
+        gives "a quiet check in the format $format" 2 '' '' --format "$format" --quiet bad.env absent.env
         call --format "$format" --deny unknown-name mentions.env -q
         check "a quiet check in the format $format with a warning that counts" 1 '' ''
     done
     for format in text github json; do
-        call --format "$format" good.env
-        check "nothing is found in the format $format" 0 '' ''
+        gives "nothing is found in the format $format" 0 '' '' --format "$format" good.env
     done
-    call --format xml bad.env --format text
-    check 'the last format counts' 1 "$bad" ''
+    gives 'the last format counts' 1 "$bad" '' --format xml bad.env --format text
 }
 
 check_github() {
@@ -353,8 +305,7 @@ check_github() {
 ::error file=absent.env::No such file or directory (os error 2)
 END
     )
-    call --format github bad.env absent.env
-    check "a report in GitHub's form" 2 "$wanted$nl" ''
+    gives "a report in GitHub's form" 2 "$wanted$nl" '' --format github bad.env absent.env
     printf '// c\n' >'a:b,c%d.env'
     call --format github 'a:b,c%d.env'
     check "a file name in GitHub's form" 1 \
@@ -369,8 +320,7 @@ check_json() {
 END
     )
     printf '// c\n' >'"a\b".env'
-    call --format json '"a\b".env'
-    check 'a file name in JSON' 1 "$wanted$nl" ''
+    gives 'a file name in JSON' 1 "$wanted$nl" '' --format json '"a\b".env'
     # Each object is a line, which is broken here.
     wanted=$(
         sed ':next; /}$/!{ N; s/\n *//; b next; }' <<'END'
@@ -385,8 +335,7 @@ END
 END
     )
     printf 'A=1\nA=2\nB="\n// c\n' >guess.env
-    call --format json guess.env absent.env
-    check 'a report as JSON' 2 "$wanted$nl" ''
+    gives 'a report as JSON' 2 "$wanted$nl" '' --format json guess.env absent.env
 }
 
 # Keeps of a document of SARIF its results, and what is behind them.
@@ -423,10 +372,8 @@ check_texts() {
     local space said
     space=$(space_in_value bad.env:2:6)$nl
     said="    Error parsing line: 'two words', error at line index: 4$nl"
-    call --text bad.env
-    check 'what a load says' 1 "${bad/"$space"/"$space$said"}" ''
-    call --text mentions.env
-    check 'a load says nothing of a warning' 0 "$mentions" ''
+    gives 'what a load says' 1 "${bad/"$space"/"$space$said"}" '' --text bad.env
+    gives 'a load says nothing of a warning' 0 "$mentions" '' --text mentions.env
     printf 'A="secret\n# \e[31m\n' >turned.env
     call turned.env --text
     check 'what a load says of an open quote, on one line' 1 \
@@ -436,25 +383,18 @@ check_texts() {
     call --text none.env
     check 'a load says nothing of a line that is no text' 1 \
         "none.env:1:3: error: this byte is not UTF-8, and the file may be in Latin-1; save it as UTF-8 [latin-1]$nl" ''
-    call --text --quiet bad.env
-    check 'what a load says, quietly' 1 '' ''
+    gives 'what a load says, quietly' 1 '' '' --text --quiet bad.env
     call --format github bad.env
     cp "$room/output" "$room/kept"
-    call --text --format github bad.env
-    check "what a load says is not in GitHub's form" 1 "$(cat "$room/kept")$nl" ''
+    gives "what a load says is not in GitHub's form" 1 "$(cat "$room/kept")$nl" '' --text --format github bad.env
 }
 
 check_quiet() {
-    call --quiet good.env
-    check 'a quiet check without findings' 0 '' ''
-    call -q bad.env
-    check 'a quiet check with findings' 1 '' ''
-    call -q mentions.env
-    check 'a quiet check with a warning' 0 '' ''
-    call -q --strict mentions.env
-    check 'a quiet check with a warning that counts' 1 '' ''
-    call bad.env absent.env -q
-    check 'a quiet check with an absent file' 2 '' ''
+    gives 'a quiet check without findings' 0 '' '' --quiet good.env
+    gives 'a quiet check with findings' 1 '' '' -q bad.env
+    gives 'a quiet check with a warning' 0 '' '' -q mentions.env
+    gives 'a quiet check with a warning that counts' 1 '' '' -q --strict mentions.env
+    gives 'a quiet check with an absent file' 2 '' '' bad.env absent.env -q
     call -q -x
     check 'a quiet check with an unknown option' 2 '' "$(failure "unknown option '-x'; try 'dotenvy_check --help'")$nl"
 }
@@ -480,8 +420,7 @@ check_many_names() {
 # Checks a file between two others, which are checked all the same.
 check_between() {
     local what=$1 file=$2 text=$3
-    call good.env "$file" bad.env
-    check "$what" 2 "$(unread "$file" "$text")$nl$bad" ''
+    gives "$what" 2 "$(unread "$file" "$text")$nl$bad" '' good.env "$file" bad.env
 }
 
 check_files() {
@@ -506,40 +445,31 @@ check_files() {
     check 'a line that is no text' 1 \
         "broken.env:1:3: error: this byte is not UTF-8, and the file may be in Latin-1; save it as UTF-8 [latin-1]$nl" ''
     ln -s bad.env link.env
-    call link.env
-    check 'a link has its own name' 1 "${bad//bad.env/link.env}" ''
-    call bad.env bad.env
-    check 'a file that is named twice' 1 "$bad$bad" ''
+    gives 'a link has its own name' 1 "${bad//bad.env/link.env}" '' link.env
+    gives 'a file that is named twice' 1 "$bad$bad" '' bad.env bad.env
     : >empty.env
-    call empty.env /dev/null
-    check 'empty files' 0 '' ''
+    gives 'empty files' 0 '' '' empty.env /dev/null
 }
 
 check_streams() {
     mkfifo pipe.env
     cat bad.env >pipe.env &
-    call pipe.env
-    check 'a FIFO' 1 "${bad//bad.env/pipe.env}" ''
-    call /dev/stdin <bad.env
-    check 'standard input by its name' 1 "${bad//bad.env//dev/stdin}" ''
+    gives 'a FIFO' 1 "${bad//bad.env/pipe.env}" '' pipe.env
+    gives 'standard input by its name' 1 "${bad//bad.env//dev/stdin}" '' /dev/stdin <bad.env
     cp bad.env input.env
-    call - <input.env
-    check 'standard input as a dash' 1 "${bad//bad.env/<stdin>}" ''
-    call good.env - - bad.env <input.env
-    check 'standard input twice, between files' 1 "${bad//bad.env/<stdin>}$bad" ''
+    gives 'standard input as a dash' 1 "${bad//bad.env/<stdin>}" '' - <input.env
+    gives 'standard input twice, between files' 1 "${bad//bad.env/<stdin>}$bad" '' good.env - - bad.env <input.env
     call bad.env <&-
     check 'closed standard input' 1 "$bad" ''
     call - <&-
     check 'closed standard input that is named' 2 "$(unread '<stdin>' 'Bad file descriptor (os error 9)')$nl" ''
-    call - <folder
-    check 'standard input that is a directory' 2 "$(unread '<stdin>' 'Is a directory (os error 21)')$nl" ''
+    gives 'standard input that is a directory' 2 "$(unread '<stdin>' 'Is a directory (os error 21)')$nl" '' - <folder
     seq 20000 | sed 's/.*/A/' >many.env
     call many.env
     # shellcheck disable=SC2046 # each place is a word of its own
     check 'faults on 20000 lines' 1 "$(no_equals_sign $(seq -f 'many.env:%.0f:2' 20000))$nl" ''
     sed '1s/.*/A="/' many.env >open.env
-    call open.env
-    check 'guesses on 19999 lines behind an open quote' 1 "$(behind_open_quote 19999)$nl" ''
+    gives 'guesses on 19999 lines behind an open quote' 1 "$(behind_open_quote 19999)$nl" '' open.env
 }
 
 # The report of open.env, where so many lines stand behind the one with the quote.
@@ -555,11 +485,9 @@ check_search() {
     mkdir -p above/below/.env
     cp bad.env above/.env
     cd above
-    call
-    check 'the default file' 1 "${bad//bad.env/$here/above/.env}" ''
+    gives 'the default file' 1 "${bad//bad.env/$here/above/.env}" ''
     cd below
-    call
-    check 'the default file of the directory above' 1 "${bad//bad.env/$here/above/.env}" ''
+    gives 'the default file of the directory above' 1 "${bad//bad.env/$here/above/.env}" ''
     cp ../.env ../other.env
     call other.env
     check 'a file that is named is not searched for' 2 "$(unread other.env 'No such file or directory (os error 2)')$nl" ''
@@ -567,18 +495,8 @@ check_search() {
     mkdir gone
     cd gone
     rmdir ../gone
-    call
-    check 'no current directory' 2 "$(unread .env 'No such file or directory (os error 2)')$nl" ''
+    gives 'no current directory' 2 "$(unread .env 'No such file or directory (os error 2)')$nl" ''
     cd "$here"
-}
-
-# Calls the program with standard output elsewhere: what is written there can't be told.
-call_without_output() {
-    local output=$1
-    shift
-    status=0
-    : >"$room/output"
-    eval '"$program" "$@"' "$output" '2>"$room/errors"' || status=$?
 }
 
 check_outputs() {

@@ -44,16 +44,14 @@ left_out() {
 check_refused() {
     local what=$1 text=$2
     shift 2
-    call "$@"
-    check "$what" 2 '' "$(failure "$text; try 'dotenvy_export --help'")$nl"
+    gives "$what" 2 '' "$(failure "$text; try 'dotenvy_export --help'")$nl" "$@"
 }
 
 # Calls the program, which ends with this error, and writes nothing.
 check_error() {
     local what=$1 text=$2
     shift 2
-    call "$@"
-    check "$what" 1 '' "$(failure "$text")$nl"
+    gives "$what" 1 '' "$(failure "$text")$nl" "$@"
 }
 
 # The error for a line of a file.
@@ -75,18 +73,12 @@ printf 'A="1\n2"\n' >feed.env
 printf 'A="1\r"\n' >return.env
 
 check_targets() {
-    call docker special.env
-    check 'docker: each special character' 0 "A=$special$nl" ''
-    call kubernetes special.env
-    check 'kubernetes: each special character' 0 "A=$special$nl" ''
-    call docker return.env
-    check 'docker: a carriage return at the end is doubled' 0 $'A=1\r\r\n' ''
-    call systemd special.env
-    check 'systemd: each special character' 0 "$(cat special.env)$nl" ''
-    call systemd feed.env
-    check 'systemd: a line feed' 0 "$(cat feed.env)$nl" ''
-    call sh special.env
-    check 'sh: each special character' 0 "export A='${special//\'/\'\\\'\'}'$nl" ''
+    gives 'docker: each special character' 0 "A=$special$nl" '' docker special.env
+    gives 'kubernetes: each special character' 0 "A=$special$nl" '' kubernetes special.env
+    gives 'docker: a carriage return at the end is doubled' 0 $'A=1\r\r\n' '' docker return.env
+    gives 'systemd: each special character' 0 "$(cat special.env)$nl" '' systemd special.env
+    gives 'systemd: a line feed' 0 "$(cat feed.env)$nl" '' systemd feed.env
+    gives 'sh: each special character' 0 "export A='${special//\'/\'\\\'\'}'$nl" '' sh special.env
     check_by_sh 'sh reads each special character' "$special"
     call sh feed.env
     check_by_sh 'sh reads a line feed' "1${nl}2"
@@ -106,8 +98,7 @@ check_targets() {
     : >empty.env
     call json empty.env
     check_by_python 'Python reads an object without names' '' ''
-    call sh empty.env
-    check 'sh: a file without names' 0 '' ''
+    gives 'sh: a file without names' 0 '' '' sh empty.env
 }
 
 # The value of A that sh has after it has read the last output.
@@ -146,26 +137,22 @@ check_pairs() {
     for target in docker kubernetes; do
         check_error "$target: a line feed" "A: the value has a line feed, which $target can't be given" $target feed.env
         printf 'A=%065533d\n' 0 >fits.env
-        call "$target" fits.env
-        check "$target: a line of 65,535 bytes" 0 "$(cat fits.env)$nl" ''
+        gives "$target: a line of 65,535 bytes" 0 "$(cat fits.env)$nl" '' "$target" fits.env
         printf 'A=%065534d\n' 0 >long.env
         check_error "$target: a line of 65,536 bytes" \
             "A: the line has 65,536 bytes or more, which $target can't be given" $target long.env
     done
     name=$(printf 'A%0252d' 0)
     echo "$name=1" >name.env
-    call kubernetes name.env
-    check 'kubernetes: a name of 253 characters' 0 "$(cat name.env)$nl" ''
+    gives 'kubernetes: a name of 253 characters' 0 "$(cat name.env)$nl" '' kubernetes name.env
     echo "${name}0=1" >name.env
     check_error 'kubernetes: a name of 254 characters' "${name}0: kubernetes can't be given this name" kubernetes name.env
-    call docker name.env
-    check 'docker: a name of 254 characters' 0 "$(cat name.env)$nl" ''
+    gives 'docker: a name of 254 characters' 0 "$(cat name.env)$nl" '' docker name.env
     printf 'A.B=1\n' >dot.env
     for target in systemd sh; do
         check_error "$target: a name with a dot" "A.B: $target can't be given this name" $target dot.env
     done
-    call docker dot.env
-    check 'docker: a name with a dot' 0 "A.B=1$nl" ''
+    gives 'docker: a name with a dot' 0 "A.B=1$nl" '' docker dot.env
     check_error 'the first pair in the order of names is told' "A.B: sh can't be given this name" sh reserved.env
     check_error 'nothing is written of the other pairs' "A: the value has a line feed, which docker can't be given" \
         docker b.env feed.env
@@ -175,73 +162,51 @@ check_reserved() {
     printf 'UID=1000\nZ=1\n' >uid.env
     check_error 'sh: a name that shells keep' \
         "UID: shells keep this name; 'dotenvy_export --skip-reserved' leaves it out" sh uid.env
-    call sh --skip-reserved uid.env
-    check 'sh: such a name is left out' 0 "export Z='1'$nl" "$(left_out UID)$nl"
+    gives 'sh: such a name is left out' 0 "export Z='1'$nl" "$(left_out UID)$nl" sh --skip-reserved uid.env
     printf 'PPID=1\nUID=2\nEUID=3\n_=4\n' >kept.env
-    call sh kept.env --skip-reserved
-    check 'sh: all of them are left out' 0 '' "$(left_out EUID PPID UID _)$nl"
+    gives 'sh: all of them are left out' 0 '' "$(left_out EUID PPID UID _)$nl" sh kept.env --skip-reserved
     check_error 'sh: another name stays refused' "A.B: sh can't be given this name" sh --skip-reserved reserved.env
-    call docker --skip-reserved uid.env
-    check 'docker: no name is left out' 0 "UID=1000${nl}Z=1$nl" ''
-    call systemd --skip-reserved uid.env
-    check 'systemd: no name is left out' 0 "UID=\"1000\"${nl}Z=\"1\"$nl" ''
+    gives 'docker: no name is left out' 0 "UID=1000${nl}Z=1$nl" '' docker --skip-reserved uid.env
+    gives 'systemd: no name is left out' 0 "UID=\"1000\"${nl}Z=\"1\"$nl" '' systemd --skip-reserved uid.env
 }
 
 # Which names are written, with which values.
 check_values() {
-    call sh a.env
-    check 'a file' 0 "export A='1'${nl}export B='1'$nl" ''
-    call sh a.env b.env
-    check 'the first of two files counts' 0 "export A='1'${nl}export B='1'${nl}export C='3'$nl" ''
+    gives 'a file' 0 "export A='1'${nl}export B='1'$nl" '' sh a.env
+    gives 'the first of two files counts' 0 "export A='1'${nl}export B='1'${nl}export C='3'$nl" '' sh a.env b.env
     call sh --override a.env b.env
     check 'with --override the last counts' 0 "export A='1'${nl}export B='2'${nl}export C='3'$nl" ''
-    A=7 OUTER=1 call sh a.env
-    check 'a name of the environment has its value' 0 "export A='7'${nl}export B='7'$nl" ''
-    A=7 call sh --override a.env
-    check 'with --override that of the file' 0 "export A='1'${nl}export B='1'$nl" ''
-    A=7 call sh --ignore-environment a.env
-    check 'without the environment' 0 "export A='1'${nl}export B='1'$nl" ''
+    A=7 OUTER=1 gives 'a name of the environment has its value' 0 "export A='7'${nl}export B='7'$nl" '' sh a.env
+    A=7 gives 'with --override that of the file' 0 "export A='1'${nl}export B='1'$nl" '' sh --override a.env
+    A=7 gives 'without the environment' 0 "export A='1'${nl}export B='1'$nl" '' sh --ignore-environment a.env
     printf 'A=$OUTER\n' >outer.env
-    OUTER=1 call sh outer.env
-    check 'a file can use the environment' 0 "export A='1'$nl" ''
-    OUTER=1 call sh --ignore-environment outer.env
-    check 'which it can not where that is ignored' 0 "export A=''$nl" ''
+    OUTER=1 gives 'a file can use the environment' 0 "export A='1'$nl" '' sh outer.env
+    OUTER=1 gives 'which it can not where that is ignored' 0 "export A=''$nl" '' sh --ignore-environment outer.env
     printf 'A=1\nB="$A"\n' >next.env
     check_error 'the first dialect' "$(line "$here/next.env" 2)" sh next.env
-    call sh --next next.env
-    check 'the second dialect' 0 "export A='1'${nl}export B='1'$nl" ''
+    gives 'the second dialect' 0 "export A='1'${nl}export B='1'$nl" '' sh --next next.env
     printf '\357\273\277A=1\r\nB=2\r\n' >windows.env
-    call sh windows.env
-    check 'a byte order mark, and lines that end as on Windows' 0 "export A='1'${nl}export B='2'$nl" ''
+    gives 'a byte order mark, and lines that end as on Windows' 0 "export A='1'${nl}export B='2'$nl" '' sh windows.env
     printf 'A=1\nA=2\n' >twice.env
-    call sh twice.env
-    check 'a name twice in a file' 0 "export A='1'$nl" ''
-    call sh twice.env --override
-    check 'a name twice in a file with --override' 0 "export A='2'$nl" ''
+    gives 'a name twice in a file' 0 "export A='1'$nl" '' sh twice.env
+    gives 'a name twice in a file with --override' 0 "export A='2'$nl" '' sh twice.env --override
 }
 
 check_optional() {
     printf 'A=first\n' >one.env
     printf 'A=second\n' >two.env
-    call docker --optional one.env two.env
-    check 'an optional file before a file' 0 "A=first$nl" ''
-    call docker one.env --optional two.env
-    check 'one behind it' 0 "A=first$nl" ''
-    call docker two.env --optional one.env
-    check 'the order is that of the words' 0 "A=second$nl" ''
-    call docker --optional=two.env --optional one.env
-    check 'two optional files' 0 "A=second$nl" ''
+    gives 'an optional file before a file' 0 "A=first$nl" '' docker --optional one.env two.env
+    gives 'one behind it' 0 "A=first$nl" '' docker one.env --optional two.env
+    gives 'the order is that of the words' 0 "A=second$nl" '' docker two.env --optional one.env
+    gives 'two optional files' 0 "A=second$nl" '' docker --optional=two.env --optional one.env
     call docker --override one.env --optional two.env b.env --optional=none.env a.env
     check 'files and optional files in turn' 0 "A=1${nl}B=1${nl}C=3$nl" ''
-    call docker --optional none.env two.env --optional ./none.env
-    check 'optional files that are absent' 0 "A=second$nl" ''
-    call docker --optional none.env
-    check 'an optional file alone that is absent: nothing is searched' 0 '' ''
+    gives 'optional files that are absent' 0 "A=second$nl" '' docker --optional none.env two.env --optional ./none.env
+    gives 'an optional file alone that is absent: nothing is searched' 0 '' '' docker --optional none.env
     check_error 'an optional file with a fault' "$(line "$here/faulty.env" 2)" docker --optional faulty.env
     check_error 'an optional file in a file' './a.env/x: Not a directory (os error 20)' docker --optional ./a.env/x
     check_error 'a file that is absent beside an optional one' "none.env: $absent" docker --optional none.env none.env
-    call docker --optional - <two.env
-    check 'standard input as an optional file' 0 "A=second$nl" ''
+    gives 'standard input as an optional file' 0 "A=second$nl" '' docker --optional - <two.env
 }
 
 check_words() {
@@ -263,12 +228,9 @@ check_words() {
     check_refused 'an option with characters that turn or end a line' \
         "unknown option '-\\u{202e}\\u{2066}\\u{2028}\\u{2029}'" sh $'-\342\200\256\342\201\246\342\200\250\342\200\251'
     check_refused 'an unknown option before --help' "unknown option '-x'" -x --help
-    call sh a.env $'\377.env'
-    check 'a word that is no text' 2 '' "$(failure 'a word of the command line is not UTF-8')$nl"
-    call --version
-    check 'the version' 0 "dotenvy_export $version$nl" ''
-    call sh -V none.env
-    check 'the version by its letter: nothing is read' 0 "dotenvy_export $version$nl" ''
+    gives 'a word that is no text' 2 '' "$(failure 'a word of the command line is not UTF-8')$nl" sh a.env $'\377.env'
+    gives 'the version' 0 "dotenvy_export $version$nl" '' --version
+    gives 'the version by its letter: nothing is read' 0 "dotenvy_export $version$nl" '' sh -V none.env
     call --help
     cp "$room/output" "$room/help"
     check 'help' 0 "$(cat "$room/help")$nl" ''
@@ -278,16 +240,12 @@ check_words() {
         grep -qE -- "^ .*$option(,| )" "$room/help" || status=$?
         check "help has $option" 0 "$(cat "$room/help")$nl" ''
     done
-    call none -h -x
-    check 'help by its letter: no word after it is read' 0 "$(cat "$room/help")$nl" ''
+    gives 'help by its letter: no word after it is read' 0 "$(cat "$room/help")$nl" '' none -h -x
     cp a.env ./--next
-    call -- sh --next
-    check 'words after --' 0 "export A='1'${nl}export B='1'$nl" ''
-    call sh --next a.env --next
-    check 'an option that is repeated' 0 "export A='1'${nl}export B='1'$nl" ''
+    gives 'words after --' 0 "export A='1'${nl}export B='1'$nl" '' -- sh --next
+    gives 'an option that is repeated' 0 "export A='1'${nl}export B='1'$nl" '' sh --next a.env --next
     # shellcheck disable=SC2046 # each number is a word of its own
-    call docker $(seq 300 | sed 's/.*/a.env/') two.env
-    check 'three hundred files' 0 "A=1${nl}B=1$nl" ''
+    gives 'three hundred files' 0 "A=1${nl}B=1$nl" '' docker $(seq 300 | sed 's/.*/a.env/') two.env
 }
 
 check_files() {
@@ -313,8 +271,7 @@ check_files() {
             sh shut/a.env
     fi
     chmod 755 locked.env shut
-    call sh link.env
-    check 'a link to a file' 0 "export A='1'${nl}export B='1'$nl" ''
+    gives 'a link to a file' 0 "export A='1'${nl}export B='1'$nl" '' sh link.env
     check_error 'a fault in the second file, of which the value is not told' "$(line "$here/faulty.env" 2)" \
         sh a.env faulty.env
     printf 'A=\377secret\nB=1\n' >broken.env
@@ -331,24 +288,18 @@ check_files() {
 check_streams() {
     mkfifo pipe.env
     cat a.env >pipe.env &
-    call sh ./pipe.env
-    check 'a FIFO by its path' 0 "export A='1'${nl}export B='1'$nl" ''
+    gives 'a FIFO by its path' 0 "export A='1'${nl}export B='1'$nl" '' sh ./pipe.env
     check_error 'a FIFO by its name' "pipe.env: $absent" sh pipe.env
-    call sh <(cat a.env)
-    check 'what a command writes' 0 "export A='1'${nl}export B='1'$nl" ''
-    call sh /dev/stdin <a.env
-    check 'standard input by its path' 0 "export A='1'${nl}export B='1'$nl" ''
-    call sh - <a.env
-    check 'standard input as a dash' 0 "export A='1'${nl}export B='1'$nl" ''
+    gives 'what a command writes' 0 "export A='1'${nl}export B='1'$nl" '' sh <(cat a.env)
+    gives 'standard input by its path' 0 "export A='1'${nl}export B='1'$nl" '' sh /dev/stdin <a.env
+    gives 'standard input as a dash' 0 "export A='1'${nl}export B='1'$nl" '' sh - <a.env
     status=0
     tail -n 9 a.env | "$program" sh b.env - - >"$room/output" 2>"$room/errors" || status=$?
     check 'standard input twice, of which the second is empty' 0 "export A='1'${nl}export B='2'${nl}export C='3'$nl" ''
-    call sh - <faulty.env
-    check 'a fault in standard input' 1 '' "$(failure "$(line '<stdin>' 2)")$nl"
+    gives 'a fault in standard input' 1 '' "$(failure "$(line '<stdin>' 2)")$nl" sh - <faulty.env
     call sh - <&-
     check 'closed standard input' 1 '' "$(failure '<stdin>: Bad file descriptor (os error 9)')$nl"
-    call sh - <folder
-    check 'standard input that is a folder' 1 '' "$(failure '<stdin>: Is a directory (os error 21)')$nl"
+    gives 'standard input that is a folder' 1 '' "$(failure '<stdin>: Is a directory (os error 21)')$nl" sh - <folder
     call sh a.env <&-
     check 'closed standard input that is not read' 0 "export A='1'${nl}export B='1'$nl" ''
 }
@@ -359,15 +310,11 @@ check_search() {
     printf 'A=above\n' >above/.env
     printf 'A=other\n' >above/other.env
     cd above
-    call docker
-    check 'the default file' 0 "A=above$nl" ''
+    gives 'the default file' 0 "A=above$nl" '' docker
     cd below
-    call docker
-    check 'the default file of the folder above' 0 "A=above$nl" ''
-    call docker other.env
-    check 'a file of the folder above' 0 "A=other$nl" ''
-    call docker --optional other.env
-    check 'an optional file of the folder above' 0 "A=other$nl" ''
+    gives 'the default file of the folder above' 0 "A=above$nl" '' docker
+    gives 'a file of the folder above' 0 "A=other$nl" '' docker other.env
+    gives 'an optional file of the folder above' 0 "A=other$nl" '' docker --optional other.env
     check_error 'a path is not searched' "./other.env: $no_file" docker ./other.env
     printf 'A\n' >../.env
     check_error 'a fault in a file above' "$(line "$here/above/.env" 1)" docker
@@ -377,15 +324,6 @@ check_search() {
     rmdir ../gone
     check_error 'no current directory' ".env: $no_file" docker
     cd "$here"
-}
-
-# Calls the program with standard output elsewhere: what is written there can't be told.
-call_without_output() {
-    local output=$1
-    shift
-    status=0
-    : >"$room/output"
-    eval '"$program" "$@"' "$output" '2>"$room/errors"' || status=$?
 }
 
 check_outputs() {

@@ -115,6 +115,21 @@ ended() {
     [ "$status" = "$1" ] && has "$room/output" "$2" && has "$room/errors" "$3"
 }
 
+# Calls the program and checks what it gives: `gives WHAT STATUS OUTPUT ERRORS WORD..`.
+gives() {
+    call "${@:5}"
+    holds "$1" ended "${@:2:3}"
+}
+
+# Calls the program with standard output elsewhere, such as `>&-`: what is written there can't be told.
+call_without_output() {
+    local output=$1
+    shift
+    status=0
+    : >"$room/output"
+    eval '"$program" "$@"' "$output" '2>"$room/errors"' || status=$?
+}
+
 # Shows the status and the beginning of what the last call printed.
 show_call() {
     echo "    status $status"
