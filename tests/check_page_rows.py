@@ -7,7 +7,7 @@ what is printed of each. If it finds others, the script ends with status 1.
 """
 
 import report_model
-from page_rows import CODE, FILE, listed, phrase, phrases, print_rows, refuse, written
+from examples import CODE, FILE, listed, phrase, phrases, print_rows, refuse, written
 from pages import blocks, text_of
 
 # The tables that have no examples, by their header lines.

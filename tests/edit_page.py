@@ -11,7 +11,7 @@ import shlex
 import sys
 
 import edit_model
-from page_rows import phrase, refuse
+from examples import phrase, refuse
 from pages import DOCS
 
 PAGE = DOCS / "EDIT.md"

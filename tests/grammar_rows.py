@@ -1,7 +1,7 @@
 #!/usr/bin/env -S python3 -B
 """Prints the examples of docs/GRAMMAR.md as rows (docs/ROWS.md), which are crates/test_replay/data/grammar.rows."""
 
-from page_rows import CODE, FILE, FILE_ROW, READERS, UNDER, in_order, inside, listed, phrase, print_rows, written
+from examples import CODE, FILE, FILE_ROW, READERS, UNDER, in_order, inside, listed, phrase, print_rows, written
 
 # The tables that have no examples, by their header lines.
 NO_EXAMPLES = [

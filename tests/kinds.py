@@ -19,7 +19,7 @@ import sys
 import report
 import report_model
 from counting import Count
-from page_rows import FILE, phrase
+from examples import FILE, phrase
 
 PAGE = report_model.TOP / "docs" / "KINDS.md"
 MANUAL = report_model.TOP / "docs" / "dotenvy_check.1"

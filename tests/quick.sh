@@ -205,7 +205,8 @@ done
 wait
 for name in "${parts[@]}"; do
     # A part that was cut off has no sums.
-    add_sums 0 "$room/$name/sums" || echo "FAILED: $name"
+    [ -f "$room/$name/sums" ] || echo "FAILED: $name: it did not end" | tee "$room/$name/sums"
+    add_sums 0 "$room/$name/sums" || :
 done
 echo "$SECONDS seconds"
 tell_sums

@@ -9,7 +9,7 @@ understood here ends the script with status 1, so that none is skipped.
 import re
 import shlex
 
-from page_rows import ITEM, by_columns, in_order, listed, phrase, refuse, written
+from examples import ITEM, by_columns, in_order, listed, phrase, refuse, written
 from pages import tables, text_of
 
 HEADER = "| Line | Gives | |"
