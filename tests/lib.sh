@@ -1,6 +1,7 @@
+# What the tests in shell share. A test that reads this gets an empty folder, $room, which goes when the test ends, and
+# counts its checks. Its last command is `tell_sums`.
+#
 # shellcheck shell=bash
-# What the tests in shell share. A test is at the top of the repository when it reads this by `. tests/lib.sh`. It gets an
-# empty folder, $room, which goes when the test ends, and counts its checks. Its last command is `tell_sums`.
 room=$(mktemp -d)
 trap 'jobs -pr | xargs -r kill 2>/dev/null || :; rm -rf "$room"' EXIT
 passed=0

@@ -14,7 +14,8 @@ from pages import tables, text_of
 
 HEADER = "| Line | Gives | |"
 EXAMPLE = re.compile("^```env\n(.*?)^```\n+```console\n(.*?)^```", re.M | re.S)
-CALL = re.compile(r"^\$ (.*)\n((?:(?!\$ ).*\n)*)", re.M)
+# A call, what it prints, and its status where that is asked for.
+CALL = re.compile(r"^\$ (.*)\n((?:(?!\$ ).*\n)*)(?:\$ echo \$\?\n(\d+)\n)?", re.M)
 
 
 def in_brackets(words):
@@ -22,44 +23,22 @@ def in_brackets(words):
     return "".join("[" + written(word) + "]" for word in words)
 
 
-def check_row(step, words, printed, status):
-    """A run of dotenvy_check, with what it prints and its status."""
-    answer = ["status " + status] + ([printed] if printed else [])
-    return ["check_run", step, in_brackets(words), "", listed(answer), "service.env"]
-
-
-def failing_row(step, words, printed):
-    """A run of dotenvy_run that starts nothing, since the file has a fault."""
-    return ["run", step, in_brackets(words), "", "", written(printed.rstrip("\n")), "", "/service.env"]
-
-
-def starting_row(step, words, printed, pairs):
-    """A run of dotenvy_run that starts `printenv NAME` with these pairs, one of which is what that prints."""
-    *_, program, name = words
-    if program != "printenv" or name + "=" + printed.rstrip("\n") not in pairs:
-        refuse("README.md has a command that doesn't print what the table says: " + " ".join(words))
-    variables = [written(pair.replace("=", "=[", 1) + "]") for pair in in_order(pairs)]
-    note = " ".join(["start", in_brackets([program, name]), *variables])
-    return ["run", step, in_brackets(words), "", "", "status 0", "", "/service.env; " + note]
-
-
-def call_rows(file, console, pairs):
-    """The rows of the calls of a block, on a file that gives these pairs, if it is known what it gives."""
-    step = "write service.env " + written(file)
-    calls = iter(CALL.findall(console))
-    for command, printed in calls:
-        program, *words = shlex.split(command)
-        if program == "dotenvy_check":
-            asked, status = next(calls, ("", ""))
-            if asked != "echo $?":
-                refuse("README.md doesn't ask for the status of: " + command)
-            yield check_row(step, words, printed, status.strip())
-        elif program == "dotenvy_run" and printed.startswith("error: "):
-            yield failing_row(step, words, printed)
-        elif program == "dotenvy_run":
-            yield starting_row(step, words, printed, pairs)
-        else:
-            refuse("README.md has an unknown command: " + command)
+def call_row(step, file, call, pairs):
+    """The row of a call on a file: of dotenvy_check; of dotenvy_run that starts nothing, since the file has a fault; or
+    of one that starts `printenv NAME` with these pairs, one of which is what that prints."""
+    command, printed, status = call
+    program, *words = shlex.split(command)
+    end = ["", "", written(printed.rstrip("\n")), "", "/service.env"]
+    if program == "dotenvy_check" and status:
+        answer = ["status " + status] + ([printed] if printed else [])
+        return ["check_run", step, file, in_brackets(words), "", listed(answer), "service.env"]
+    if program == "dotenvy_run" and words[-2] == "printenv" and f"{words[-1]}={end[2]}" in pairs:
+        variables = [written(pair.replace("=", "=[", 1) + "]") for pair in in_order(pairs)]
+        note = " ".join(["start", in_brackets(words[-2:]), *variables])
+        end = ["", "", "status 0", "", "/service.env; " + note]
+    elif program != "dotenvy_run" or not printed.startswith("error: "):
+        refuse("README.md has an unknown command, or one that doesn't print what the table says: " + command)
+    return ["run", step, file, in_brackets(words), *end]
 
 
 def main():
@@ -72,11 +51,10 @@ def main():
         refuse("README.md has no table of what its file gives, or a file without calls, or calls without a file")
     print("# The examples of README.md, as tests/readme_rows.py prints them.")
     print("|".join(["file", "the-first-example", "v15", "", written(examples[0][0]), listed(gives), "*", "*", "*"]))
-    number = 0
-    for file, console in examples:
-        for kind, *fields in call_rows(file, console, gives if file == examples[0][0] else []):
-            number += 1
-            print("|".join([kind, f"call-{number}", *fields]))
+    calls = [(file, call) for file, console in examples for call in CALL.findall(console)]
+    for number, (file, call) in enumerate(calls, 1):
+        pairs = gives if file == examples[0][0] else []
+        print("|".join(call_row(f"call-{number}", "write service.env " + written(file), call, pairs)))
 
 
 main()
