@@ -15,7 +15,7 @@ CRATES = TOP / "crates"
 FUNCTION = re.compile(r'(pub )?(?:pub\(crate\) )?(?:const )?(?:extern "C" )?fn (\w+)')
 TYPE = re.compile(r"(pub )?(?:pub\(crate\) )?(?:struct|enum|trait) (\w+)")
 SAID = re.compile(r"ghost ((?!use )\w+)")
-CLAUSE = re.compile(r"\b(?:requires|ensures)(?: (\w+))? \{")
+CLAUSE = re.compile(r"\b(requires|ensures)(?: (\w+))? \{")
 WORD = re.compile(r"[^\s(){}\[\],;.:λ∀→×⊎≡≢|↦]+")
 DEFINITION = re.compile(r"(?:abbrev |unfoldable )?pub (?:abbrev |unfoldable )?(record |data )?(\S+)")
 SKIPPED = re.compile(r"pub (?:mod|use)\b")
@@ -62,18 +62,21 @@ class Item:
         """Whether it is a function that users call by its name, and not one that a trait of std has."""
         return self.is_public and self.is_function() and not is_of_trait(self.block)
 
-    def contract(self, wanted=None):
-        """Its clauses, or those that are wanted. Of a line of `ghost` it is all of it."""
+    def clauses(self):
+        """Its clauses: of each the kind, the name, and the text."""
         text = "\n".join(self.lines)
-        if not self.is_function():
-            yield from [text] if SAID.match(text) else []
         for found in CLAUSE.finditer(text):
             end, depth = found.end(), 1
             while depth:
                 depth += {"{": 1, "}": -1}.get(text[end], 0)
                 end += 1
-            if wanted is None or found.group(1) in wanted:
-                yield text[found.end():end - 1]
+            yield found.group(1), found.group(2), text[found.end():end - 1]
+
+    def contract(self, wanted=None):
+        """The texts of its clauses, or of those that are wanted. Of a line of `ghost` it is all of it."""
+        if SAID.match(self.lines[0]):
+            return ["\n".join(self.lines)]
+        return [text for _, name, text in self.clauses() if wanted is None or name in wanted]
 
 
 def margin_of(line):

@@ -44,6 +44,8 @@ TESTS = [
     Test("report_by_model", "tests/report.py --model", "", "20 s"),
     Test("kinds_by_model", "tests/kinds.py --model", "", "1 s"),
     Test("edit_model", "tests/edit_model.py --examples", "", "1 s"),
+    Test("edit_by_model", "tests/edit.py --model", "", "20 s"),
+    Test("export_by_model", "tests/export_pairs.py --model model", "", "10 s"),
     Test("edit_model_rows", "tests/edit_model.py --rows", "", "5 s"),
     Test("export_recorded", "tests/export_recorded.py", "", "20 s"),
     Test("check", "tests/check.sh", "dotenvy_check", "10 s"),

@@ -52,16 +52,20 @@ def signature(lines):
     return re.sub(r",? \)", ")", text)
 
 
+def public_calls(library):
+    """The public calls of a library: of each the item, and what its users write before the name."""
+    names = exported(library)
+    for crate in sorted(crates_below(library, dependencies()) - set(LIBRARIES) | {library}):
+        for item in (item for file in source_files(crate) for item in items_of(file)):
+            public, *method = item.path[2:]
+            if item.is_call() and public in names:
+                yield item, names[public] + (public + "::" if method else "")
+
+
 def calls_of_code():
     """Every public call of the libraries: the file in which it is, and its signature."""
-    needs = dependencies()
     for library in LIBRARIES:
-        names = exported(library)
-        for crate in sorted(crates_below(library, needs) - set(LIBRARIES) | {library}):
-            for item in (item for file in source_files(crate) for item in items_of(file)):
-                public, *method = item.path[2:]
-                if item.is_call() and public in names:
-                    yield item.file, names[public] + (public + "::" if method else "") + signature(item.lines)
+        yield from ((item.file, before + signature(item.lines)) for item, before in public_calls(library))
 
 
 def names_on_page():
