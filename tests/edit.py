@@ -78,7 +78,7 @@ class Program:
         done = subprocess.run(
             [self.path, "get", "--", FILE, key], cwd=self.held.name, stdin=subprocess.DEVNULL, env={},
             capture_output=True, timeout=SECONDS)
-        return done.stdout.decode("utf-8", "replace").removesuffix("\n")
+        return re.sub(r"\n\Z", "", done.stdout.decode("utf-8", "replace"))
 
 
 class Model:
@@ -102,7 +102,7 @@ class Model:
 
     def value(self, data, key):
         """What `get` would print."""
-        entries = self.module.Own().read(data.removeprefix(self.module.MARK), "v15", [])
+        entries = self.module.Own().read(self.module.without_mark(data), "v15", [])
         return next((entry.text for entry in entries if entry.kind == "pair" and entry.key == key), "")
 
 
@@ -228,7 +228,7 @@ MUTANTS = {
     "a later declaration is left": replaced("answer_set", later_left),
     "a value is written without the check by reading": replaced("is_written", without_check),
     "a mark is doubled": replaced("answer", marked(doubled)),
-    "a mark is lost": replaced("answer", marked(lambda module, data: data.removeprefix(module.MARK))),
+    "a mark is lost": replaced("answer", marked(lambda module, data: module.without_mark(data))),
     "CR LF is made LF": replaced("new_text", returns_lost),
     "an escape is forgotten": replaced("double_quoted", escape_forgotten),
     "single quotes before a last backslash": replaced("is_written", last_backslash_in_quotes),

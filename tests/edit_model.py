@@ -26,7 +26,7 @@ import sys
 import unicodedata
 
 import report_model
-from report_model import ESCAPED, MARK, SPACE, SPACE_OR_TAB
+from report_model import ESCAPED, MARK, SPACE, SPACE_OR_TAB, without_mark
 
 TOP = report_model.TOP
 EXAMPLES = TOP / "tests" / "edit_examples.tsv"
@@ -429,7 +429,7 @@ def has_dollar(value, dialect):
 
 def warnings(old, call):
     """What is told of a call that isn't refused: a kind, the line, and a name or the empty text."""
-    lines = lines_of(old.removeprefix(MARK))
+    lines = lines_of(without_mark(old))
     slices = [line for line in lines if assigns(line, call.key)]
     assigned = [line.number for line in slices]
     first = assigned[0] if assigned else len(lines) + sum(line.data.count(b"\n") for line in lines) + 1
@@ -603,7 +603,7 @@ def broken(old, call, new, read):
     """What of the law doesn't hold of new bytes: a list of texts, empty if all of it holds."""
     if old.startswith(MARK) != new.startswith(MARK):
         return ["the mark at the start is lost, or one has come"]
-    data, new = old.removeprefix(MARK), new.removeprefix(MARK) if old.startswith(MARK) else new
+    data, new = without_mark(old), without_mark(new) if old.startswith(MARK) else new
     lines, found = lines_of(data), []
     assigned = [line for line in lines if assigns(line, call.key)]
     if call.verb == "set":

@@ -36,7 +36,7 @@ def go_lines(data):
     for number, line in enumerate(cut if cut[-1] else cut[:-1]):
         if len(line) >= TOO_LONG:
             return lines + [False]
-        text = decoded(line.removesuffix(b"\r"))
+        text = decoded(line[:-1] if line.endswith(b"\r") else line)
         if text is None:
             return lines + [None]
         text = text[1:] if number == 0 and text.startswith(MARK) else text
@@ -398,7 +398,7 @@ def written(target, pairs, kept):
 def refusal(target, name, value, kept):
     """Why a target can't be given this pair, or None: a word of the message, or a part of it."""
     is_name = {"docker": lambda name: True, "json": lambda name: True, "exec": lambda name: True}
-    is_name |= {"kubernetes": is_kubernetes_key, "systemd": is_shell_name, "sh": is_shell_name}
+    is_name.update({"kubernetes": is_kubernetes_key, "systemd": is_shell_name, "sh": is_shell_name})
     if not is_name[target](name):
         return "name"
     if target == "sh" and name in kept:

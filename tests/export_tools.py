@@ -184,7 +184,7 @@ class Systemd(Room):
         self.library.log_set_max_level.argtypes = [ctypes.c_int]
         # Of what it ignores it would print a line each.
         self.library.log_set_max_level(0)
-        self.version = path.name.removeprefix("libsystemd-shared-").removesuffix(".so")
+        self.version = re.sub(r"^libsystemd-shared-|\.so$", "", path.name)
 
     def texts(self, data, in_unit):
         """The texts NAME=VALUE of a file, or None."""
@@ -279,7 +279,7 @@ class Docker(Room):
         threading.Thread(target=self.server.serve_forever, daemon=True).start()
         # With a version the client asks for none, and so waits for no answer.
         self.environment = {"DOCKER_HOST": "unix://" + socket, "DOCKER_API_VERSION": "1.41", "HOME": str(self.folder)}
-        self.environment |= OF_GO | KNOWN
+        self.environment = {**self.environment, **OF_GO, **KNOWN}
 
     def read(self, data):
         """The pairs that the daemon is given."""

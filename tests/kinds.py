@@ -54,7 +54,7 @@ def shown(data):
     """The bytes of a file as the tables of the pages have them."""
     text = data.decode("utf-8", "surrogateescape")
     behind = "" if text.endswith("\n") else " (no `\u23ce` at the end)"
-    text = re.sub(r"^ +| +(?=\n|$)| {2,}|[^ ]", sign, text.removesuffix("\n"))
+    text = re.sub(r"^ +| +(?=\n|$)| {2,}|[^ ]", sign, re.sub(r"\n\Z", "", text))
     return f"`{text}`{behind}"
 
 

@@ -39,8 +39,8 @@ left_out() {
     echo "left out: $1, $2"
 }
 
-# Adds the sums in the last line of what a test printed, by its status and the file with it. Without that line, or with a
-# status that the line doesn't explain, it is one failure. Ends with status 1 if there is any.
+# Adds the sums in the last line of what a test printed, by its status and the file with it. Without that line, or with
+# a status that the line doesn't explain, it is one failure. Ends with status 1 if there is any.
 add_sums() {
     local failures=1
     if [[ $(tail -n 1 "$2") =~ ^([0-9]+)' passed, '([0-9]+)' failed'$ ]]; then

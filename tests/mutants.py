@@ -54,7 +54,7 @@ class Mutant:
 
     def __init__(self, path):
         self.folder, self.crate, self.name = path.parent.parent, path.parent.parent.name, path.name
-        *self.place, _ = path.name.removesuffix(".edit").split(".")
+        *self.place, _ = path.stem.split(".")
         self.texts, self.changed, self.fault = {}, [], None
         file = old = None
         for line in path.read_text(encoding="utf-8").split("\n"):

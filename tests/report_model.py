@@ -818,10 +818,15 @@ def place_of(line, index):
     return line.first_line + before.count("\n"), index - before.rfind("\n")
 
 
+def without_mark(data):
+    """The bytes of a file without its byte order mark."""
+    return data[len(MARK):] if data.startswith(MARK) else data
+
+
 def report(data, dialect="v15", names=()):
     """The findings of the bytes of a file, in order."""
     found = Report(dialect, names)
-    found.read(data.removeprefix(MARK))
+    found.read(without_mark(data))
     return found.whole()
 
 
