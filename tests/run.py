@@ -2,7 +2,7 @@
 """Runs tests, and sums up what they count.
 
     run.py             lists the tests: the programs that each needs, and about how long it takes
-    run.py NAME..      runs these; NAME:WORD runs a part, as the test itself says: documents:chart, lint:tests/run.py
+    run.py NAME..      runs these; NAME:WORD gives a test a word, such as documents:chart or lint:tests/run.py
     run.py --quick     runs those that need no built program
     run.py --passed .. prints what passed, too
 
@@ -16,6 +16,7 @@ import os
 import pathlib
 import re
 import shlex
+import signal
 import subprocess
 import sys
 import time
@@ -23,7 +24,7 @@ import time
 TOP = pathlib.Path(__file__).resolve().parent.parent
 SUMS = re.compile(rb"(\d+) passed, (\d+) failed\n")
 
-Test = collections.namedtuple("Test", "name command needs takes checks part", defaults=[None, None])
+Test = collections.namedtuple("Test", "name command needs takes checks word", defaults=[None, None])
 
 
 def edit_checks():
@@ -33,11 +34,13 @@ def edit_checks():
     return 2 * 500 + 2 * 60 + 500 + table.count("\n") - 1 + page.stdout.count(b"\n")
 
 
+ALL = "dotenvy_run dotenvy_check dotenvy_export dotenvy_edit dotenvy_c"
 TESTS = [
     Test("documents", "tests/documents.py", "", "10 s"),
     Test("words", "tests/words.py", "", "1 s"),
     Test("manual_page", "tests/manual_page.py", "", "1 s"),
     Test("lint", "tests/lint.sh", "", "40 s"),
+    Test("mutants", "tests/mutants.py", "", "1 s"),
     Test("install", "tests/install.sh", "", "10 s"),
     Test("slips", "tests/slips.py", "", "1 min"),
     Test("report_model", "tests/report_model.py --examples", "", "1 s"),
@@ -62,6 +65,8 @@ TESTS = [
     Test("recipes", "tests/recipes.sh", "dotenvy_run dotenvy_check dotenvy_export", "10 s"),
     Test("program", "tests/program.sh", "dotenvy_run dotenvy_export dotenvy_edit", "10 min"),
     Test("bindings", "bindings/test.sh --built", "dotenvy_c", "10 min"),
+    Test("trusted", "tests/trusted.py", ALL, "1 min"),
+    Test("release", "./release.sh", ALL, "20 min"),
 ]
 
 
@@ -69,14 +74,18 @@ def play(test, shows_all):
     """Runs a test, and prints what it prints: the last line and the status."""
     last = b""
     environment = {**os.environ, "PYTHONDONTWRITEBYTECODE": "1"}
-    command = shlex.split(test.command) + ([test.part] if test.part else [])
+    command = shlex.split(test.command) + ([test.word] if test.word else [])
     with subprocess.Popen(command, cwd=TOP, env=environment, stdout=subprocess.PIPE) as process:
-        for line in process.stdout:
-            # The sums come last, and are printed with the name.
-            if last and not SUMS.fullmatch(last) and (shows_all or not last.startswith(b"passed: ")):
-                sys.stdout.buffer.write(last)
-                sys.stdout.flush()
-            last = line
+        try:
+            for line in process.stdout:
+                # The sums come last, and are printed with the name.
+                if last and not SUMS.fullmatch(last) and (shows_all or not last.startswith(b"passed: ")):
+                    sys.stdout.buffer.write(last)
+                    sys.stdout.flush()
+                last = line
+        except BaseException:
+            process.terminate()
+            raise
     return last, process.returncode
 
 
@@ -89,7 +98,7 @@ def count(test, shows_all):
     faults = [] if sums else [f"it printed no sums, but ends with {last.decode(errors='backslashreplace').rstrip()!r}"]
     if status != 0 and failed == 0:
         failed, faults = 1, [f"it ended with status {status}"]
-    if test.checks and not test.part:
+    if test.checks and not test.word:
         made, wanted = passed + failed, test.checks()
         passed, failed = (passed + 1, failed) if made == wanted else (passed, failed + 1)
         faults += [] if made == wanted else [f"{made} checks in place of {wanted}"]
@@ -101,26 +110,29 @@ def count(test, shows_all):
 
 def listing():
     """The tests, one a line."""
-    return "\n".join(f"{test.name:16} {test.takes:>6}  {test.needs or '-':40} {test.command}" for test in TESTS)
+    return "\n".join(
+        f"{test.name:16} {test.takes:>6}  {'all' if test.needs == ALL else test.needs or '-':40} {test.command}"
+        for test in TESTS)
 
 
-def asked(words):
+def named(words):
     """The tests that the words of the command line name."""
     by_name = {test.name: test for test in TESTS}
-    for name, _, part in (word.partition(":") for word in words):
+    for name, _, word in (asked.partition(":") for asked in words):
         if name not in by_name:
             raise SystemExit(f"run.py: there is no test {name}; without a word it lists them")
-        yield by_name[name]._replace(part=part)
+        yield by_name[name]._replace(word=word)
 
 
 def main(words):
     """Does what the words of the command line say, and returns the status."""
+    signal.signal(signal.SIGTERM, lambda *_: sys.exit(143))
     shows_all = "--passed" in words
     words = [word for word in words if word != "--passed"]
     if not words or words[0].startswith("-") and words != ["--quick"]:
         print(__doc__.strip(), listing(), sep="\n\n")
         return 2 if words and words != ["--help"] else 0
-    tests = [test for test in TESTS if not test.needs] if words == ["--quick"] else list(asked(words))
+    tests = [test for test in TESTS if not test.needs] if words == ["--quick"] else list(named(words))
     counts = [count(test, shows_all) for test in tests]
     passed, failed = map(sum, zip(*counts))
     print(f"{passed} passed, {failed} failed")
