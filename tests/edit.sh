@@ -77,6 +77,23 @@ check_same() {
     check "$1: nothing else is there" test "$(ls -A)" = f.env
 }
 
+# Calls the program, and makes one of these checks: `gives WHAT STATUS OUTPUT ERRORS WORD..`, `makes WHAT NEW WARNINGS
+# WORD..`, `leaves WHAT STATUS ERROR OLD WORD..`.
+gives() {
+    call "${@:5}"
+    check "$1" ended "${@:2:3}"
+}
+
+makes() {
+    call "${@:4}"
+    check_new "${@:1:3}"
+}
+
+leaves() {
+    call "${@:5}"
+    check_same "${@:1:4}"
+}
+
 # Warnings.
 warning() {
     printf 'dotenvy_edit: warning: %s\n' "$@"
@@ -90,26 +107,18 @@ HOST=localhost
 MOTTO=two words
 '
 file "$old"
-call set f.env PORT 8080
-check_new 'a value is set' "${old/80/8080}"
-call get f.env PORT
-check 'and is read' ended 0 "8080$nl" ''
+makes 'a value is set' "${old/80/8080}" '' set f.env PORT 8080
+gives 'and is read' 0 "8080$nl" '' get f.env PORT
 file "$old"
-call set f.env MOTTO 'three good words'
-check_new 'a line with a fault is mended' "${old/two words/\'three good words\'}"
+makes 'a line with a fault is mended' "${old/two words/\'three good words\'}" '' set f.env MOTTO 'three good words'
 file "$old"
-call unset f.env PORT HOST PORT
-check_new 'names are removed' "# where it listens${nl}MOTTO=two words$nl"
+makes 'names are removed' "# where it listens${nl}MOTTO=two words$nl" '' unset f.env PORT HOST PORT
 file "$old"
-call rename f.env HOST SERVER
-check_new 'a name is renamed' "${old/HOST/SERVER}"
+makes 'a name is renamed' "${old/HOST/SERVER}" '' rename f.env HOST SERVER
 file "A=1$nl"
-call set f.env B 2
-check_new 'a name is appended' "A=1${nl}B=2$nl"
-call set -- f.env B -2
-check_new 'a value begins with -' "A=1${nl}B=-2$nl"
-call set f.env --next B x --quiet
-check_new 'options come anywhere' "A=1${nl}B=x$nl"
+makes 'a name is appended' "A=1${nl}B=2$nl" '' set f.env B 2
+makes 'a value begins with -' "A=1${nl}B=-2$nl" '' set -- f.env B -2
+makes 'options come anywhere' "A=1${nl}B=x$nl" '' set f.env --next B x --quiet
 
 # Values of standard input.
 
@@ -132,55 +141,40 @@ check_same 'a value has a NUL' 1 'A: the value has a NUL' "A=1$nl"
 
 old="A=1${nl}B=\"\$A \${C}.\"${nl}A=2${nl}C=two words${nl}D=4$nl"
 file "$old"
-call get f.env A
-check 'the first declaration counts' ended 0 "1$nl" ''
-call get f.env B
-check 'names are replaced' ended 0 "1 .$nl" ''
-C=3 call get f.env B
-check 'the environment makes no difference' ended 0 "1 .$nl" ''
-call get f.env D
-check_same 'a load stops before the name' 1 'f.env:4: a load stops at this line, before D' "$old"
+gives 'the first declaration counts' 0 "1$nl" '' get f.env A
+gives 'names are replaced' 0 "1 .$nl" '' get f.env B
+C=3 gives 'the environment makes no difference' 0 "1 .$nl" '' get f.env B
+leaves 'a load stops before the name' 1 'f.env:4: a load stops at this line, before D' "$old" get f.env D
 file "A='x\\$nl'$nl"
-call get f.env A
-check 'a value has its line feed' ended 0 "x\\$nl$nl" ''
-call get f.env B
-check_same 'a name is not there' 1 'f.env: B is not in this file' "A='x\\$nl'$nl"
+gives 'a value has its line feed' 0 "x\\$nl$nl" '' get f.env A
+leaves 'a name is not there' 1 'f.env: B is not in this file' "A='x\\$nl'$nl" get f.env B
 file $'A_1=a\nA=b\nB=$A_1\n'
-call get f.env B
-check 'the first dialect' ended 0 "b_1$nl" ''
-call get --next f.env B
-check 'the second dialect' ended 0 "a$nl" ''
+gives 'the first dialect' 0 "b_1$nl" '' get f.env B
+gives 'the second dialect' 0 "a$nl" '' get --next f.env B
 
 # What is refused.
 
 file 'A="x'
-call set f.env B 1
-check_same 'the end stands open' 1 'f.env:1: an open end, so nothing can be appended' 'A="x'
+leaves 'the end stands open' 1 'f.env:1: an open end, so nothing can be appended' 'A="x' set f.env B 1
 call set f.env A 1
 check_same 'the line of the name has an open end' 1 "f.env:1: this line of A has an open end, or isn't UTF-8" 'A="x'
 file 'A=1 '
 call set f.env B 1
 check_same 'a blank is last' 1 'f.env:1: an open end, so nothing can be appended; end it with a line feed' 'A=1 '
 file "B=1${nl}A=1 # it's${nl}A=2  # it's${nl}C=it's${nl}"
-call set f.env 1A 1
-check_same 'no name' 1 "1A: this can't be a name" "$(cat f.env)$nl"
-call rename f.env A 'x y'
-check_same 'no new name' 1 "x y: this can't be a name" "$(cat f.env)$nl"
-call rename f.env $'x\ny' A
-check_same 'a name of two lines' 1 "x\\ny: this can't be a name" "$(cat f.env)$nl"
-call rename f.env A B
-check_same 'the new name is there' 1 'f.env:1: B is there already' "$(cat f.env)$nl"
-call unset f.env B D
-check_same 'a name is not there, so none is removed' 1 'f.env: D is not in this file' "$(cat f.env)$nl"
-call unset f.env A
-check_same 'a comment would go' 1 'f.env:3: the comment runs over several lines, and would be cut, or go' "$(cat f.env)$nl"
+leaves 'no name' 1 "1A: this can't be a name" "$(cat f.env)$nl" set f.env 1A 1
+leaves 'no new name' 1 "x y: this can't be a name" "$(cat f.env)$nl" rename f.env A 'x y'
+leaves 'a name of two lines' 1 "x\\ny: this can't be a name" "$(cat f.env)$nl" rename f.env $'x\ny' A
+leaves 'the new name is there' 1 'f.env:1: B is there already' "$(cat f.env)$nl" rename f.env A B
+leaves 'a name is not there, so none is removed' 1 'f.env: D is not in this file' "$(cat f.env)$nl" unset f.env B D
+leaves 'a comment would go' 1 'f.env:3: the comment runs over several lines, and would be cut, or go' \
+    "$(cat f.env)$nl" unset f.env A
 
 # No form for other libraries.
 
 check_unportable() {
     file "B=1$nl"
-    call set --portable f.env B "$2"
-    check_same "$1" 1 "B: the value has no portable form, since it has $1" "B=1$nl"
+    leaves "$1" 1 "B: the value has no portable form, since it has $1" "B=1$nl" set --portable f.env B "$2"
 }
 
 check_unportable 'a single quote, and a double quote, a dollar or a backslash' "it's \$5"
@@ -190,17 +184,15 @@ check_unportable 'two backslashes in a row' 'a\\b'
 check_unportable 'a backslash at its end' "a b\\"
 check_unportable 'a dollar and braces' '${A}'
 file "B=1 # it's \"that\"${nl}"
-call set --portable f.env B 'a b'
-check_same 'the comment has all quotes' 1 'f.env:1: the comment has the quotes of a portable value' "$(cat f.env)$nl"
+leaves 'the comment has all quotes' 1 'f.env:1: the comment has the quotes of a portable value' \
+    "$(cat f.env)$nl" set --portable f.env B 'a b'
 file "A=1${nl}B=1 ${nl}B=1$(printf '\t')# c$nl"
 call set --portable f.env B 2
 check_new 'the first line counts' "A=1${nl}B=2 $nl" "$(warning 'f.env:3: this later line of B is removed')$nl"
 file "B=1$(printf '\t')# c$nl"
-call set --portable f.env B 2
-check_same 'a tab' 1 'f.env:1: white space other than spaces is not portable' "$(cat f.env)$nl"
+leaves 'a tab' 1 'f.env:1: white space other than spaces is not portable' "$(cat f.env)$nl" set --portable f.env B 2
 file $'\xef\xbb\xbfB=1\n'
-call set --portable f.env B 2
-check_same 'a mark' 1 'f.env:1: a byte order mark is not portable' "$(cat f.env)$nl"
+leaves 'a mark' 1 'f.env:1: a byte order mark is not portable' "$(cat f.env)$nl" set --portable f.env B 2
 
 # Warnings.
 
@@ -214,8 +206,7 @@ call unset f.env A C
 check_new 'lines are those of the old file' "B=\$A${nl}D=\$C${nl}" "$(warning \
     'f.env:2: B mentions A, directly or through another name' 'f.env:4: D mentions C, directly or through another name')$nl"
 file "A=1${nl}B=\$A${nl}"
-call set -q f.env A 2
-check_new 'no warning is said' "A=2${nl}B=\$A${nl}"
+makes 'no warning is said' "A=2${nl}B=\$A${nl}" '' set -q f.env A 2
 
 # Differences.
 
@@ -262,10 +253,8 @@ check_diff 'several lines' "$(printf '%s=1\n' A B C D A E F A G H I J K)$nl" set
 check_diff 'lines with carriage returns' $'A=1\r\nB=2\r\n' set f.env A 2
 check_diff 'bytes that are no text' $'# \xe9\nA=1\n' set f.env A 2
 file "A=1$nl"
-call set f.env A 1 --dry-run
-check_new 'nothing would change' "A=1$nl"
-call set f.env A --dry-run 2
-check 'a difference is printed' ended 0 "--- f.env$nl+++ f.env$nl@@ -1 +1 @@$nl-A=1$nl+A=2$nl" ''
+makes 'nothing would change' "A=1$nl" '' set f.env A 1 --dry-run
+gives 'a difference is printed' 0 "--- f.env$nl+++ f.env$nl@@ -1 +1 @@$nl-A=1$nl+A=2$nl" '' set f.env A --dry-run 2
 call set --create --dry-run new.env A 2
 check 'a file would be made' ended 0 "--- /dev/null$nl+++ new.env$nl@@ -0,0 +1 @@$nl+A=2$nl" ''
 check 'and is not' test ! -e new.env
@@ -275,8 +264,7 @@ check 'and is not' test ! -e new.env
 file "A=1$nl"
 chmod 600 f.env
 inode=$(stat -c %i f.env)
-call set f.env A 1
-check_new 'the same value again' "A=1$nl"
+makes 'the same value again' "A=1$nl" '' set f.env A 1
 check 'no file is written' test "$(stat -c %i f.env)" = "$inode"
 call set f.env A 2
 check 'the permissions are kept' test "$(stat -c %a f.env)" = 600
@@ -313,34 +301,24 @@ mkdir sub
 call set --create sub/new.env A 2
 check 'in a folder' has sub/new.env "A=2$nl"
 rm -r new.env sub
-call set new.env A 2
-check_same 'a file is absent' 2 'new.env: No such file or directory (os error 2)' "A=1$nl"
-call unset --create new.env A
-check_same 'unset makes none' 2 'new.env: No such file or directory (os error 2)' "A=1$nl"
-call set --create no/new.env A 2
-check_same 'a folder is absent' 2 'no/new.env: No such file or directory (os error 2)' "A=1$nl"
-call set --create new.env/ A 2
-check_same 'a folder is named' 2 'new.env/: No such file or directory (os error 2)' "A=1$nl"
-call set --create '' A 2
-check_same 'no file is named' 2 ': No such file or directory (os error 2)' "A=1$nl"
-call set . A 2
-check_same 'a folder' 2 '.: it is no regular file' "A=1$nl"
-call get f.env/x A
-check_same 'a folder that is none' 2 'f.env/x: Not a directory (os error 20)' "A=1$nl"
-call get $'no\nfile' A
-check_same 'a name of two lines' 2 'no\nfile: No such file or directory (os error 2)' "A=1$nl"
+leaves 'a file is absent' 2 'new.env: No such file or directory (os error 2)' "A=1$nl" set new.env A 2
+leaves 'unset makes none' 2 'new.env: No such file or directory (os error 2)' "A=1$nl" unset --create new.env A
+leaves 'a folder is absent' 2 'no/new.env: No such file or directory (os error 2)' "A=1$nl" set --create no/new.env A 2
+leaves 'a folder is named' 2 'new.env/: No such file or directory (os error 2)' "A=1$nl" set --create new.env/ A 2
+leaves 'no file is named' 2 ': No such file or directory (os error 2)' "A=1$nl" set --create '' A 2
+leaves 'a folder' 2 '.: it is no regular file' "A=1$nl" set . A 2
+leaves 'a folder that is none' 2 'f.env/x: Not a directory (os error 20)' "A=1$nl" get f.env/x A
+leaves 'a name of two lines' 2 'no\nfile: No such file or directory (os error 2)' "A=1$nl" get $'no\nfile' A
 ln -s nowhere dangling.env
 call set --create dangling.env A 2
 check 'a link that leads nowhere' ended 2 '' "dotenvy_edit: error: dangling.env: No such file or directory (os error 2)$nl"
 check 'stays' test -L dangling.env -a ! -e nowhere
 rm dangling.env
 mkfifo fifo
-call set fifo A 2
-check 'a FIFO' ended 2 '' "dotenvy_edit: error: fifo: it is no regular file$nl"
+gives 'a FIFO' 2 '' "dotenvy_edit: error: fifo: it is no regular file$nl" set fifo A 2
 rm fifo
 chmod 0 f.env
-call set f.env A 2
-check 'a file that may not be read' ended 2 '' "dotenvy_edit: error: f.env: Permission denied (os error 13)$nl"
+gives 'a file that may not be read' 2 '' "dotenvy_edit: error: f.env: Permission denied (os error 13)$nl" set f.env A 2
 chmod 644 f.env
 mkdir closed
 printf 'A=1\n' >closed/f.env
@@ -349,10 +327,8 @@ call set closed/f.env A 2
 check 'a folder that may not be written' ended 2 '' \
     "dotenvy_edit: error: closed/f.env: no new file can be made beside it: Permission denied (os error 13)$nl"
 check 'the file is as it was' has closed/f.env "A=1$nl"
-call set closed/f.env A 1
-check 'nothing has to be written' ended 0 '' ''
-call get closed/f.env A
-check 'it can be read' ended 0 "1$nl" ''
+gives 'nothing has to be written' 0 '' '' set closed/f.env A 1
+gives 'it can be read' 0 "1$nl" '' get closed/f.env A
 chmod 755 closed
 
 # Words.
@@ -361,8 +337,7 @@ check_refused() {
     local what=$1 text=$2
     shift 2
     file "A=1$nl"
-    call "$@"
-    check_same "$what" 2 "$text; try 'dotenvy_edit --help'" "A=1$nl"
+    leaves "$what" 2 "$text; try 'dotenvy_edit --help'" "A=1$nl" "$@"
 }
 
 check_refused 'no command' 'there is no command'
@@ -389,12 +364,9 @@ for value in - -hello -q --next; do
     check_new "any value comes from standard input: $value" "A=$value$nl"
 done
 file "A=1$nl"
-call set f.env A $'\xff'
-check_same 'a word is no text' 2 'a word of the command line is not UTF-8' "A=1$nl"
-call --version set f.env A 2
-check 'the version' ended 0 "dotenvy_edit $version$nl" ''
-call -V
-check 'the version' ended 0 "dotenvy_edit $version$nl" ''
+leaves 'a word is no text' 2 'a word of the command line is not UTF-8' "A=1$nl" set f.env A $'\xff'
+gives 'the version' 0 "dotenvy_edit $version$nl" '' --version set f.env A 2
+gives 'the version' 0 "dotenvy_edit $version$nl" '' -V
 call set --help
 check 'help' grep -q '^Usage: dotenvy_edit set ' "$room/output"
 check 'a line of it has at most 80 characters' test "$(wc -L <"$room/output")" -le 80
