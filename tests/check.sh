@@ -1,6 +1,6 @@
 #!/usr/bin/env bash
-# Calls the built program dotenvy_check on real files, with each option: files that can't be opened or read, a FIFO, links,
-# folders, the search for `.env`, words that are no text, and standard output and error that are closed or full.
+# Calls the built program dotenvy_check on real files, with each option: files that can't be opened or read, a FIFO,
+# links, folders, the search for `.env`, words that are no text, and standard output and error that are closed or full.
 # `tests/check.sh PROGRAM` calls another program, and a second word is its version. Without a word it is the one that
 # `rt ci`, or `rt run` in crates/dotenvy_check, has built. It takes some seconds. The last line is `N passed, M failed`.
 #

@@ -1,9 +1,9 @@
 #!/usr/bin/env bash
-# Calls the built program dotenvy_edit on real files, with each command and each option: what the files are then, what is
-# printed and said, and the status. Values of standard input, differences that `patch` applies, links, owners, permissions
-# and new files, files and folders that can't be read or written, words that are refused, and standard output and error
-# that are closed or full; how much memory and time a long file takes; and the commands of docs/EDIT.md. What is said has to
-# be a text of that page, and each of its texts has to be said.
+# Calls the built program dotenvy_edit on real files, with each command and each option: what the files are then, what
+# is printed and said, and the status. Values of standard input, differences that `patch` applies, links, owners,
+# permissions and new files, files and folders that can't be read or written, words that are refused, and standard
+# output and error that are closed or full; how much memory and time a long file takes; and the commands of
+# docs/EDIT.md. What is said has to be a text of that page, and each of its texts has to be said.
 #
 # `tests/edit.sh PROGRAM` calls another program, and a second word is its version. Without a word it is the one that
 # `rt ci`, or `rt run` in crates/dotenvy_edit, has built. It takes some seconds. The last line is `N passed, M failed`.
@@ -16,7 +16,8 @@ umask 022
 export LC_ALL=C
 page=$PWD/docs/EDIT.md
 take_program dotenvy_edit "$@"
-# Root may read every file, so root has the checks made as nobody. That somebody else's file keeps its owner, root checks.
+# Root may read every file, so root has the checks made as nobody. That somebody else's file keeps its owner, root
+# checks.
 if has_nobody; then
     printf 'A=1\n' >"$room/owned.env"
     chmod 640 "$room/owned.env"
@@ -382,8 +383,8 @@ status=0
 "$program" set f.env A <&- 2>"$room/errors" >"$room/output" || status=$?
 check 'standard input is closed' ended 2 '' "dotenvy_edit: error: standard input: Bad file descriptor (os error 9)$nl"
 
-# A long file: of 10 MB a value is set, and names are removed, in less than 5 seconds of the processor, and with no more than
-# three times the file in memory, besides the 6 MB of addresses that are enough for a small file.
+# A long file: of 10 MB a value is set, and names are removed, in less than 5 seconds of the processor, and with no more
+# than three times the file in memory, besides the 6 MB of addresses that are enough for a small file.
 
 call_within() {
     local kilobytes=$1

@@ -1,12 +1,13 @@
 #!/usr/bin/env bash
-# Makes each system call by which dotenvy_edit reads and replaces a file fail in turn, by strace: with EIO, with ENOSPC, and by
-# a kill. After each the file is the old one or the new one, whole, with its owner and its permissions, and nothing is left
-# beside it. Only a killed program may leave its temporary file, or one that can't remove it, and says so; then the next
-# call works all the same. What is said is a text of docs/EDIT.md, and each of the steps that the page names is said.
+# Makes each system call by which dotenvy_edit reads and replaces a file fail in turn, by strace: with EIO, with ENOSPC,
+# and by a kill. After each the file is the old one or the new one, whole, with its owner and its permissions, and
+# nothing is left beside it. Only a killed program may leave its temporary file, or one that can't remove it, and says
+# so; then the next call works all the same. What is said is a text of docs/EDIT.md, and each of the steps that the page
+# names is said.
 #
-# `tests/edit_faults.sh PROGRAM` calls another program, and `--stand-in` a script of Python that takes the same steps, to try
-# this test. Without a word it is the program that `rt run` in crates/dotenvy_edit has built. Where strace is missing, nothing
-# is tried, and a line says so. The last line is `N passed, M failed`.
+# `tests/edit_faults.sh PROGRAM` calls another program, and `--stand-in` a script of Python that takes the same steps,
+# to try this test. Without a word it is the program that `rt run` in crates/dotenvy_edit has built. Where strace is
+# missing, nothing is tried, and a line says so. The last line is `N passed, M failed`.
 set -euo pipefail
 cd "$(dirname "$0")/.."
 . tests/lib.sh

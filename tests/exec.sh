@@ -1,7 +1,7 @@
 #!/usr/bin/env bash
-# Calls the script bin/dotenvy_exec under each shell that is installed: each option and status, values and names of every
-# sort, and what the command gets: its environment, its process and its descriptors. As process 1 of a namespace the command
-# has to get SIGTERM, and strace must see no value in an argument list and no file that is written.
+# Calls the script bin/dotenvy_exec under each shell that is installed: each option and status, values and names of
+# every sort, and what the command gets: its environment, its process and its descriptors. As process 1 of a namespace
+# the command has to get SIGTERM, and strace must see no value in an argument list and no file that is written.
 # `tests/exec.sh FOLDER` takes the program dotenvy_export of this folder. Without a word it is the one that `rt ci` has
 # built, or else that of PATH. It takes half a minute, and no proof. The last line is `N passed, M failed`.
 #
@@ -72,8 +72,8 @@ warned_of() {
     done | sort) <(sort "$room/errors")
 }
 
-# Installs the script for a shell, as its sh: with a link of this name, and its path in the first line. The program is on
-# PATH, and not beside the script.
+# Installs the script for a shell, as its sh: with a link of this name, and its path in the first line. The program is
+# on PATH, and not beside the script.
 install_for() {
     local words
     shell=$1
@@ -397,8 +397,8 @@ check_process() {
     check 'signals that are ignored stay so' gave 0 1
 }
 
-# Runs the script with these words as process 1 of a namespace, waits until the file place is there, and has it get SIGTERM
-# from outside.
+# Runs the script with these words as process 1 of a namespace, waits until the file place is there, and has it get
+# SIGTERM from outside.
 end_first() {
     local outer process=
     rm -f place

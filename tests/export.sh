@@ -1,8 +1,8 @@
 #!/usr/bin/env bash
-# Calls the built program dotenvy_export on real files, with each option and for each target: what it writes is read by sh
-# and Python where these are the readers. Files that can't be opened or read, a FIFO, a line of 200 MB, the search for
-# files, words that are no text, and standard output and error that are closed or full. `tests/export.sh PROGRAM` calls
-# another program, and a second word is its version. Without a word it is the one that `rt ci`, or `rt run` in
+# Calls the built program dotenvy_export on real files, with each option and for each target: what it writes is read by
+# sh and Python where these are the readers. Files that can't be opened or read, a FIFO, a line of 200 MB, the search
+# for files, words that are no text, and standard output and error that are closed or full. `tests/export.sh PROGRAM`
+# calls another program, and a second word is its version. Without a word it is the one that `rt ci`, or `rt run` in
 # crates/dotenvy_export, has built. It takes some seconds. The last line is `N passed, M failed`.
 #
 # shellcheck disable=SC2016 # dollars in single quotes belong to files and scripts

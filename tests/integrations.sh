@@ -1,10 +1,11 @@
 #!/usr/bin/env bash
-# Tries what integrations/ and .pre-commit-hooks.yaml have, on a report that is written down here: the hook by pre-commit
-# and the compiler file by vim, where these are installed, and the matcher by Python's regular expressions, which read it
-# as GitHub's do. In place of dotenvy_check stands a script that prints the report. Then it reads reports in the formats
-# for GitHub, of JSON and of SARIF, by tests/formats.py, and has bash complete options. `tests/integrations.sh PROGRAM`
-# reads those that this program prints, too; without a word it is the one that `rt ci`, or `rt run` in
-# crates/dotenvy_check, has built, if there is one. It takes some seconds. The last line is `N passed, M failed`.
+# Tries what integrations/ and .pre-commit-hooks.yaml have, on a report that is written down here: the hook by
+# pre-commit and the compiler file by vim, where these are installed, and the matcher by Python's regular expressions,
+# which read it as GitHub's do. In place of dotenvy_check stands a script that prints the report. Then it reads reports
+# in the formats for GitHub, of JSON and of SARIF, by tests/formats.py, and has bash complete options.
+# `tests/integrations.sh PROGRAM` reads those that this program prints, too; without a word it is the one that `rt ci`,
+# or `rt run` in crates/dotenvy_check, has built, if there is one. It takes some seconds. The last line is `N passed, M
+# failed`.
 #
 # shellcheck disable=SC2016 # dollars in single quotes belong to documents, files and another shell
 set -euo pipefail

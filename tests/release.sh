@@ -1,6 +1,6 @@
 #!/usr/bin/env bash
-# Tries what release.sh packed: as a user who has no toolchain, then from a repository of Rattle that has no source of this
-# one; and packs again elsewhere, which has to give the same bytes. The last line is `N passed, M failed`.
+# Tries what release.sh packed: as a user who has no toolchain, then from a repository of Rattle that has no source of
+# this one; and packs again elsewhere, which has to give the same bytes. The last line is `N passed, M failed`.
 #
 # usage: tests/release.sh DIST
 set -euo pipefail
