@@ -17,6 +17,8 @@ FILE = {"`([^`]*)`": "{0}\n", "`([^`]*)` \\(no `⏎` at the end\\)": "{0}"}
 FAULT = {"fault in `([^`]*)` at ([0-9]+)": "fault at {1}: {0}", "a NUL in `([^`]*)`": "nul {0}"}
 FAULT["broken line"] = "io InvalidData"
 ITEM = {"`([^`]*)` is `([^`]*)`": "{0}={1}", "`([^`]*)` is empty": "{0}=", **FAULT}
+# A value alone is that of `A`.
+ITEM.update({"`([^`]*)`": "A={0}", "empty": "A="})
 LOAD = {"Ok": "ok", **FAULT}
 
 SIGNS = {"⏎": "\n", "␣": " ", "<TAB>": "\t", "<CR>": "\r", "<NUL>": "\0"}
