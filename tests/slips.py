@@ -4,8 +4,8 @@
     slips.py [TEXT]..    makes the slips whose name or test has one of these texts, or all
 
 A line of tests/slips.tsv has the slip's name, a file, what is replaced in it (a regular expression, whose first match
-counts), by what, the test that has to find it, and a part of what that has to say. Before the slip the test has to
-pass. It takes about a minute. The last line is `N passed, M failed`.
+counts), by what, the test that has to find it, a part of what that has to say, and the command that it needs, or `-`.
+Before the slip the test has to pass. It takes about a minute. The last line is `N passed, M failed`.
 """
 
 import collections
@@ -23,7 +23,7 @@ from worked_change import built
 
 TABLE = TOP / "tests" / "slips.tsv"
 
-Slip = collections.namedtuple("Slip", "name file old new test said")
+Slip = collections.namedtuple("Slip", "name file old new test said needs")
 
 
 def slips():
@@ -73,6 +73,9 @@ def faults(copy, slip):
 def main(words):
     """Makes the slips that are asked for. The status."""
     chosen = [slip for slip in slips() if not words or any(word in slip.name + slip.test for word in words)]
+    for slip in [slip for slip in chosen if slip.needs != "-" and not shutil.which(slip.needs)]:
+        chosen.remove(slip)
+        print(f"left out: {slip.name}, as {slip.needs} is not installed")
     with tempfile.TemporaryDirectory() as folder:
         copy = copied(pathlib.Path(folder)) if chosen else None
         return judge((f"{slip.name}: {slip.test}", faults(copy, slip)) for slip in chosen)
