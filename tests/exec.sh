@@ -27,27 +27,14 @@ show() {
     show_call | tr '\0' '\n'
 }
 
-# Runs a command, and keeps its status and what it prints for the checks.
+# Calls any command.
 call() {
-    status=0
-    "$@" >"$room/output" 2>"$room/errors" || status=$?
+    keep "$@"
 }
 
 # Calls the script with these words.
 become() {
     call "$script" "$@"
-}
-
-# Whether the last call ended with this status, and printed these lines and nothing on standard error.
-gave() {
-    local right=$1
-    shift
-    [ "$status" = "$right" ] && diff <([ $# -eq 0 ] || printf '%s\n' "$@") "$room/output" && diff /dev/null "$room/errors"
-}
-
-# Whether it ended with this status, and printed this one line, on standard error.
-complained() {
-    [ "$status" = "$1" ] && diff <(printf '%s\n' "$2") "$room/errors" && diff /dev/null "$room/output"
 }
 
 # Whether it printed an environment that is exactly these entries, or has these entries.

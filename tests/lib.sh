@@ -100,10 +100,15 @@ run_as_nobody() {
     TMPDIR=$room/more "${as_nobody[@]}" bash "$room/copy/$own" "$program" "$version"
 }
 
+# Runs a command, and keeps its status and what it prints.
+keep() {
+    status=0
+    "$@" >"$room/output" 2>"$room/errors" || status=$?
+}
+
 # Calls the program with these words.
 call() {
-    status=0
-    "$program" "$@" >"$room/output" 2>"$room/errors" || status=$?
+    keep "$program" "$@"
 }
 
 # Whether a file has exactly this text.
@@ -114,6 +119,17 @@ has() {
 # Whether the last call had this status, and wrote this to standard output and to standard error.
 ended() {
     [ "$status" = "$1" ] && has "$room/output" "$2" && has "$room/errors" "$3"
+}
+
+# Whether the last call ended with this status, and printed these lines and nothing on standard error.
+gave() {
+    [ "$status" = "$1" ] && diff <([ $# -eq 1 ] || printf '%s\n' "${@:2}") "$room/output" &&
+        diff /dev/null "$room/errors"
+}
+
+# Whether it ended with this status, and printed this one line, on standard error.
+complained() {
+    [ "$status" = "$1" ] && diff <(printf '%s\n' "$2") "$room/errors" && diff /dev/null "$room/output"
 }
 
 # Calls the program and checks what it gives: `gives WHAT STATUS OUTPUT ERRORS WORD..`.

@@ -58,23 +58,9 @@ script() {
     chmod 755 "$1"
 }
 
-# Runs a command, and keeps what it prints and its status for `gave` and `complained`.
+# Calls any command.
 call() {
-    status=0
-    "$@" >"$room/output" 2>"$room/errors" || status=$?
-}
-
-# Whether the last call ended with this status and printed these lines, and nothing on standard error.
-gave() {
-    local right=$1
-    shift
-    [ "$status" = "$right" ] && diff <([ $# -eq 0 ] || printf '%s\n' "$@") "$room/output" &&
-        diff /dev/null "$room/errors"
-}
-
-# Whether the last call ended with status 1, and printed this on standard error alone.
-complained() {
-    [ "$status" = 1 ] && diff <(printf '%s\n' "$1") "$room/errors" && diff /dev/null "$room/output"
+    keep "$@"
 }
 
 # --- The programs and files that the recipes name ---
@@ -294,7 +280,7 @@ check_job() {
 check_secrets() {
     cp "$room/broken.env" "$room/work/service.env"
     call dotenvy_run -f service.env ./serve
-    check 'the text of a fault is that of the page' complained "$(block 'Then `dotenvy_run -f service.env ./serve`')"
+    check 'the text of a fault is that of the page' complained 1 "$(block 'Then `dotenvy_run -f service.env ./serve`')"
     call dotenvy_check service.env
     check 'the report of the checker is that of the page' gave 1 "$open_quote"
 }
