@@ -63,7 +63,7 @@ TESTS = [
     Test("export_pairs", "tests/export_pairs.py --files 300 model", "dotenvy_export", "20 s", lambda: 1800),
     Test("edit_drawn", "tests/edit.py --files 500 --short 1 --values 500", "dotenvy_edit", "20 s", edit_checks),
     Test("recipes", "tests/recipes.sh", "dotenvy_run dotenvy_check dotenvy_export", "10 s"),
-    Test("program", "tests/program.sh", "dotenvy_run dotenvy_export dotenvy_edit", "10 min"),
+    Test("program", "tests/program.sh", "dotenvy_run dotenvy_export dotenvy_edit", "20 s"),
     Test("bindings", "bindings/test.sh --built", "dotenvy_c", "10 min"),
     Test("trusted", "tests/trusted.py", ALL, "1 min"),
     Test("release", "./release.sh", ALL, "20 min"),
