@@ -49,22 +49,29 @@ def function_at(text, number):
     return ([None] + [name for name, start, end in functions(text) if start <= number <= end])[-1]
 
 
+def edits_of(path):
+    """What a mutant's file changes: the file, the old text and the new one of each edit."""
+    file = old = None
+    for line in path.read_text(encoding="utf-8").split("\n"):
+        key, _, text = line.partition(": ")
+        if key == "file":
+            file = text.strip()
+        elif key == "old":
+            old = text
+        elif key == "new" or line == "new:":
+            yield file, old, text
+
+
 class Mutant:
-    """A mutant: its crate, what its name says, and the texts of the files that it changes."""
+    """A mutant: its crate, what its name says, its edits, and the texts of the files that it changes."""
 
     def __init__(self, path):
         self.folder, self.crate, self.name = path.parent.parent, path.parent.parent.name, path.name
         *self.place, _ = path.stem.split(".")
+        self.edits = list(edits_of(path))
         self.texts, self.changed, self.fault = {}, [], None
-        file = old = None
-        for line in path.read_text(encoding="utf-8").split("\n"):
-            key, _, text = line.partition(": ")
-            if key == "file":
-                file = text.strip()
-            elif key == "old":
-                old = text
-            elif key == "new" or line == "new:":
-                self.change(file, old, text)
+        for edit in self.edits:
+            self.change(*edit)
 
     def change(self, file, old, new):
         """Changes a text, and keeps in which file and function it is."""

@@ -93,7 +93,8 @@ make_repository() {
     git init --quiet .
     : >crates.txt
     "$rt" new crates/hello start_io >/dev/null
-    rm -f crates/hello/src/clock.rt crates/hello/stdin crates/hello/stdout
+    # Some kits write files for Bazel, too.
+    rm -f crates/hello/src/clock.rt crates/hello/stdin crates/hello/stdout crates/hello/BUILD.bazel BUILD.bazel
     echo 'hello: dotenvy anyhow' >crates.txt
     awk '/^```/ { if (inside && whole) exit; inside = $0 == "```rust"; text = ""; next }
         inside { text = text $0 "\n"; if ($0 == "#![tactic(auto)]") whole = 1 }

@@ -43,6 +43,7 @@ TESTS = [
     Test("mutants", "tests/mutants.py", "", "1 s"),
     Test("install", "tests/install.sh", "", "10 s"),
     Test("slips", "tests/slips.py", "", "1 min"),
+    Test("try_mutants", "tests/try_mutants.sh", "", "20 s"),
     Test("report_model", "tests/report_model.py --examples", "", "1 s"),
     Test("report_by_model", "tests/report.py --model", "", "20 s"),
     Test("kinds_by_model", "tests/kinds.py --model", "", "1 s"),

@@ -2,7 +2,7 @@
 """Has `rt` take the libraries that `rt ci` built in a checkout. They lack the stamp of a library that is built, so `rt`
 would prove each of them once more.
 
-usage: .ci/take-built FROM TO [CRATE]
+usage: .ci/take_built.py FROM TO [CRATE]
 
 FROM is the checkout, and TO the same or a copy without what is built, to which they go. With CRATE it takes those that
 CRATE needs, else all. What isn't built in FROM is left to `rt`. One `rt ci` has built all of them, or taken them as one
