@@ -4,11 +4,12 @@
 usage: .ci/try_mutants.py PROVED PRINTED PROCESS
 
 PROVED is a copy of the checkout without mutants, in which `rt ci` works, PRINTED the file to which it prints, and
-PROCESS its number. The mutants of a crate are tried once it is proved, with those below it: in a copy, and as many
-crates side by side as there are processors, which yield to other work. Since `rt check` tells each function that isn't
-proved, one check tries mutants of different functions at once. A mutant is refused where it tells a goal of the
-mutant's own function, and of no other mutant's, if the crate without mutants is proved in that copy, too. What is not
-refused so, `rt must-fail` tries by itself, and its answer counts. The last line is `N passed, M failed`.
+PROCESS its number. The mutants of a crate are tried once it is proved, with those below it: in a copy, the crates with
+most of them first, and as many side by side as there are processors, which yield to other work. Since `rt check` tells
+each function that isn't proved, one check tries mutants of different functions at once. A mutant is refused where it
+tells a goal of the mutant's own function, and of no other mutant's, if the crate without mutants is proved in that
+copy, before and after. What is not refused so, `rt must-fail` tries by itself, and its answer counts. The last line is
+`N passed, M failed`.
 """
 import concurrent.futures
 import os
@@ -130,29 +131,37 @@ def tried(proved, crate):
     files, said = files_of(crate), {}
     with tempfile.TemporaryDirectory() as room:
         trial = Trial(proved, crate, room)
-        for group in groups_of([Mutant(file) for file in files if file.suffix == ".edit"]):
-            said.update(trial.together(group))
-        if said and trial.check()[0]:
-            said = {}
+        groups = groups_of([Mutant(file) for file in files if file.suffix == ".edit"])
+        # Each check of mutants proves what they leave alone by what this one has kept.
+        if groups and trial.check()[0] == 0:
+            for group in groups:
+                said.update(trial.together(group))
+            if trial.check()[0]:
+                said = {}
         left = [file for file in files if file.name not in said]
         if left:
             said.update(trial.by_themselves(left))
     return [(crate, file, said.get(file.name, NOT_TRIED)) for file in files]
 
 
-def all_tried(proved, printed, process, pool):
+def all_tried(proved, printed, process):
     """Has mutants tried as soon as their crates are proved, and gives what is said of each as it comes."""
-    waiting, trials, has_ended = [it for it in crates_below(proved) if files_of(it)], [], False
-    while waiting and not has_ended:
-        time.sleep(1)
-        has_ended = not pathlib.Path("/proc", process).exists()
-        text = printed.read_text(encoding="utf-8", errors="replace")
-        for crate in [it for it in waiting if is_proved(it, text)]:
-            waiting.remove(crate)
-            trials.append(pool.submit(tried, proved, crate))
-    yield from ((crate, file, NOT_TRIED) for crate in waiting for file in files_of(crate))
-    for trial in concurrent.futures.as_completed(trials):
-        yield from trial.result()
+    waiting, trials, lanes = [it for it in crates_below(proved) if files_of(it)], [], len(os.sched_getaffinity(0))
+    with concurrent.futures.ThreadPoolExecutor(lanes) as pool:
+        while waiting or trials:
+            has_ended = not pathlib.Path("/proc", process).exists()
+            text = printed.read_text(encoding="utf-8", errors="replace")
+            ready = sorted((it for it in waiting if is_proved(it, text)), key=lambda it: -len(files_of(it)))
+            for crate in ready[:lanes - len(trials)]:
+                waiting.remove(crate)
+                trials.append(pool.submit(tried, proved, crate))
+            for crate in [it for it in waiting if has_ended and it not in ready]:
+                waiting.remove(crate)
+                yield from ((crate, file, NOT_TRIED) for file in files_of(crate))
+            time.sleep(1)
+            for trial in [it for it in trials if it.done()]:
+                trials.remove(trial)
+                yield from trial.result()
 
 
 def end(*_):
@@ -167,10 +176,9 @@ def main():
     signal.signal(signal.SIGTERM, end)
     proved, printed, process = sys.argv[1:]
     passed = failed = 0
-    with concurrent.futures.ThreadPoolExecutor(len(os.sched_getaffinity(0))) as pool:
-        for crate, file, said in all_tried(pathlib.Path(proved), pathlib.Path(printed), process, pool):
-            print(f"must-fail {crate.name}/{file.name}: {said}", flush=True)
-            passed, failed = (passed + 1, failed) if said.startswith(REFUSED) else (passed, failed + 1)
+    for crate, file, said in all_tried(pathlib.Path(proved), pathlib.Path(printed), process):
+        print(f"must-fail {crate.name}/{file.name}: {said}", flush=True)
+        passed, failed = (passed + 1, failed) if said.startswith(REFUSED) else (passed, failed + 1)
     print(f"{passed} passed, {failed} failed")
     return 1 if failed else 0
 

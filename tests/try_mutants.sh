@@ -38,7 +38,9 @@ case \$1 in
         sed -n -e '/advice/=' src/lib.rt | sed 's|.*|src/lib.rt:&:5: note: not proved (\`returns\`)|'
         grep -q gone src/lib.rt && echo './proofs/one/Answers.antt:1:1: error: \`goal.then\`: has no \`then\`'
         sed -n -e '/goal/=' src/lib.rt | sed 's|.*|note: src/lib.rt:&:5: not proved (\`returns\`)|'
-        [ ! -e "$room/broken" ] && ! grep -q goal src/lib.rt
+        [ ! -e "$room/broken" ] && ! grep -q goal src/lib.rt && exit
+        [ ! -e "$room/breaks" ] || touch "$room/broken"
+        exit 1
         ;;
     must-fail)
         for file in crates/"\$2"/must-fail/*; do
@@ -79,8 +81,10 @@ mutant above two.three 'ONE + 1' '3 // goal'
 mutant above two.four 'ONE + 1' '4 // goal'
 try "$here" "${both[@]}"
 check "a check tries a mutant, and mutants of one function are tried in turn" tells 0 'check above: 0 goals
+check above: 0 goals
 check above: 1 goals
 check above: 1 goals
+check below: 0 goals
 check below: 0 goals
 check below: 1 goals
 ' "3 passed, 0 failed
@@ -95,6 +99,7 @@ printf 'const ONE: u8 = 1;\n\npub fn one() -> u8 {\n    ONE * 1\n}\n\npub fn two
 mutant below one.two 'ONE * 1' '2 // goal'
 try "$here" "${both[@]}"
 check "mutants of different functions are tried at once" tells 0 'check below: 0 goals
+check below: 0 goals
 check below: 2 goals
 ' "2 passed, 0 failed
 must-fail below/one.two.edit: $(goal 4)
@@ -103,6 +108,16 @@ must-fail below/two.three.edit: $(goal 8)
 touch "$room/broken"
 try "$here" "${both[@]}"
 check "and each by itself where the crate isn't proved without them" tells 0 'check below: 0 goals
+must-fail below/one.two.edit
+must-fail below/two.three.edit
+' "2 passed, 0 failed
+must-fail below/one.two.edit: $alone
+must-fail below/two.three.edit: $alone
+"
+mv "$room/broken" "$room/breaks"
+try "$here" "${both[@]}"
+check "or isn't proved any more after them" tells 0 'check below: 0 goals
+check below: 0 goals
 check below: 2 goals
 must-fail below/one.two.edit
 must-fail below/two.three.edit
@@ -110,11 +125,12 @@ must-fail below/two.three.edit
 must-fail below/one.two.edit: $alone
 must-fail below/two.three.edit: $alone
 "
-rm "$room/broken"
+rm "$room/broken" "$room/breaks"
 for what in advice gone; do
     mutant below one.two 'ONE * 1' "2 // $what"
     try "$here" "${both[@]}"
     check "so is one of which a check tells no goal, but: $what" tells 0 'check below: 0 goals
+check below: 0 goals
 check below: 1 goals
 must-fail below/one.two.edit
 ' "2 passed, 0 failed
@@ -126,6 +142,7 @@ rm "$top/crates/below/must-fail/one.two.edit"
 mutant below one.equal 'ONE * 1' '1 // equal'
 try "$here" "${both[@]}"
 check "one that is still proved fails" tells 1 'check below: 0 goals
+check below: 0 goals
 check below: 1 goals
 must-fail below/one.equal.edit
 ' "1 passed, 1 failed
@@ -136,6 +153,7 @@ rm "$top/crates/below/must-fail/one.equal.edit"
 mutant below lib.one-is-two 'u8 = 1' 'u8 = 2 // goal'
 try "$here" "${both[@]}"
 check "one of no function is tried by itself" tells 0 'check below: 0 goals
+check below: 0 goals
 check below: 1 goals
 must-fail below/lib.one-is-two.edit
 ' "2 passed, 0 failed
@@ -146,6 +164,7 @@ rm "$top/crates/below/must-fail/lib.one-is-two.edit"
 touch "$top/crates/below/must-fail/two.three"
 try "$here" "${both[@]}"
 check "a file that rt doesn't take for a mutant fails" tells 1 'check below: 0 goals
+check below: 0 goals
 check below: 1 goals
 must-fail below/two.three
 ' "1 passed, 1 failed
@@ -161,6 +180,7 @@ must-fail below/two.three.edit: $not_tried
 "
 try 0 'rt: below proved' 'rt: above NOT PROVED'
 check "and no others" tells 1 'check below: 0 goals
+check below: 0 goals
 check below: 1 goals
 ' "1 passed, 1 failed
 must-fail above/two.three.edit: $not_tried
