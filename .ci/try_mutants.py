@@ -35,6 +35,9 @@ NOT_TRIED = "NOT TRIED: its crate isn't proved, or `rt must-fail` says nothing o
 TOLD = re.compile(r"^(?:note: \S+?:\d+:\d+: |\S+?:\d+:\d+: error: ).*", re.M)
 # A proof that names what a mutant took away says nothing of the contract.
 NAMES_OTHERS = re.compile(r"\S*proofs/.*(?:has no field|is not in scope|has no `|was not admitted)")
+# A text that doesn't compile, or that the prover can't read: then no contract was tried.
+UNREAD = re.compile(r"^(?:\./)?(?:src|specs)/\S+?:\d+:\d+: error", re.M)
+NOT_PROVED = re.compile(r"^logic=not-proved", re.M)
 MOST_TOLD = 300
 running = set()
 
@@ -115,7 +118,8 @@ class Trial:
         _, printed = self.check()
         for path, text in kept.items():
             path.write_text(text, encoding="utf-8")
-        return refusals(applied, printed)
+        is_read = NOT_PROVED.search(printed) and not UNREAD.search(printed)
+        return refusals(applied, printed) if is_read else {}
 
     def by_themselves(self, files):
         """Has `rt must-fail` try mutants. Returns what it says of each."""

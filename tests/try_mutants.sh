@@ -40,6 +40,8 @@ case \$1 in
         sed -n -e '/goal/=' src/lib.rt | sed 's|.*|note: src/lib.rt:&:5: not proved (\`returns\`)|'
         [ ! -e "$room/broken" ] && ! grep -q goal src/lib.rt && exit
         [ ! -e "$room/breaks" ] || touch "$room/broken"
+        grep -q unread src/lib.rt && echo 'src/lib.rt:4:5: error: \`four\` is not in scope'
+        grep -q 'no verdict' src/lib.rt || echo logic=not-proved
         exit 1
         ;;
     must-fail)
@@ -136,6 +138,19 @@ must-fail below/one.two.edit
 ' "2 passed, 0 failed
 must-fail below/one.two.edit: $alone
 must-fail below/two.three.edit: $(goal 8)
+"
+done
+for what in unread 'no verdict'; do
+    mutant below one.two 'ONE * 1' "four // goal, $what"
+    try "$here" "${both[@]}"
+    check "and all, where the text isn't read: $what" tells 0 'check below: 0 goals
+check below: 0 goals
+check below: 2 goals
+must-fail below/one.two.edit
+must-fail below/two.three.edit
+' "2 passed, 0 failed
+must-fail below/one.two.edit: $alone
+must-fail below/two.three.edit: $alone
 "
 done
 rm "$top/crates/below/must-fail/one.two.edit"
