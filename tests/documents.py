@@ -190,6 +190,7 @@ def checks():
     yield ("docs/OTHER_LIBRARIES.md has what other readers make of its lines",
            script, "tests/other_readers.py --check")
     yield f"{data}/readme.rows has the examples of README.md", rows_of, "readme"
+    yield f"{data}/boundaries.rows is what its script prints", rows_of, "boundaries"
     yield "crates/test_replay/stdout has the number of rows of each file", counts
     yield "crates/test_replay/args names each file of rows", played_files
     yield f"{data}/kinds.rows has each kind of row, with its fields", script, "tests/row_kinds.py --check"

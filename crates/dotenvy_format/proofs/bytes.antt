@@ -4,3 +4,5 @@ pub mod Slices
 pub mod BytePlaces
 pub mod ByteRuns
 pub mod ByteClasses
+pub mod Masks
+pub mod ByteLines

@@ -5,3 +5,5 @@ pub mod DecidedFront
 pub mod Splitting
 pub mod SplitLines
 pub mod LineTexts
+pub mod CalmLines
+pub mod CommentLines

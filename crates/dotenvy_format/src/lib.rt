@@ -4,6 +4,7 @@
 //! need of it.
 #![tactic(auto)]
 
+mod blocks;
 pub mod classes;
 pub mod dialect;
 pub mod laws;

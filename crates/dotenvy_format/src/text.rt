@@ -1,14 +1,16 @@
 //! Cuts texts after runs of characters of one class. Runs are searched by bytes, where that finds the same end.
 
-ghost use Rattle.std.specs.Prelude.{◌≡◌, ◌==◌, ◌++◌, [], not, length, unwrap_or, MatchOption};
+ghost use Rattle.std.specs.Prelude.{◌≡◌, ◌==◌, ◌++◌, ℕ, List, [], not, false, length, unwrap_or, MatchOption};
 ghost use Rattle.std.specs.Str.{chars, IsUtf8};
-ghost use Rattle.dotenvy_format.specs.Characters.{continues_key, is_empty_or_comment};
+ghost use Rattle.dotenvy_format.specs.Characters.{continues_key, is_empty_or_comment, is_space_or_tab, line_feed};
 ghost use Rattle.std.specs.List.{prefix_len, position_from};
-ghost use Rattle.dotenvy_format.specs.inside.Slices.{BeginsWith, IsSpan, has_character, is_of_kind, in_run};
+ghost use Rattle.dotenvy_format.specs.inside.Slices.{BeginsLine, BeginsWith, IsSpan, has_character, is_name_byte, is_of_kind, in_run};
 
+use crate::blocks::{not_ascii_in_line, not_calm, not_in_key, not_plain, not_token};
 use crate::classes::{allows_underscore, continues_key, is_blank, is_name_character};
 use crate::dialect::Dialect;
 use memchr::{memchr2, memchr3};
+use std::simd::prelude::*;
 
 /// Where a part of a value is.
 #[derive(Clone, Copy)]
@@ -111,17 +113,24 @@ static KINDS: [u8; 256] = [
     3, 1, 1, 1, 3, 3, 3, 3, 3, 3, 3, 3, 3, 3, 3, 3, 3, 3, 3, 3, 3, 3, 3, 3, 3, 3, 3, 3, 3, 3, 3, 3,
 ];
 
-// A kind of bytes: one that the table has a bit for, or ASCII characters of a bare name, or a space and a tab.
+/// A kind of bytes, for the longest run of them at the start of bytes. The table has a bit for each of the first three.
 #[derive(Clone, Copy)]
-enum ByteKind {
+pub enum ByteKind {
+    /// A byte that is a character, or a part of one, which means itself in a value outside quotes.
     Plain,
+    /// A byte of a token, with which no blank begins.
     Token,
+    /// A character that may follow in a key.
     Key,
-    Name(Dialect),
-    SpaceOrTab,
+    /// A byte that is no quote, backslash, line feed or `#`.
+    Calm,
+    /// An ASCII character that is no line feed.
+    Ascii,
 }
 
 impl ByteKind {
+    ghost use Rattle.std.specs.Prelude.{not, map};
+    ghost use Rattle.std.specs.Simd.Lanes.{mask_l};
     ghost use Rattle.dotenvy_format.specs.inside.Slices.{is_of_kind};
 
     #[inline(always)]
@@ -132,10 +141,22 @@ impl ByteKind {
             ByteKind::Plain => KINDS[byte as usize] & PLAIN != 0,
             ByteKind::Token => KINDS[byte as usize] & TOKEN != 0,
             ByteKind::Key => KINDS[byte as usize] & KEY != 0,
-            ByteKind::Name(dialect) => {
-                byte.is_ascii_alphanumeric() || (allows_underscore(dialect) && byte == b'_')
-            }
-            ByteKind::SpaceOrTab => matches!(byte, b' ' | b'\t'),
+            ByteKind::Calm => !matches!(byte, b'\\' | b'\'' | b'"' | b'\n' | b'#'),
+            ByteKind::Ascii => byte.is_ascii() && byte != b'\n',
+        }
+    }
+
+    // A bit for each byte of the block that is not of this kind.
+    #[inline(always)]
+    fn others_in(self, block: u8x16) -> u64
+        ensures { result ≡ mask_l (map (λ b. not (is_of_kind self b)) block) }
+    {
+        match self {
+            ByteKind::Plain => not_plain(block),
+            ByteKind::Token => not_token(block),
+            ByteKind::Key => not_in_key(block),
+            ByteKind::Calm => not_calm(block),
+            ByteKind::Ascii => not_ascii_in_line(block),
         }
     }
 }
@@ -165,19 +186,69 @@ fn kind_end(bytes: &[u8], kind: ByteKind) -> Option<usize>
     bytes.iter().position(|b| !kind.contains(*b))
 }
 
-// How many bytes at the start are of the kind. A block of eight costs half of what eight bytes cost one by one.
+// As `kind_end`, in a block.
+#[inline(always)]
+fn block_end(block: u8x16, kind: ByteKind) -> Option<usize>
+    ensures { result ≡ position_from (λ b. not (is_of_kind kind b)) 0 block }
+{
+    let others = kind.others_in(block);
+    if others == 0 {
+        None
+    } else {
+        Some(others.trailing_zeros() as usize)
+    }
+}
+
+// How many bytes at the start are of the kind.
 #[inline(always)]
 fn kind_run(bytes: &[u8], kind: ByteKind) -> usize
     ensures { result ≡ prefix_len (is_of_kind kind) bytes.now }
 {
     let mut rest = bytes;
-    'search: while let Some((block, after)) = rest.split_first_chunk::<8>() {
-        if kind_end(block, kind).is_some() {
-            break;
+    'search: while let Some((block, after)) = rest.split_first_chunk::<16>() {
+        if let Some(end) = block_end(u8x16::from_array(*block), kind) {
+            return bytes.len() - rest.len() + end;
         }
         rest = after;
     }
     bytes.len() - rest.len() + kind_end(rest, kind).unwrap_or(rest.len())
+}
+
+/// The first line of the bytes, without its line feed, if it is whole and all of its bytes are of the kind.
+#[inline(always)]
+pub fn line_of(bytes: &[u8], kind: ByteKind) -> Option<&[u8]>
+    requires { is_of_kind kind line_feed ≡ false }
+    ensures { MatchOption result
+        ((line : List ℕ) → ¬ (BeginsLine (is_of_kind kind) bytes.now line))
+        (λ line. BeginsLine (is_of_kind kind) bytes.now line.now) }
+{
+    let (line, after) = bytes.split_at(kind_run(bytes, kind));
+    match after.first() {
+        Some(b'\n') => Some(line),
+        _ => None,
+    }
+}
+
+// Whether the byte is an ASCII character of a bare name.
+#[inline(always)]
+fn is_name_byte(dialect: Dialect, byte: u8) -> bool
+    ensures { result ≡ is_name_byte dialect byte }
+{
+    byte.is_ascii_alphanumeric() || (allows_underscore(dialect) && byte == b'_')
+}
+
+#[inline(always)]
+fn name_end(bytes: &[u8], dialect: Dialect) -> Option<usize>
+    ensures { result ≡ position_from (λ b. not (is_name_byte dialect b)) 0 bytes.now }
+{
+    bytes.iter().position(|b| !is_name_byte(dialect, *b))
+}
+
+#[inline(always)]
+fn space_or_tab_end(bytes: &[u8]) -> Option<usize>
+    ensures { result ≡ position_from (λ b. not (is_space_or_tab b)) 0 bytes.now }
+{
+    bytes.iter().position(|b| !matches!(*b, b' ' | b'\t'))
 }
 
 // Where the bytes end that may be skipped without decoding their characters.
@@ -188,10 +259,10 @@ fn run_end(bytes: &[u8], class: Class) -> Option<usize>
 {
     match class {
         Class::Key => Some(kind_run(bytes, ByteKind::Key)),
-        Class::Name(dialect) => kind_end(bytes, ByteKind::Name(dialect)),
+        Class::Name(dialect) => name_end(bytes, dialect),
         Class::Plain(Quoting::Unquoted) => Some(kind_run(bytes, ByteKind::Plain)),
         Class::Plain(Quoting::DoubleQuoted) => memchr3(b'\\', b'"', b'$', bytes),
-        Class::SpaceOrTab => kind_end(bytes, ByteKind::SpaceOrTab),
+        Class::SpaceOrTab => space_or_tab_end(bytes),
         Class::DoubleQuote => row_end(bytes, b'"'),
         Class::Token => Some(kind_run(bytes, ByteKind::Token)),
         Class::Quoted(quote) if quote.is_ascii() => memchr2(quote as u8, b'\\', bytes),

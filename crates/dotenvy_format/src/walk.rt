@@ -1,10 +1,10 @@
 //! Walks over the characters of a physical line to the end of its logical line (docs/GRAMMAR.md, "Logical lines").
 
-ghost use Rattle.std.specs.Prelude.{◌≡◌, None};
+ghost use Rattle.std.specs.Prelude.{◌≡◌, ℕ, List, None, MatchOption};
 ghost use Rattle.dotenvy_format.specs.Tokens.{stands_for_itself};
-ghost use Rattle.dotenvy_format.specs.inside.Walk.{leads_outside, leads, WalksTo, WalksText};
+ghost use Rattle.dotenvy_format.specs.inside.Walk.{leads_outside, leads, BeginsCalm, BeginsComment, WalksTo, WalksText};
 
-use crate::text::{Class, split_first, split_while};
+use crate::text::{ByteKind, Class, line_of, split_first, split_while};
 
 /// What the walk is in the middle of.
 #[derive(Clone, Copy, Drop)]
@@ -116,5 +116,33 @@ pub fn walk_text(text: &str, start: LineMode) -> Walked
             None => return Walked::EndedAt(text.len() - rest.len(), c),
         };
         rest = after;
+    }
+}
+
+/// The first line of the bytes, without its line feed, if it is whole and text, and has no quote, backslash or `#`.
+///
+/// Such a line is a logical line by itself, and no comment.
+#[inline(always)]
+pub fn calm_line(bytes: &[u8]) -> Option<&str>
+    ensures { MatchOption result ((line : List ℕ) → ¬ (BeginsCalm bytes.now line))
+        (λ line. BeginsCalm bytes.now line.now) }
+{
+    match line_of(bytes, ByteKind::Calm) {
+        Some(line) => str::from_utf8(line).ok(),
+        None => None,
+    }
+}
+
+/// The first line of the bytes, without its line feed, if it is whole, begins with `#` and is ASCII.
+///
+/// At the start of a logical line it is a comment.
+#[inline(always)]
+pub fn comment_line(bytes: &[u8]) -> Option<&[u8]>
+    ensures { MatchOption result ((line : List ℕ) → ¬ (BeginsComment bytes.now line))
+        (λ line. BeginsComment bytes.now line.now) }
+{
+    match bytes.first() {
+        Some(b'#') => line_of(bytes, ByteKind::Ascii),
+        _ => None,
     }
 }

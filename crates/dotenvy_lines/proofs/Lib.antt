@@ -9,3 +9,4 @@ pub mod LinePieces
 pub mod TakenLines
 pub mod LineCounts
 pub mod DroppedMarks
+pub mod WholeLines

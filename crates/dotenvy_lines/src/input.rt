@@ -108,7 +108,8 @@ impl<R: Source, A: Allocator> Input<R, A> {
         self.at_end
     }
 
-    fn unread(&self) -> &[u8]
+    /// The bytes that were read and are not used yet.
+    pub fn unread(&self) -> &[u8]
         ensures len { length result.now ≡ self.now.unread }
         ensures told { (a : Ahead) → self.now.left ≡ Some a →
             result.now ≡ take self.now.unread a.bytes }

@@ -6,12 +6,12 @@ ghost use Rattle.dotenvy_format.specs.LogicalLine.{without_carriage_return};
 ghost use Rattle.dotenvy_base.specs.Errors.{IsMemory};
 ghost use Rattle.dotenvy_lines.specs.Input.{AsksReads, input_measure};
 ghost use Rattle.dotenvy_lines.specs.inside.InputSteps.{WhereTold};
-ghost use Rattle.dotenvy_lines.specs.inside.TakenLine.{IsTextFront, PieceFalls, TakesLineOn, TakesPieceOn, WalksFrom, WalksOn, after_text, at_line_end, starting, still_blank};
+ghost use Rattle.dotenvy_lines.specs.inside.TakenLine.{IsTextFront, PieceFalls, TakesCalm, TakesComment, TakesLineOn, TakesPieceOn, WalksFrom, WalksOn, after_text, at_line_end, begins_visibly, starting, still_blank};
 
 use crate::input::Input;
 use dotenvy_base::errors::Result;
 use dotenvy_base::source::Source;
-use dotenvy_format::walk::{LineMode, Walked, walk_text};
+use dotenvy_format::walk::{LineMode, Walked, calm_line, comment_line, walk_text};
 use std::alloc::Allocator;
 
 /// How far the walk over a physical line came.
@@ -129,6 +129,14 @@ fn still_blank(progress: Progress) -> Progress
     }
 }
 
+// Whether the first character is visible ASCII, so that there is no white space before it.
+#[inline(always)]
+fn begins_visibly(piece: &str) -> bool
+    ensures { result ≡ begins_visibly piece.now }
+{
+    matches!(piece.as_bytes().first(), Some(b'!'..=b'~'))
+}
+
 // One more piece of a line that was blank so far.
 #[inline(always)]
 fn begin<A: Allocator>(mode: LineMode, piece: &str, text: &mut String<A>) -> Result<Progress, A>
@@ -138,6 +146,9 @@ fn begin<A: Allocator>(mode: LineMode, piece: &str, text: &mut String<A>) -> Res
 {
     if piece.starts_with('#') {
         return Ok(Progress::Comment);
+    }
+    if begins_visibly(piece) {
+        return walk_on(mode, piece, text);
     }
     let trimmed = piece.trim_start();
     if trimmed.is_empty() {
@@ -196,10 +207,8 @@ fn at_line_end(progress: Progress) -> Taken
     }
 }
 
-/// Takes the next physical line, in as many pieces as it is read in.
-///
-/// `text` is what the logical line keeps so far, and is empty before its first line.
-pub fn take_line<R: Source, A: Allocator>(
+// Takes the next physical line, in as many pieces as it is read in.
+fn take_pieces<R: Source, A: Allocator>(
     input: &mut Input<R, A>,
     text: &mut String<A>,
     mode: LineMode,
@@ -224,4 +233,68 @@ pub fn take_line<R: Source, A: Allocator>(
             After::Unread => input.read_more()?,
         }
     }
+}
+
+// Takes the next physical line, if all of it is read, and it is ASCII and begins with `#`.
+#[inline(always)]
+fn take_comment<R: Source, A: Allocator>(input: &mut Input<R, A>) -> bool
+    ensures comment { TakesComment input.old result input.new }
+    ensures asks { AsksReads (Unit {0}) input.old input.new }
+{
+    match comment_line(input.unread()) {
+        Some(line) => {
+            let whole = line.len() + 1;
+            input.use_up(whole);
+            true
+        }
+        None => false,
+    }
+}
+
+// Takes the next physical line, if all of it is read and it is calm: then it ends its logical line.
+#[inline(always)]
+fn take_calm<R: Source, A: Allocator>(
+    input: &mut Input<R, A>,
+    text: &mut String<A>,
+) -> Result<bool, A>
+    ensures falls { OnOk result (input_measure input.new ≤ input_measure input.old) }
+    ensures calm { IfOk result (λ calm. TakesCalm (chars (string_bytes text.old)) input.old calm
+        (chars (string_bytes text.new)) input.new) }
+    ensures memory { IfErr result IsMemory }
+    ensures asks { AsksReads (Unit {0}) input.old input.new }
+{
+    let Some(line) = calm_line(input.unread()) else {
+        return Ok(false);
+    };
+    let len = line.len();
+    text.push_str(line)?;
+    drop_carriage_return(text);
+    input.use_up(len + 1);
+    Ok(true)
+}
+
+/// Takes the next physical line.
+///
+/// `text` is what the logical line keeps so far, and is empty before its first line.
+pub fn take_line<R: Source, A: Allocator>(
+    input: &mut Input<R, A>,
+    text: &mut String<A>,
+    mode: LineMode,
+) -> Result<Taken, A>
+    requires { 0 < input.old.unread }
+    ensures falls { OnOk result (input_measure input.new < input_measure input.old) }
+    ensures told { WhereTold input.old.left
+        (λ a. TakesLineOn mode (chars (string_bytes text.old)) a input.old result
+        (chars (string_bytes text.new)) input.new) }
+    ensures asks { AsksReads (IsOk result) input.old input.new }
+{
+    if text.is_empty() && take_comment(input) {
+        return Ok(Taken::Comment);
+    }
+    if let LineMode::Outside = mode {
+        if take_calm(input, text)? {
+            return Ok(Taken::Ended);
+        }
+    }
+    take_pieces(input, text, mode)
 }

@@ -27,7 +27,7 @@ use Rattle.dotenvy_format.proofs.bytes.ByteClasses.{lead, character_passes, byte
 use Rattle.dotenvy_format.proofs.bytes.Slices.{begins_with_first, first_alone}
 
 -- a run of bytes that pass, put before others, lengthens the run at their front by its own length
-passed_over : (byte : ℕ → Bool) (xs ys : List ℕ) → list_all byte xs ≡ true
+pub passed_over : (byte : ℕ → Bool) (xs ys : List ℕ) → list_all byte xs ≡ true
     → prefix_len byte (xs ++ ys) ≡ length xs + prefix_len byte ys
 passed_over byte [] ys h = omega arith
 passed_over byte (x ∷ xs) ys h =
@@ -203,3 +203,16 @@ run_behind {passes} {rest} {found} before e =
     let run = run_to_position passes rest found e in
     let over = passed_over passes before.front rest before.pass in
     rw before.spelled (omega (arith, length-append before.front rest))
+
+-- what a search finds in the first bytes, it finds with others behind them
+found_in_front : (test : ℕ → Bool) (n : ℕ) (bytes more : List ℕ) (end : ℕ) → Some end ≡ position_from test n bytes
+    → Some end ≡ position_from test n (bytes ++ more)
+found_in_front test n [] more end h = grind arith
+found_in_front test n (b ∷ bytes) more end h = grind (arith, found_in_front test (n + 1) bytes more end)
+
+-- after bytes that pass, the run ends where a search in the next block finds one that fails
+pub run_in_block : {passes : ℕ → Bool} {bytes rest : List ℕ} {end : ℕ} (block after : List ℕ)
+    → PassesBytes passes bytes rest → rest ≡ block ++ after → Some end ≡ position_from (λ b. not (passes b)) 0 block
+    → length bytes - length rest + end ≡ prefix_len passes bytes
+run_in_block {passes} {end = end} block after before parts found =
+    run_behind {found = Some end} before (rw parts (found_in_front (λ b. not (passes b)) 0 block after end found))

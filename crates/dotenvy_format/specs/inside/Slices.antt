@@ -10,12 +10,13 @@ use Rattle.dotenvy_format.specs.declared.text.Class.TheVariants.{DoubleQuote, To
 use Rattle.dotenvy_format.specs.declared.text.ByteKind.{ByteKind}
 use Rattle.dotenvy_format.specs.declared.text.ByteKind.TheVariants.{Plain as PlainByte}
 use Rattle.dotenvy_format.specs.declared.text.ByteKind.TheVariants.{Token as TokenByte}
-use Rattle.dotenvy_format.specs.declared.text.ByteKind.TheVariants.{Key as KeyByte, Name as NameByte}
-use Rattle.dotenvy_format.specs.declared.text.ByteKind.TheVariants.{SpaceOrTab as SpaceOrTabByte}
+use Rattle.dotenvy_format.specs.declared.text.ByteKind.TheVariants.{Key as KeyByte, Calm as CalmByte}
+use Rattle.dotenvy_format.specs.declared.text.ByteKind.TheVariants.{Ascii as AsciiByte}
 use Rattle.std.specs.Char.{is_ascii_alphanumeric}
 use Rattle.dotenvy_format.specs.declared.dialect.Dialect.{Dialect}
-use Rattle.dotenvy_format.specs.Characters.{begins_passing, tab, space, underscore, double_quote}
+use Rattle.dotenvy_format.specs.Characters.{begins_passing, tab, space, hash, underscore, double_quote}
 use Rattle.dotenvy_format.specs.Characters.{backslash, is_blank, continues_key, allows_underscore}
+use Rattle.dotenvy_format.specs.Characters.{line_feed}
 use Rattle.dotenvy_format.specs.Characters.{is_name_character, is_space_or_tab}
 use Rattle.dotenvy_format.specs.Tokens.{stands_for_itself}
 use Rattle.dotenvy_format.specs.Value.{is_plain, is_plain_outside}
@@ -39,13 +40,21 @@ abbrev pub is_token_byte : ℕ → Bool
 is_token_byte b = not ((stands_for_itself b || ((nat_le tab b && nat_le b 12) || b == space)) ||
     (b == 0xC2 || (nat_le 0xE1 b && nat_le b 0xE3)))
 
+-- the byte, or the character, is no quote, backslash, line feed or `#`
+abbrev pub is_calm : ℕ → Bool
+is_calm b = not (stands_for_itself b || b == hash)
+
+-- the byte is ASCII, and no line feed
+abbrev pub is_ascii_in_line : ℕ → Bool
+is_ascii_in_line b = nat_lt b 128 && not (b == line_feed)
+
 -- the byte is of this kind
 abbrev pub is_of_kind : ByteKind → ℕ → Bool
 is_of_kind PlainByte b = is_plain_outside b
 is_of_kind TokenByte b = is_token_byte b
 is_of_kind KeyByte b = continues_key b
-is_of_kind (NameByte dialect) b = is_name_byte dialect b
-is_of_kind SpaceOrTabByte b = is_space_or_tab b
+is_of_kind CalmByte b = is_calm b
+is_of_kind AsciiByte b = is_ascii_in_line b
 
 -- a run of this class may go on with this byte; some first bytes of long characters are left out
 abbrev pub in_run : Class → ℕ → Bool
@@ -68,6 +77,12 @@ pub record IsSpan (passes : ℕ → Bool) (text front rest : List ℕ) : Type 0 
   pub spelled : text ≡ front ++ rest
   pub pass : IsTrue (list_all passes front)
   pub longest : IsTrue (not (begins_passing passes rest))
+
+-- the bytes begin with this line and its line feed, and all bytes of the line pass the test
+pub record BeginsLine (passes : ℕ → Bool) (bytes line : List ℕ) : Type 0 where
+  pub pass : IsTrue (list_all passes line)
+  pub later : List ℕ
+  pub begins : bytes ≡ line ++ line_feed ∷ later
 
 -- the bytes are some that pass the test, and the rest
 pub record PassesBytes (passes : ℕ → Bool) (bytes rest : List ℕ) : Type 0 where

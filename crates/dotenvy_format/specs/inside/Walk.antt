@@ -1,14 +1,16 @@
 -- How the splitter walks over characters. Contracts of private functions cite it; proofs/lines/Splitting reads tokens.
 use Rattle.std.specs.Prelude.{ℕ, ◌≡◌, ◌≤◌, ◌==◌, List, [], ◌∷◌, ◌++◌, length, take, Option, Some, None, if◌then◌else◌}
+use Rattle.std.specs.Prelude.{true}
 use Rattle.dotenvy_format.specs.declared.walk.LineMode.{LineMode}
 use Rattle.dotenvy_format.specs.declared.walk.LineMode.TheVariants.{Outside, Escaping, Inside}
 use Rattle.dotenvy_format.specs.declared.walk.LineMode.TheVariants.{InsideEscaping, AfterBlank}
 use Rattle.std.specs.Str.{chars, IsCharBoundary, IsUtf8}
 use Rattle.dotenvy_format.specs.declared.walk.Walked.{Walked}
 use Rattle.dotenvy_format.specs.declared.walk.Walked.TheVariants.{Going, EndedAt}
-use Rattle.dotenvy_format.specs.Characters.{is_blank, is_quote, line_feed, backslash, hash}
+use Rattle.dotenvy_format.specs.Characters.{is_blank, is_quote, line_feed, backslash, hash, begins_with}
 use Rattle.dotenvy_format.specs.Tokens.{stands_for_itself}
 use Rattle.dotenvy_format.specs.LogicalLine.{without_carriage_return}
+use Rattle.dotenvy_format.specs.inside.Slices.{BeginsLine, is_ascii_in_line, is_calm}
 
 -- the mode that a character leads to after a whole token, or `None` if it ends the logical line
 abbrev pub leads_outside : ℕ → Option LineMode
@@ -55,6 +57,15 @@ WalksText m text (EndedAt at c) =
     (at ≤ length text) × IsCharBoundary text at
     × ((seen : List ℕ) →
     walk m seen (chars text) ≡ ended (kept_before c (seen ++ chars (take at text))))
+
+-- the bytes begin with this line and its line feed; the line is text, and all of its bytes are calm
+abbrev pub BeginsCalm : List ℕ → List ℕ → Type 0
+BeginsCalm bytes line = IsUtf8 line × BeginsLine is_calm bytes line
+
+-- the bytes begin with this line and its line feed; the line is ASCII, and begins with `#`
+abbrev pub BeginsComment : List ℕ → List ℕ → Type 0
+BeginsComment bytes line =
+    (begins_with hash line ≡ true) × BeginsLine is_ascii_in_line bytes line
 
 -- the text is some characters that lead from the first mode to the second, and the rest
 pub record WalksTo (start : LineMode) (text : List ℕ) (m : LineMode) (rest : List ℕ) : Type 0 where

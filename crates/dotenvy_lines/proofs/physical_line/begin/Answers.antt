@@ -1,7 +1,7 @@
 use Rattle.std.proofs.Common.{lit<, ◌∙◌, sym, length, refl, string_bytes}
 use Rattle.std.specs.Str.{chars}
 use Rattle.dotenvy_base.proofs.Basics.{ok-weaker, tested_empty, tested_some}
-use Rattle.dotenvy_lines.proofs.WalkedPieces.{begins-comment, begins-other, stays-blank}
+use Rattle.dotenvy_lines.proofs.WalkedPieces.{begins-comment, begins-other, stays-blank, visible_shown}
 use Rattle.dotenvy_format.proofs.lines.LineTexts.{comment_at_once, comment_is, blank_is, shown_is}
 use Rattle.dotenvy_lines.proofs.physical_line.begin.Goals as goal
 
@@ -10,6 +10,17 @@ returns-then-starts_with-clause-walks g c =
     begins-comment c.args.mode _ _
     (comment_at_once c.args.piece.now _ c.utf8.piece (c.starts_with.ensures.byte (lit< tt) (lit< tt) (λ w o h. h))
     c.if-starts_with.true)
+
+pub returns-then-begins_visibly-clause-walks : goal.returns-then-begins_visibly-clause-walks
+returns-then-begins_visibly-clause-walks g c =
+    let piece = c.args.piece.now in
+    let byte = c.starts_with.ensures.byte (lit< tt) (lit< tt) (λ w o h. h) in
+    let visible = sym c.begins_visibly.ensures ∙ c.if-begins_visibly.true in
+    ok-weaker _ _ c.walk_on.result
+    (λ p w.
+    begins-other (chars piece) (chars (string_bytes c.walk_on.new.text)) p w
+    (visible_shown piece c.utf8.piece visible (sym byte ∙ c.if-starts_with.false)))
+    c.walk_on.ensures.walks
 
 pub returns-then-is_empty-clause-walks : goal.returns-then-is_empty-clause-walks
 returns-then-is_empty-clause-walks g c =

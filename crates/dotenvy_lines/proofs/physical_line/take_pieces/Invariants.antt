@@ -3,7 +3,7 @@ use Rattle.std.specs.Str.{chars}
 use Rattle.dotenvy_base.specs.Source.{Ahead}
 use Rattle.dotenvy_lines.specs.Input.{IsTold, AsksReads, input_measure}
 use Rattle.dotenvy_lines.proofs.TakenLines.{InLine}
-use Rattle.dotenvy_lines.proofs.physical_line.take_line.Given as goal
+use Rattle.dotenvy_lines.proofs.physical_line.take_pieces.Given as goal
 
 abbrev pub invariant-pieces : goal.invariant-pieces
 invariant-pieces g l =

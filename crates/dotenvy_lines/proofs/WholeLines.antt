@@ -1,0 +1,108 @@
+-- A line that is read whole: using it up with its line feed takes it.
+use Rattle.std.proofs.Common.{◌≡◌, ℕ, ◌+◌, ◌≤◌, ◌<◌, Bool, true, List, [], ◌∷◌, ◌++◌, length, take, drop, refl, ap, ◌∙◌, inl, arith, Some}
+use Rattle.std.proofs.Common.{append_assoc, length-append}
+use Rattle.std.specs.Prelude.{IsUtf8}
+use Rattle.std.specs.Str.{chars, skip_leading_whitespace}
+use Rattle.std.proofs.Math.Utf8.{encode}
+use Rattle.std.proofs.Math.Seq.{drop-append_seam}
+use Rattle.std.proofs.lemmas.List.{take-append-drop}
+use Rattle.std.proofs.lemmas.Str.{IsUtf8-append}
+use Rattle.dotenvy_format.specs.declared.walk.LineMode.TheVariants.{Outside}
+use Rattle.dotenvy_format.specs.Characters.{begins_with, hash, line_feed}
+use Rattle.dotenvy_format.specs.LogicalLine.{without_carriage_return}
+use Rattle.dotenvy_format.specs.PhysicalLines.{no_line_feed}
+use Rattle.dotenvy_format.specs.inside.Slices.{BeginsLine}
+use Rattle.dotenvy_format.specs.inside.Walk.{BeginsCalm, BeginsComment}
+use Rattle.dotenvy_format.proofs.lines.CalmLines.{calm_line_ends, calm_is_shown, calm_line_none}
+use Rattle.dotenvy_format.proofs.lines.CommentLines.{comment_none, comment_seen, comment_text}
+use Rattle.dotenvy_base.specs.Source.{Ahead}
+use Rattle.dotenvy_lines.specs.declared.physical_line.Taken.TheVariants.{Ended as taken_ended}
+use Rattle.dotenvy_lines.specs.Input.{InputState, input_measure}
+use Rattle.dotenvy_lines.specs.inside.InputSteps.{used_up}
+use Rattle.dotenvy_lines.specs.inside.TakenLine.{LineMakes, TakesTextLine}
+use Rattle.dotenvy_lines.proofs.Inputs.{moves_piece, whole_after}
+use Rattle.dotenvy_lines.proofs.LinePieces.{some_line}
+
+-- a line feed alone is text
+line_feed_text : IsUtf8 (line_feed ∷ [])
+unfolding encode
+line_feed_text = (line_feed ∷ [], (refl, refl))
+
+-- a line and its line feed are no more than the bytes that begin with them
+pub read_whole : {passes : ℕ → Bool} {bytes line : List ℕ} → BeginsLine passes bytes line
+    → length line + 1 ≤ length bytes
+read_whole {line = line} is = rw is.begins (omega (arith, length-append line (line_feed ∷ is.later)))
+
+-- with them used up, less is left to use
+pub whole_falls : {passes : ℕ → Bool} {unread line : List ℕ} (s : InputState) → length unread ≡ s.unread
+    → BeginsLine passes unread line → input_measure (used_up (length line + 1) s) < input_measure s
+whole_falls s len is = omega (arith, len, read_whole is)
+
+-- the unread bytes begin with a line, which is text
+pub record Unread (passes : ℕ → Bool) (a : Ahead) (s : InputState) (unread line : List ℕ) : Type 0 where
+  pub told : unread ≡ take s.unread a.bytes
+  pub len : length unread ≡ s.unread
+  pub left : s.left ≡ Some a
+  pub text : IsUtf8 line
+  pub none : no_line_feed line ≡ true
+  pub begins : BeginsLine passes unread line
+
+-- with the line and its line feed used up, it was taken
+pub whole_taken : {passes : ℕ → Bool} {a : Ahead} {s : InputState} {unread line : List ℕ}
+    → Unread passes a s unread line
+    → TakesTextLine a s (line ++ line_feed ∷ []) (used_up (length line + 1) s)
+whole_taken {a = a} {s = s} {line = line} is =
+    let whole = line ++ line_feed ∷ [] in
+    let left = is.begins.later ++ drop s.unread a.bytes in
+    let size : length whole ≡ length line + 1 = omega (arith, length-append line (line_feed ∷ [])) in
+    let joins : a.bytes ≡ whole ++ left =
+    cc (
+      is.told,
+      is.begins.begins,
+      take-append-drop s.unread a.bytes,
+      append_assoc line (line_feed ∷ []) left,
+      append_assoc line (line_feed ∷ is.begins.later) (drop s.unread a.bytes),
+    ) in
+    let remain : drop (length line + 1) a.bytes ≡ left =
+    ap (drop (length line + 1)) joins ∙ rw (← size) (drop-append_seam whole left) in
+    let is_whole = whole_after line (line_feed ∷ []) is.none refl in
+    record {
+      some = some_line whole is_whole;
+      text = IsUtf8-append line (line_feed ∷ []) is.text line_feed_text;
+      takes = record {
+        left = left;
+        moves =
+            moves_piece joins (rw (is.left, remain) refl) (omega (arith, size, is.len, read_whole is.begins)) refl refl;
+        is_line = inl is_whole;
+      };
+    }
+
+-- a calm line ended its logical line
+pub calm_taken : {a : Ahead} {s : InputState} {unread line : List ℕ} (seen : List ℕ) → unread ≡ take s.unread a.bytes
+    → length unread ≡ s.unread → s.left ≡ Some a → BeginsCalm unread line
+    → LineMakes Outside seen a s taken_ended (without_carriage_return (seen ++ chars line))
+    (used_up (length line + 1) s)
+calm_taken {line = line} seen told len left is = (
+  line ++ line_feed ∷ [],
+  whole_taken (record { told = told; len = len; left = left; text = is.0; none = calm_line_none is; begins = is.1 }),
+  λ _. calm_is_shown is,
+  calm_line_ends seen is,
+)
+
+-- a comment was taken
+pub comment_taken : {a : Ahead} {s : InputState} {unread line : List ℕ} → unread ≡ take s.unread a.bytes
+    → length unread ≡ s.unread → s.left ≡ Some a → BeginsComment unread line
+    → (all : List ℕ) × TakesTextLine a s all (used_up (length line + 1) s)
+    × (begins_with hash (skip_leading_whitespace (chars all)) ≡ true)
+comment_taken {line = line} told len left is = (
+  line ++ line_feed ∷ [],
+  whole_taken (record {
+    told = told;
+    len = len;
+    left = left;
+    text = comment_text is;
+    none = comment_none is;
+    begins = is.1;
+  }),
+  comment_seen is,
+)
