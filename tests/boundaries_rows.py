@@ -29,7 +29,7 @@ DOUBLE_QUOTED = {
     "line-feed-and-hash": "\n#", "escaped-quote": "\\n",
 }
 SINGLE_QUOTED = {
-    **DOUBLE_QUOTED, "quote": '"', "double-quote": "$", "escaped-quote": "\n\n",
+    **DOUBLE_QUOTED, "quote": '"', "double-quote": "$", "escaped-quote": "\n\n", "escaped-line-feed": "\\\n",
 }
 # What ends a value, after which nothing counts.
 ENDS = {

@@ -5,5 +5,6 @@ pub mod DecidedFront
 pub mod Splitting
 pub mod SplitLines
 pub mod LineTexts
-pub mod CalmLines
+pub mod LineEnds
+pub mod WholeLines
 pub mod CommentLines

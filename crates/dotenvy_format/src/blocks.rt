@@ -6,7 +6,7 @@ ghost use Rattle.std.specs.Prelude.{◌≡◌, not, map};
 ghost use Rattle.std.specs.Simd.Lanes.{mask_l};
 ghost use Rattle.dotenvy_format.specs.Characters.{continues_key};
 ghost use Rattle.dotenvy_format.specs.Value.{is_plain_outside};
-ghost use Rattle.dotenvy_format.specs.inside.Slices.{is_ascii_in_line, is_calm, is_token_byte};
+ghost use Rattle.dotenvy_format.specs.inside.Slices.{is_ascii_in_line, is_calm, is_in_quotes, is_token_byte};
 
 use std::simd::prelude::*;
 
@@ -42,6 +42,15 @@ pub fn not_calm(block: u8x16) -> u64
     let quotes = block.simd_eq(u8x16::splat(b'\'')) | block.simd_eq(u8x16::splat(b'"'));
     let beginnings = block.simd_eq(u8x16::splat(b'\\')) | block.simd_eq(u8x16::splat(b'#'));
     (quotes | beginnings | block.simd_eq(u8x16::splat(b'\n'))).to_bitmask()
+}
+
+/// Line feeds, backslashes and this quote.
+#[inline(always)]
+pub fn not_in_quotes(block: u8x16, quote: u8) -> u64
+    ensures { result ≡ mask_l (map (λ b. not (is_in_quotes quote b)) block) }
+{
+    let ends = block.simd_eq(u8x16::splat(quote)) | block.simd_eq(u8x16::splat(b'\\'));
+    (ends | block.simd_eq(u8x16::splat(b'\n'))).to_bitmask()
 }
 
 /// Line feeds, and the bytes that aren't ASCII.

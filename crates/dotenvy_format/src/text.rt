@@ -1,12 +1,12 @@
 //! Cuts texts after runs of characters of one class. Runs are searched by bytes, where that finds the same end.
 
-ghost use Rattle.std.specs.Prelude.{◌≡◌, ◌==◌, ◌++◌, ℕ, List, [], not, false, length, unwrap_or, MatchOption};
+ghost use Rattle.std.specs.Prelude.{◌≡◌, ◌==◌, ◌++◌, ◌∷◌, ℕ, List, [], not, false, length, unwrap_or, MatchOption};
 ghost use Rattle.std.specs.Str.{chars, IsUtf8};
 ghost use Rattle.dotenvy_format.specs.Characters.{continues_key, is_empty_or_comment, is_space_or_tab, line_feed};
 ghost use Rattle.std.specs.List.{prefix_len, position_from};
-ghost use Rattle.dotenvy_format.specs.inside.Slices.{BeginsLine, BeginsWith, IsSpan, has_character, is_name_byte, is_of_kind, in_run};
+ghost use Rattle.dotenvy_format.specs.inside.Slices.{BeginsLine, BeginsWith, IsSpan, PassesBytes, has_character, is_name_byte, is_of_kind, in_run};
 
-use crate::blocks::{not_ascii_in_line, not_calm, not_in_key, not_plain, not_token};
+use crate::blocks::{not_ascii_in_line, not_calm, not_in_key, not_in_quotes, not_plain, not_token};
 use crate::classes::{allows_underscore, continues_key, is_blank, is_name_character};
 use crate::dialect::Dialect;
 use memchr::{memchr2, memchr3};
@@ -126,6 +126,8 @@ pub enum ByteKind {
     Calm,
     /// An ASCII character that is no line feed.
     Ascii,
+    /// A byte that is no line feed or backslash, and not this quote.
+    Quoted(u8),
 }
 
 impl ByteKind {
@@ -143,6 +145,7 @@ impl ByteKind {
             ByteKind::Key => KINDS[byte as usize] & KEY != 0,
             ByteKind::Calm => !matches!(byte, b'\\' | b'\'' | b'"' | b'\n' | b'#'),
             ByteKind::Ascii => byte.is_ascii() && byte != b'\n',
+            ByteKind::Quoted(quote) => byte != quote && !matches!(byte, b'\\' | b'\n'),
         }
     }
 
@@ -157,6 +160,7 @@ impl ByteKind {
             ByteKind::Key => not_in_key(block),
             ByteKind::Calm => not_calm(block),
             ByteKind::Ascii => not_ascii_in_line(block),
+            ByteKind::Quoted(quote) => not_in_quotes(block, quote),
         }
     }
 }
@@ -227,6 +231,17 @@ pub fn line_of(bytes: &[u8], kind: ByteKind) -> Option<&[u8]>
         Some(b'\n') => Some(line),
         _ => None,
     }
+}
+
+/// The first byte that is not of the kind, and what is behind it; `None` if all bytes are of the kind.
+#[inline(always)]
+pub fn split_at_other(bytes: &[u8], kind: ByteKind) -> Option<(u8, &[u8])>
+    ensures { MatchOption result (PassesBytes (is_of_kind kind) bytes.now [])
+        (λ p. PassesBytes (is_of_kind kind) bytes.now (p.0 ∷ p.1.now) × (is_of_kind kind p.0 ≡ false)) }
+{
+    let (_, after) = bytes.split_at(kind_run(bytes, kind));
+    let (first, behind) = after.split_first()?;
+    Some((*first, behind))
 }
 
 // Whether the byte is an ASCII character of a bare name.

@@ -1,10 +1,12 @@
 //! Walks over the characters of a physical line to the end of its logical line (docs/GRAMMAR.md, "Logical lines").
 
-ghost use Rattle.std.specs.Prelude.{◌≡◌, ℕ, List, None, MatchOption};
+ghost use Rattle.std.specs.Prelude.{◌≡◌, ◌==◌, ◌∷◌, ℕ, List, None, Some, true, false, MatchOption};
+ghost use Rattle.dotenvy_format.specs.Characters.{is_quote, line_feed};
+ghost use Rattle.dotenvy_format.specs.inside.Slices.{is_calm};
 ghost use Rattle.dotenvy_format.specs.Tokens.{stands_for_itself};
-ghost use Rattle.dotenvy_format.specs.inside.Walk.{leads_outside, leads, BeginsCalm, BeginsComment, WalksTo, WalksText};
+ghost use Rattle.dotenvy_format.specs.inside.Walk.{leads_outside, leads, behind_line, BeginsComment, BeginsWhole, LeadsOut, WalksTo, WalksText};
 
-use crate::text::{ByteKind, Class, line_of, split_first, split_while};
+use crate::text::{ByteKind, Class, line_of, split_at_other, split_first, split_while};
 
 /// What the walk is in the middle of.
 #[derive(Clone, Copy, Drop)]
@@ -119,18 +121,78 @@ pub fn walk_text(text: &str, start: LineMode) -> Walked
     }
 }
 
-/// The first line of the bytes, without its line feed, if it is whole and text, and has no quote, backslash or `#`.
+// What is behind the first byte, if it is no line feed.
+#[inline(always)]
+fn after_escaped(bytes: &[u8]) -> Option<&[u8]>
+    ensures { MatchOption result ((b : ℕ) (rest : List ℕ) → bytes.now ≡ b ∷ rest → (b == line_feed) ≡ true)
+        (λ rest. (b : ℕ) × (bytes.now ≡ b ∷ rest.now) × ((b == line_feed) ≡ false)) }
+{
+    match bytes.split_first() {
+        Some((first, rest)) if *first != b'\n' => Some(rest),
+        _ => None,
+    }
+}
+
+// What is behind a part in these quotes, of which the first quote was passed, if the part is whole and on one line.
+#[inline(always)]
+fn after_quotes(bytes: &[u8], quote: u8) -> Option<&[u8]>
+    requires { is_quote quote ≡ true }
+    ensures { MatchOption result (behind_line (LineMode.Inside quote) bytes.now ≡ None)
+        (λ rest. LeadsOut (LineMode.Inside quote) bytes.now rest.now) }
+{
+    let mut rest = bytes;
+    'escapes: loop {
+        let (first, behind) = split_at_other(rest, ByteKind::Quoted(quote))?;
+        if first == quote {
+            return Some(behind);
+        }
+        if first == b'\n' {
+            return None;
+        }
+        rest = after_escaped(behind)?;
+    }
+}
+
+// What is behind a quoted part or an escape that begins with this byte, if it is whole and on one line.
+#[inline(always)]
+fn after_part(first: u8, behind: &[u8]) -> Option<&[u8]>
+    requires { (is_calm first ≡ false) × ((first == line_feed) ≡ false) }
+    ensures { MatchOption result (behind_line LineMode.Outside (first ∷ behind.now) ≡ None)
+        (λ rest. LeadsOut LineMode.Outside (first ∷ behind.now) rest.now) }
+{
+    match first {
+        b'#' => None,
+        b'\\' => after_escaped(behind),
+        _ => after_quotes(behind, first),
+    }
+}
+
+// What is behind the line feed of the first line, if the line's quotes are closed, and no `#` is outside them.
+#[inline(always)]
+fn behind_line(bytes: &[u8]) -> Option<&[u8]>
+    ensures { MatchOption result (behind_line LineMode.Outside bytes.now ≡ None)
+        (λ rest. behind_line LineMode.Outside bytes.now ≡ Some rest.now) }
+{
+    let mut rest = bytes;
+    'parts: loop {
+        let (first, behind) = split_at_other(rest, ByteKind::Calm)?;
+        if first == b'\n' {
+            return Some(behind);
+        }
+        rest = after_part(first, behind)?;
+    }
+}
+
+/// The first line of the bytes, without its line feed, if it is text, its quotes are closed and no `#` is outside them.
 ///
 /// Such a line is a logical line by itself, and no comment.
 #[inline(always)]
-pub fn calm_line(bytes: &[u8]) -> Option<&str>
-    ensures { MatchOption result ((line : List ℕ) → ¬ (BeginsCalm bytes.now line))
-        (λ line. BeginsCalm bytes.now line.now) }
+pub fn whole_line(bytes: &[u8]) -> Option<&str>
+    ensures { MatchOption result ((line : List ℕ) → ¬ (BeginsWhole bytes.now line))
+        (λ line. BeginsWhole bytes.now line.now) }
 {
-    match line_of(bytes, ByteKind::Calm) {
-        Some(line) => str::from_utf8(line).ok(),
-        None => None,
-    }
+    let later = behind_line(bytes)?;
+    str::from_utf8(&bytes[..bytes.len() - later.len() - 1]).ok()
 }
 
 /// The first line of the bytes, without its line feed, if it is whole, begins with `#` and is ASCII.

@@ -12,8 +12,8 @@ use Rattle.dotenvy_format.specs.Characters.{begins_with, hash, line_feed}
 use Rattle.dotenvy_format.specs.LogicalLine.{without_carriage_return}
 use Rattle.dotenvy_format.specs.PhysicalLines.{no_line_feed}
 use Rattle.dotenvy_format.specs.inside.Slices.{BeginsLine}
-use Rattle.dotenvy_format.specs.inside.Walk.{BeginsCalm, BeginsComment}
-use Rattle.dotenvy_format.proofs.lines.CalmLines.{calm_line_ends, calm_is_shown, calm_line_none}
+use Rattle.dotenvy_format.specs.inside.Walk.{BeginsComment, BeginsWhole}
+use Rattle.dotenvy_format.proofs.lines.WholeLines.{whole_begins, whole_is_shown, whole_line_ends, whole_line_none}
 use Rattle.dotenvy_format.proofs.lines.CommentLines.{comment_none, comment_seen, comment_text}
 use Rattle.dotenvy_base.specs.Source.{Ahead}
 use Rattle.dotenvy_lines.specs.declared.physical_line.Taken.TheVariants.{Ended as taken_ended}
@@ -77,16 +77,23 @@ whole_taken {a = a} {s = s} {line = line} is =
       };
     }
 
--- a calm line ended its logical line
-pub calm_taken : {a : Ahead} {s : InputState} {unread line : List ℕ} (seen : List ℕ) → unread ≡ take s.unread a.bytes
-    → length unread ≡ s.unread → s.left ≡ Some a → BeginsCalm unread line
+-- a line with closed quotes ended its logical line
+pub closed_taken : {a : Ahead} {s : InputState} {unread line : List ℕ} (seen : List ℕ) → unread ≡ take s.unread a.bytes
+    → length unread ≡ s.unread → s.left ≡ Some a → BeginsWhole unread line
     → LineMakes Outside seen a s taken_ended (without_carriage_return (seen ++ chars line))
     (used_up (length line + 1) s)
-calm_taken {line = line} seen told len left is = (
+closed_taken {line = line} seen told len left is = (
   line ++ line_feed ∷ [],
-  whole_taken (record { told = told; len = len; left = left; text = is.0; none = calm_line_none is; begins = is.1 }),
-  λ _. calm_is_shown is,
-  calm_line_ends seen is,
+  whole_taken (record {
+    told = told;
+    len = len;
+    left = left;
+    text = is.text;
+    none = whole_line_none is;
+    begins = whole_begins is;
+  }),
+  λ _. whole_is_shown is,
+  whole_line_ends seen is,
 )
 
 -- a comment was taken

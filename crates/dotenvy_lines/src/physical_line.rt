@@ -6,12 +6,12 @@ ghost use Rattle.dotenvy_format.specs.LogicalLine.{without_carriage_return};
 ghost use Rattle.dotenvy_base.specs.Errors.{IsMemory};
 ghost use Rattle.dotenvy_lines.specs.Input.{AsksReads, input_measure};
 ghost use Rattle.dotenvy_lines.specs.inside.InputSteps.{WhereTold};
-ghost use Rattle.dotenvy_lines.specs.inside.TakenLine.{IsTextFront, PieceFalls, TakesCalm, TakesComment, TakesLineOn, TakesPieceOn, WalksFrom, WalksOn, after_text, at_line_end, begins_visibly, starting, still_blank};
+ghost use Rattle.dotenvy_lines.specs.inside.TakenLine.{IsTextFront, PieceFalls, TakesComment, TakesLineOn, TakesPieceOn, TakesWhole, WalksFrom, WalksOn, after_text, at_line_end, begins_visibly, starting, still_blank};
 
 use crate::input::Input;
 use dotenvy_base::errors::Result;
 use dotenvy_base::source::Source;
-use dotenvy_format::walk::{LineMode, Walked, calm_line, comment_line, walk_text};
+use dotenvy_format::walk::{LineMode, Walked, comment_line, walk_text, whole_line};
 use std::alloc::Allocator;
 
 /// How far the walk over a physical line came.
@@ -251,19 +251,20 @@ fn take_comment<R: Source, A: Allocator>(input: &mut Input<R, A>) -> bool
     }
 }
 
-// Takes the next physical line, if all of it is read and it is calm: then it ends its logical line.
+// Takes the next physical line, if all of it is read, its quotes are closed and no `#` is outside them. Then it ends its
+// logical line.
 #[inline(always)]
-fn take_calm<R: Source, A: Allocator>(
+fn take_whole<R: Source, A: Allocator>(
     input: &mut Input<R, A>,
     text: &mut String<A>,
 ) -> Result<bool, A>
     ensures falls { OnOk result (input_measure input.new ≤ input_measure input.old) }
-    ensures calm { IfOk result (λ calm. TakesCalm (chars (string_bytes text.old)) input.old calm
+    ensures whole { IfOk result (λ whole. TakesWhole (chars (string_bytes text.old)) input.old whole
         (chars (string_bytes text.new)) input.new) }
     ensures memory { IfErr result IsMemory }
     ensures asks { AsksReads (Unit {0}) input.old input.new }
 {
-    let Some(line) = calm_line(input.unread()) else {
+    let Some(line) = whole_line(input.unread()) else {
         return Ok(false);
     };
     let len = line.len();
@@ -292,7 +293,7 @@ pub fn take_line<R: Source, A: Allocator>(
         return Ok(Taken::Comment);
     }
     if let LineMode::Outside = mode {
-        if take_calm(input, text)? {
+        if take_whole(input, text)? {
             return Ok(Taken::Ended);
         }
     }

@@ -11,7 +11,7 @@ use Rattle.dotenvy_format.specs.inside.Slices.{BeginsLine}
 use Rattle.dotenvy_format.proofs.bytes.ByteRuns.{passed_over}
 
 -- the run at the front passes
-run_passes : (passes : ℕ → Bool) (bytes : List ℕ) → list_all passes (take (prefix_len passes bytes) bytes) ≡ true
+pub run_passes : (passes : ℕ → Bool) (bytes : List ℕ) → list_all passes (take (prefix_len passes bytes) bytes) ≡ true
 run_passes passes [] = refl
 run_passes passes (b ∷ bytes) =
     let step : 1 + prefix_len passes bytes ≡ suc (prefix_len passes bytes) = omega arith in

@@ -1,5 +1,7 @@
 -- Masks of blocks: what a comparison of all bytes at once tells of each, and where the first byte of a kind is.
-use Rattle.std.proofs.Common.{◌≡◌, ℕ, ◌+◌, ◌-◌, ◌%◌, ◌^◌, ◌<◌, ◌≤◌, Bool, true, not, cond, eqb, ltb, leb}
+use Rattle.std.proofs.Common.{◌≡◌, ℕ, ◌+◌, ◌-◌, ◌%◌, ◌^◌, ◌<◌, ◌≤◌, Bool, true, false, not, cond, eqb, ltb, leb}
+use Rattle.std.proofs.Common.{bit_or}
+use Rattle.std.specs.Prelude.{◌||◌}
 use Rattle.std.proofs.Common.{List, [], ◌∷◌, map, length, Some, None, inl, inr, refl, ap, ap₂, ◌∙◌, arith, w8, Fits}
 use Rattle.std.specs.List.{prefix_len, position_from}
 use Rattle.std.specs.Simd.Lanes.{mask_l, top, Each1}
@@ -73,3 +75,31 @@ lowest_set test block short some =
           first_after test 0 block (omega (arith, prefix_len-le-length (λ b. not (test b)) block))
           ∙ ap Some (omega (arith, lowest))
     ]
+
+-- so it is where the test is of whether a byte is one of three
+one_of_three : (x y z : Bool) →
+    top 7 (bit_or (bit_or (cond x 255 0) (cond y 255 0)) (cond z 255 0)) ≡ not (not ((x || y) || z))
+one_of_three true true true = refl
+one_of_three true true false = refl
+one_of_three true false true = refl
+one_of_three true false false = refl
+one_of_three false true true = refl
+one_of_three false true false = refl
+one_of_three false false true = refl
+one_of_three false false false = refl
+
+each_of_three : (x y z : ℕ) (block : List ℕ) →
+    map (λ b. top 7 (bit_or (bit_or (same_lane b x) (same_lane b y)) (same_lane b z))) block
+    ≡ map (λ b. not (not ((eqb b x || eqb b y) || eqb b z))) block
+each_of_three x y z [] = refl
+each_of_three x y z (b ∷ block) =
+    ap₂ (λ c cs. c ∷ cs) (one_of_three (eqb b x) (eqb b y) (eqb b z)) (each_of_three x y z block)
+
+pub masked_three : (x y z : ℕ) (block lanes : List ℕ) → length block ≤ 64
+    → lanes ≡ map (λ b. bit_or (bit_or (same_lane b x) (same_lane b y)) (same_lane b z)) block
+    → mask_l (map (top 7) lanes) % 2 ^ 64 ≡ mask_l (map (λ b. not (not ((eqb b x || eqb b y) || eqb b z))) block)
+masked_three x y z block lanes short same =
+    let lane = λ (b : ℕ). bit_or (bit_or (same_lane b x) (same_lane b y)) (same_lane b z) in
+    let test = λ (b : ℕ). not (not ((eqb b x || eqb b y) || eqb b z)) in
+    ap (λ it. mask_l it % 2 ^ 64) (ap (map (top 7)) same ∙ map-map (top 7) lane block
+    ∙ each_of_three x y z block) ∙ mask_l-mod (map test block) 64 (omega (arith, length-map block test))

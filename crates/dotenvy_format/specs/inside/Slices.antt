@@ -12,6 +12,7 @@ use Rattle.dotenvy_format.specs.declared.text.ByteKind.TheVariants.{Plain as Pla
 use Rattle.dotenvy_format.specs.declared.text.ByteKind.TheVariants.{Token as TokenByte}
 use Rattle.dotenvy_format.specs.declared.text.ByteKind.TheVariants.{Key as KeyByte, Calm as CalmByte}
 use Rattle.dotenvy_format.specs.declared.text.ByteKind.TheVariants.{Ascii as AsciiByte}
+use Rattle.dotenvy_format.specs.declared.text.ByteKind.TheVariants.{Quoted as QuotedByte}
 use Rattle.std.specs.Char.{is_ascii_alphanumeric}
 use Rattle.dotenvy_format.specs.declared.dialect.Dialect.{Dialect}
 use Rattle.dotenvy_format.specs.Characters.{begins_passing, tab, space, hash, underscore, double_quote}
@@ -48,6 +49,10 @@ is_calm b = not (stands_for_itself b || b == hash)
 abbrev pub is_ascii_in_line : ℕ → Bool
 is_ascii_in_line b = nat_lt b 128 && not (b == line_feed)
 
+-- the byte is no line feed or backslash, and not this quote
+abbrev pub is_in_quotes : ℕ → ℕ → Bool
+is_in_quotes quote b = not ((b == quote || b == backslash) || b == line_feed)
+
 -- the byte is of this kind
 abbrev pub is_of_kind : ByteKind → ℕ → Bool
 is_of_kind PlainByte b = is_plain_outside b
@@ -55,6 +60,7 @@ is_of_kind TokenByte b = is_token_byte b
 is_of_kind KeyByte b = continues_key b
 is_of_kind CalmByte b = is_calm b
 is_of_kind AsciiByte b = is_ascii_in_line b
+is_of_kind (QuotedByte quote) b = is_in_quotes quote b
 
 -- a run of this class may go on with this byte; some first bytes of long characters are left out
 abbrev pub in_run : Class → ℕ → Bool

@@ -1,12 +1,13 @@
 use Rattle.std.proofs.Common.{◌≡◌, ◌∙◌, ◌++◌, ap, refl, string_bytes}
 use Rattle.std.specs.Str.{chars}
 use Rattle.std.proofs.lemmas.Str.{IsUtf8-string_bytes, chars-append}
-use Rattle.dotenvy_lines.proofs.WholeLines.{calm_taken, whole_falls}
+use Rattle.dotenvy_lines.proofs.WholeLines.{closed_taken, whole_falls}
+use Rattle.dotenvy_format.proofs.lines.WholeLines.{whole_begins}
 use Rattle.dotenvy_lines.proofs.AskedReads.{asks_none}
-use Rattle.dotenvy_lines.proofs.physical_line.take_calm.Goals as goal
+use Rattle.dotenvy_lines.proofs.physical_line.take_whole.Goals as goal
 
-pub returns-in_default-clause-calm : goal.returns-in_default-clause-calm
-returns-in_default-clause-calm g c = (
+pub returns-in_default-clause-whole : goal.returns-in_default-clause-whole
+returns-in_default-clause-whole g c = (
   refl,
   refl,
   λ a left line is. c.in_default.ensures line (rw (c.unread.ensures.told a left) is),
@@ -18,16 +19,16 @@ returns-in_default-clause-asks g c = asks_none _ _ _ refl refl refl refl
 pub returns-in_err-push_str-clause-asks : goal.returns-in_err-push_str-clause-asks
 returns-in_err-push_str-clause-asks g c = asks_none _ _ _ refl refl refl refl
 
-pub returns-clause-calm : goal.returns-clause-calm
-returns-clause-calm g c =
+pub returns-clause-whole : goal.returns-clause-whole
+returns-clause-whole g c =
     let is = c.in-Some.ensures in
     let old = string_bytes c.args.text.now in
     let line = c.in-Some.line.now in
     let pushed : chars (string_bytes c.push_str.new.self) ≡ chars old ++ chars line =
     ap chars c.in_ok-push_str.ensures.bytes ∙ chars-append old line (IsUtf8-string_bytes c.args.text.now) in
     rw (c.use_up.ensures, c.drop_carriage_return.ensures, pushed) (
-      whole_falls c.args.input.now c.unread.ensures.len is.1,
-      λ a left. calm_taken (chars old) (c.unread.ensures.told a left) c.unread.ensures.len left is,
+      whole_falls c.args.input.now c.unread.ensures.len (whole_begins is),
+      λ a left. closed_taken (chars old) (c.unread.ensures.told a left) c.unread.ensures.len left is,
     )
 
 pub returns-clause-asks : goal.returns-clause-asks
