@@ -2,6 +2,7 @@
 
 ghost use Rattle.std.specs.Prelude.{◌≡◌};
 ghost use Rattle.dotenvy_format.specs.Characters.{allows_underscore, begins_key, continues_key, is_blank, is_name_character};
+ghost use Rattle.dotenvy_format.specs.inside.Slices.{is_name_byte};
 
 use crate::dialect::Dialect;
 use unicode::properties::{GeneralCategory, is_alphabetic};
@@ -37,11 +38,22 @@ pub fn allows_underscore(dialect: Dialect) -> bool
     }
 }
 
+/// Whether the byte is an ASCII character of a bare name.
+#[inline(always)]
+pub fn is_name_byte(dialect: Dialect, byte: u8) -> bool
+    ensures { result ≡ is_name_byte dialect byte }
+{
+    byte.is_ascii_alphanumeric() || (allows_underscore(dialect) && byte == b'_')
+}
+
 /// Whether a bare name may have this character: alphabetic or a number in Unicode, or `_` in the second dialect.
 #[tactic(auto, unfolding(crate::specs::Characters::is_name_character))]
 pub fn is_name_character(dialect: Dialect, character: char) -> bool
     ensures { result ≡ is_name_character dialect character }
 {
+    if character.is_ascii() {
+        return is_name_byte(dialect, character as u8);
+    }
     is_alphabetic(character)
         || matches!(
             GeneralCategory::for_char(character),
@@ -49,5 +61,4 @@ pub fn is_name_character(dialect: Dialect, character: char) -> bool
                 | GeneralCategory::LetterNumber
                 | GeneralCategory::OtherNumber
         )
-        || (allows_underscore(dialect) && character == '_')
 }

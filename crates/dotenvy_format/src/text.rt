@@ -7,7 +7,7 @@ ghost use Rattle.std.specs.List.{prefix_len, position_from};
 ghost use Rattle.dotenvy_format.specs.inside.Slices.{BeginsLine, BeginsWith, IsSpan, PassesBytes, has_character, is_name_byte, is_of_kind, in_run};
 
 use crate::blocks::{not_ascii_in_line, not_calm, not_in_key, not_in_quotes, not_plain, not_token};
-use crate::classes::{allows_underscore, continues_key, is_blank, is_name_character};
+use crate::classes::{continues_key, is_blank, is_name_byte, is_name_character};
 use crate::dialect::Dialect;
 use memchr::{memchr2, memchr3};
 use std::simd::prelude::*;
@@ -242,14 +242,6 @@ pub fn split_at_other(bytes: &[u8], kind: ByteKind) -> Option<(u8, &[u8])>
     let (_, after) = bytes.split_at(kind_run(bytes, kind));
     let (first, behind) = after.split_first()?;
     Some((*first, behind))
-}
-
-// Whether the byte is an ASCII character of a bare name.
-#[inline(always)]
-fn is_name_byte(dialect: Dialect, byte: u8) -> bool
-    ensures { result ≡ is_name_byte dialect byte }
-{
-    byte.is_ascii_alphanumeric() || (allows_underscore(dialect) && byte == b'_')
 }
 
 #[inline(always)]

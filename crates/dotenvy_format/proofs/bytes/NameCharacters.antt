@@ -1,6 +1,5 @@
 -- Characters that are no name characters, under either dialect, and the ASCII characters that are.
-use Rattle.std.proofs.Common.{◌≡◌, ℕ, ◌<◌, true, false, not, refl}
-use Rattle.std.specs.Prelude.{◌||◌}
+use Rattle.std.proofs.Common.{◌≡◌, ℕ, ◌<◌, true, false, refl, sym}
 use Rattle.std.proofs.lemmas.Bool.{and_right, agree_below, agree_below_at}
 use Rattle.dotenvy_format.specs.declared.dialect.Dialect.{Dialect}
 use Rattle.dotenvy_format.specs.declared.dialect.Dialect.TheVariants.{V15, Next}
@@ -17,17 +16,18 @@ pub no_names : (dialect : Dialect) →
 unfolding is_name_character ucd_derived ucd_category
 no_names dialect = let none = and_right (allows_underscore dialect) false refl in (none, none, none, none)
 
--- of all codes below 128, those that pass as ASCII characters of a bare name are name characters
-named_below : (dialect : Dialect)
-    → agree_below (λ c. not (is_name_byte dialect c) || is_name_character dialect c) (λ c. true) 128 ≡ true
+-- of all codes below 128, the name characters are those that pass as ASCII characters of a bare name
+named_below : (dialect : Dialect) → agree_below (is_name_byte dialect) (is_name_character dialect) 128 ≡ true
 unfolding is_name_character ucd_derived ucd_category
 named_below V15 = refl
 named_below Next = refl
 
+-- an ASCII character is a name character where it passes as one of a bare name
+pub ascii_names : (dialect : Dialect) (c : ℕ) → c < 128 → is_name_byte dialect c ≡ is_name_character dialect c
+ascii_names dialect c small =
+    agree_below_at (is_name_byte dialect) (is_name_character dialect) 128 c (named_below dialect) small
+
 -- an ASCII character that passes as one of a bare name is a name character
 pub ascii_name : (dialect : Dialect) (c : ℕ) → c < 128 → is_name_byte dialect c ≡ true
     → is_name_character dialect c ≡ true
-ascii_name dialect c small h =
-    rw h at
-    (agree_below_at (λ c. not (is_name_byte dialect c) || is_name_character dialect c) (λ c. true) 128 c
-    (named_below dialect) small)
+ascii_name dialect c small h = sym (rw h at (ascii_names dialect c small))
