@@ -230,6 +230,27 @@ fn other_quoting(quoting: Quoting) -> Quoting
     }
 }
 
+// The text in double quotes up to their end, or up to the first character that does not mean itself there.
+fn double_quoted(left: &str) -> NextPiece<'_>
+    ensures { (dialect : _) →
+        NextPieceIs dialect (base Quoting.DoubleQuoted) (chars left.now) result }
+{
+    let (text, end) = split_while(left, Class::Plain(Quoting::DoubleQuoted));
+    let piece = Piece::Text(text);
+    match split_first(end) {
+        Some(('"', rest)) => NextPiece::Piece(Given {
+            piece,
+            rest,
+            quoting: Quoting::Unquoted,
+        }),
+        _ => NextPiece::Piece(Given {
+            piece,
+            rest: end,
+            quoting: Quoting::DoubleQuoted,
+        }),
+    }
+}
+
 // What follows a double quote. More of them right after it begin and end parts with no text, so they are taken at once.
 #[inline(always)]
 fn double_quote(left: &str, quoting: Quoting) -> NextPiece<'_>
@@ -242,11 +263,14 @@ fn double_quote(left: &str, quoting: Quoting) -> NextPiece<'_>
     } else {
         quoting
     };
-    NextPiece::Piece(Given {
-        piece: Piece::Text(""),
-        rest,
-        quoting,
-    })
+    match quoting {
+        Quoting::Unquoted => NextPiece::Piece(Given {
+            piece: Piece::Text(""),
+            rest,
+            quoting,
+        }),
+        Quoting::DoubleQuoted => double_quoted(rest),
+    }
 }
 
 /// Reads the next piece of a value from what is left of it.

@@ -13,6 +13,7 @@ use Rattle.std.proofs.lemmas.Bool.Decides.{nat_tests}
 use Rattle.std.proofs.lemmas.Str.{chars-encodes, scalars-chars, encodes-append, encode_ascii}
 use Rattle.dotenvy_format.specs.declared.dialect.Dialect.{Dialect}
 use Rattle.dotenvy_format.specs.declared.text.Quoting.{Quoting}
+use Rattle.dotenvy_format.specs.declared.text.Quoting.TheVariants.{Unquoted, DoubleQuoted}
 use Rattle.dotenvy_format.specs.declared.value.Kind.{Kind}
 use Rattle.dotenvy_format.specs.declared.value.Kind.TheVariants.{Backslash, SingleQuote}
 use Rattle.dotenvy_format.specs.declared.value.Kind.TheVariants.{DoubleQuote, Dollar, SpaceOrTab}
@@ -31,7 +32,7 @@ use Rattle.dotenvy_format.specs.inside.ReadValue.{ValueStep, value_goes}
 use Rattle.dotenvy_format.specs.inside.NextPiece.{other_quoting, is_empty, kind_of, IsReadTo}
 use Rattle.dotenvy_format.specs.inside.NextPiece.{GivesPiece, StopsAt, NextPieceIs, IsShorter, without_texts}
 pub use Rattle.dotenvy_format.proofs.values.Readings.{none_read}
-use Rattle.dotenvy_format.proofs.values.Readings.{one, stop, read_then, stop_then, each_text}
+use Rattle.dotenvy_format.proofs.values.Readings.{one, stop, read_then, stop_then, each_text, plain_run}
 
 -- after characters that complete no piece, what comes next is what comes next from before them
 pub next_after : {dialect : Dialect} {m n : ValueMode} {text left : List ℕ} (result : NextPiece) →
@@ -160,3 +161,10 @@ quotes_run dialect q (c ∷ cs) rest h =
     let later : after_quotes (length cs) (other_quoting q) ≡ after_quotes (suc (length cs)) q =
     grind (arith, nat_tests) in
     rw (← later) (read_then (one goes) (quotes_run dialect (other_quoting q) cs rest k.1))
+
+-- in double quotes, characters that mean themselves and then the quote are read as these texts, and end the quotes
+pub quoted_read : (dialect : Dialect) (text rest : List ℕ) → list_all (is_plain DoubleQuoted) text ≡ true
+    → IsReadTo dialect (base DoubleQuoted) (text ++ double_quote ∷ rest) (each_text text) (base Unquoted) rest
+quoted_read dialect text rest h =
+    rw (append-nil (each_text text)) at
+    (read_then (plain_run dialect DoubleQuoted text (double_quote ∷ rest) h) (one refl))

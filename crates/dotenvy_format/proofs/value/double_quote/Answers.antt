@@ -1,14 +1,16 @@
 use Rattle.std.proofs.Common.{◌≡◌, [], refl, length, arith}
 use Rattle.std.specs.Str.{chars}
 use Rattle.std.proofs.lemmas.Str.{encodes-chars}
+use Rattle.dotenvy_format.specs.declared.dialect.Dialect.{Dialect}
 use Rattle.dotenvy_format.specs.Characters.{double_quote}
-use Rattle.dotenvy_format.specs.inside.NextPiece.{other_quoting}
-use Rattle.dotenvy_format.proofs.values.NextPiece.{after_quotes, quotes_run, odd_back, own_bytes, gives_texts}
+use Rattle.dotenvy_format.specs.inside.ReadValue.{base}
+use Rattle.dotenvy_format.specs.inside.NextPiece.{other_quoting, IsReadTo}
+use Rattle.dotenvy_format.proofs.values.NextPiece.{after_quotes, quotes_run, odd_back, own_bytes, gives_texts, next_after}
 use Rattle.dotenvy_format.proofs.value.double_quote.Goals as goal
 use Rattle.dotenvy_format.proofs.value.double_quote.Goals.{then-more-eq0, else-more-eq0}
 
-pub returns : goal.returns
-returns c =
+pub returns-in-Unquoted : goal.returns-in-Unquoted
+returns-in-Unquoted c =
     let more = c.split_while.result.0.now in
     let from = c.args.quoting in
     let texts = c.split_while.ensures.texts in
@@ -22,3 +24,21 @@ returns c =
     ] in
     λ dialect.
     gives_texts [] texts.1 refl (rw (span.spelled, ← leads) (quotes_run dialect (other_quoting from) _ _ span.pass))
+
+pub returns-in-DoubleQuoted : goal.returns-in-DoubleQuoted
+returns-in-DoubleQuoted c =
+    let more = c.split_while.result.0.now in
+    let from = c.args.quoting in
+    let texts = c.split_while.ensures.texts in
+    let span = c.split_while.ensures.span in
+    let row : chars more ≡ more =
+    cc (own_bytes double_quote (chars more) (omega arith) span.pass, encodes-chars more texts.0) in
+    let leads : after_quotes (length (chars more)) (other_quoting from) ≡ c.if-more-eq0.quoting =
+    elim c.if-more-eq0.branch [
+      | then-more-eq0 w ↦ rw (row, w.if-more-eq0.true, w.quoting-is, w.other_quoting-quoting.ensures)
+      | else-more-eq0 w ↦ rw (row, w.quoting-is) (odd_back (length more) from w.if-more-eq0.false)
+    ] in
+    λ dialect.
+    let opened = rw (leads, c.in-DoubleQuoted.is) at
+    (quotes_run dialect (other_quoting from) (chars more) (chars c.split_while.result.1.now) span.pass) in
+    next_after c.double_quoted.result (rw span.spelled opened) (c.double_quoted.ensures dialect)
