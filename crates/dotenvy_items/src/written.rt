@@ -18,7 +18,7 @@ use dotenvy_base::errors::Result;
 use dotenvy_base::output::{MOST_WRITES, write_all};
 use dotenvy_base::source::{Sink, Source};
 use dotenvy_format::dialect::Dialect;
-use dotenvy_format::text::{Class, Quoting, split_first, split_while};
+use dotenvy_format::text::{Class, Quoting, row_len, split_first, split_while};
 use dotenvy_lines::lines::{READ_LIMIT, Room, Splitter};
 use memchr::memchr3_iter;
 use std::alloc::{AllocError, Allocator};
@@ -55,7 +55,14 @@ fn push_written<A: Allocator>(out: &mut String<A>, key: &str, text: &str)
     out.push_str("=\"").unwrap();
     let mut rest = text;
     'parts: while let Some((first, after_first)) = split_first(rest) {
-        if needs_backslash(first) {
+        let row = row_len(rest, b'\\');
+        if row > 0 {
+            // A backslash for each of them, and these themselves.
+            let (backslashes, after) = rest.split_at(row);
+            out.push_str(backslashes).unwrap();
+            out.push_str(backslashes).unwrap();
+            rest = after;
+        } else if needs_backslash(first) {
             out.push('\\').unwrap();
             out.push(first).unwrap();
             rest = after_first;
