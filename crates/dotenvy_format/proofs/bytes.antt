@@ -3,6 +3,7 @@ pub mod NameCharacters
 pub mod Slices
 pub mod BytePlaces
 pub mod ByteRuns
+pub mod AsciiRows
 pub mod ByteClasses
 pub mod Masks
 pub mod ByteLines

@@ -5,6 +5,7 @@ pub mod DecidedFront
 pub mod Splitting
 pub mod SplitLines
 pub mod LineTexts
+pub mod BlankPairs
 pub mod LineEnds
 pub mod WholeLines
 pub mod CommentLines

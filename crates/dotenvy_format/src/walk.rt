@@ -1,12 +1,12 @@
 //! Walks over the characters of a physical line to the end of its logical line (docs/GRAMMAR.md, "Logical lines").
 
-ghost use Rattle.std.specs.Prelude.{◌≡◌, ◌==◌, ◌∷◌, ℕ, List, None, Some, true, false, MatchOption};
-ghost use Rattle.dotenvy_format.specs.Characters.{is_quote, line_feed};
+ghost use Rattle.std.specs.Prelude.{◌≡◌, ◌==◌, ◌∷◌, ℕ, List, None, Some, true, false, MatchOption, IsTrue};
+ghost use Rattle.dotenvy_format.specs.Characters.{is_quote, is_space_or_tab, line_feed};
 ghost use Rattle.dotenvy_format.specs.inside.Slices.{is_calm};
 ghost use Rattle.dotenvy_format.specs.Tokens.{stands_for_itself};
 ghost use Rattle.dotenvy_format.specs.inside.Walk.{leads_outside, leads, behind_line, BeginsComment, BeginsWhole, LeadsOut, WalksTo, WalksText};
 
-use crate::text::{ByteKind, Class, line_of, split_at_other, split_first, split_while};
+use crate::text::{ByteKind, Class, line_of, row_len, split_at_other, split_first, split_while};
 
 /// What the walk is in the middle of.
 #[derive(Clone, Copy, Drop)]
@@ -87,7 +87,30 @@ pub enum Walked {
     EndedAt(usize, char),
 }
 
-// What is left of a text after characters at its start that leave the mode unchanged.
+// What is left of a text outside quotes after an even number of this blank at its start, as each two of them are a token.
+#[inline(always)]
+fn pass_pairs(text: &str, blank: u8) -> &str
+    requires { IsTrue (is_space_or_tab blank) }
+    ensures { WalksTo LineMode.Outside text.now LineMode.Outside result.now }
+{
+    let row = row_len(text, blank);
+    let (_, rest) = text.split_at(row - row % 2);
+    rest
+}
+
+// What is left of a text outside quotes after characters at its start that leave the mode unchanged, or come back to it.
+#[inline(always)]
+fn pass_outside(text: &str) -> &str
+    ensures { WalksTo LineMode.Outside text.now LineMode.Outside result.now }
+{
+    match text.as_bytes().first() {
+        Some(b' ') => pass_pairs(text, b' '),
+        Some(b'\t') => pass_pairs(text, b'\t'),
+        _ => split_while(text, Class::Token).1,
+    }
+}
+
+// What is left of a text after characters at its start that leave the mode unchanged, or come back to it.
 #[tactic(auto, using(crate::proofs::lines::LineTexts::walking_start))]
 #[inline(always)]
 fn pass_run(text: &str, mode: LineMode) -> &str
@@ -96,7 +119,7 @@ fn pass_run(text: &str, mode: LineMode) -> &str
     match (text.as_bytes().first(), mode) {
         // no run is searched for before a quote or a backslash, which often comes right after another one
         (Some(b'\\' | b'\'' | b'"' | b'\n'), _) => text,
-        (_, LineMode::Outside) => split_while(text, Class::Token).1,
+        (_, LineMode::Outside) => pass_outside(text),
         (_, LineMode::Inside(quote)) => split_while(text, Class::Quoted(quote)).1,
         _ => text,
     }
