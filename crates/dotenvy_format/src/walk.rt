@@ -87,7 +87,7 @@ pub enum Walked {
     EndedAt(usize, char),
 }
 
-// What is left of a text outside quotes after an even number of this blank at its start, as each two of them are a token.
+// What is left of a text outside quotes after an even number of this blank at its start: each two of them are a token.
 #[inline(always)]
 fn pass_pairs(text: &str, blank: u8) -> &str
     requires { IsTrue (is_space_or_tab blank) }
@@ -98,7 +98,7 @@ fn pass_pairs(text: &str, blank: u8) -> &str
     rest
 }
 
-// What is left of a text outside quotes after characters at its start that leave the mode unchanged, or come back to it.
+// What is left of a text outside quotes after characters at its start that lead back to outside quotes.
 #[inline(always)]
 fn pass_outside(text: &str) -> &str
     ensures { WalksTo LineMode.Outside text.now LineMode.Outside result.now }
@@ -110,7 +110,7 @@ fn pass_outside(text: &str) -> &str
     }
 }
 
-// What is left of a text after characters at its start that leave the mode unchanged, or come back to it.
+// What is left of a text after characters at its start that lead back to the mode.
 #[tactic(auto, using(crate::proofs::lines::LineTexts::walking_start))]
 #[inline(always)]
 fn pass_run(text: &str, mode: LineMode) -> &str

@@ -3,7 +3,8 @@ use Rattle.std.specs.Str.{chars}
 use Rattle.std.proofs.lemmas.Str.{encodes-chars}
 use Rattle.dotenvy_format.specs.Characters.{double_quote}
 use Rattle.dotenvy_format.specs.inside.NextPiece.{other_quoting}
-use Rattle.dotenvy_format.proofs.values.NextPiece.{after_quotes, quotes_run, odd_back, own_bytes, gives_texts, next_after}
+use Rattle.dotenvy_format.proofs.values.NextPiece.{after_quotes, quotes_run, odd_back, own_bytes}
+use Rattle.dotenvy_format.proofs.values.NextPiece.{gives_texts, next_after}
 use Rattle.dotenvy_format.proofs.value.double_quote.Goals as goal
 use Rattle.dotenvy_format.proofs.value.double_quote.Goals.{then-more-eq0, else-more-eq0}
 
