@@ -103,7 +103,8 @@ fn escaped(c: char) -> Option<&'static str>
     }
 }
 
-// What follows a backslash. Each two backslashes in a row there mean one, and an odd one is left.
+// What follows a backslash. Each two backslashes in a row there mean one, and an odd one is left. The text right after
+// the backslashes that are meant is taken with them.
 #[inline(always)]
 fn escape(left: &str, quoting: Quoting) -> NextPiece<'_>
     ensures { (dialect : _) →
@@ -112,8 +113,10 @@ fn escape(left: &str, quoting: Quoting) -> NextPiece<'_>
     let more = row_len(left, b'\\');
     if more > 0 {
         let pairs = more / 2 + more % 2;
-        let (meant, _) = left.split_at(pairs);
-        let (_, rest) = left.split_at(2 * pairs - 1);
+        let (_, row) = left.split_at(pairs - 1);
+        let (_, behind) = left.split_at(2 * pairs - 1);
+        let (_, rest) = split_while(behind, Class::Plain(quoting));
+        let (meant, _) = row.split_at(row.len() - rest.len());
         return NextPiece::Piece(Given {
             piece: Piece::Text(meant),
             rest,

@@ -1,5 +1,5 @@
 -- Rows of one ASCII character at the front of a text.
-use Rattle.std.proofs.Common.{◌≡◌, ℕ, zero, suc, ◌+◌, ◌<◌, ◌≤◌, List, ◌++◌, refl, sym, arith, take, drop, get_or}
+use Rattle.std.proofs.Common.{◌≡◌, ℕ, zero, suc, ◌+◌, ◌<◌, ◌≤◌, List, [], ◌∷◌, ◌++◌, refl, sym, arith, take, drop, get_or}
 use Rattle.std.specs.Prelude.{◌==◌}
 use Rattle.std.specs.List.{prefix_len}
 use Rattle.std.specs.Str.{chars, encode_utf8_all, IsUtf8, IsCharBoundary}
@@ -63,3 +63,12 @@ cut_row c n text small utf8 most =
       bytes = bytes;
       characters = cc (bytes, parts, spells);
     }
+
+-- behind some of the row at the front of a text, as many more of it follow
+pub row_dropped : (c k n : ℕ) (text : List ℕ) → k + n ≤ prefix_len (λ b. b == c) text
+    → drop k text ≡ row c n ++ drop (k + n) text
+row_dropped c zero n text h = rw (row_taken c n text h) at (sym (take-append-drop n text))
+row_dropped c (suc k) n [] h = absurd (omega arith)
+row_dropped c (suc k) n (b ∷ text) h =
+    let more : suc k + n ≡ suc (k + n) = omega arith in
+    rw more (row_dropped c k n text (grind (arith, nat_tests)))

@@ -4,24 +4,38 @@ use Rattle.dotenvy_format.specs.Value.{escape_meaning, LastBackslash}
 use Rattle.dotenvy_format.specs.inside.ReadValue.{value_goes}
 use Rattle.dotenvy_format.proofs.values.Readings.{stop, escape_read, end_read, lacks_end}
 use Rattle.dotenvy_format.proofs.values.NextPiece.{gives_texts}
-use Rattle.dotenvy_format.proofs.values.BackslashRows.{row_boundary, gives_backslashes}
+use Rattle.dotenvy_format.specs.Characters.{backslash}
+use Rattle.dotenvy_format.proofs.bytes.AsciiRows.{row_boundary}
+use Rattle.dotenvy_format.proofs.values.BackslashRows.{row_with_text, gives_backslashes}
 use Rattle.dotenvy_format.proofs.value.escape.Goals as goal
 
 pub split_at-requires : goal.split_at-requires
-split_at-requires c = row_boundary c.args.left.now _ c.utf8.left (omega arith) (omega arith)
+split_at-requires c =
+    row_boundary backslash c.args.left.now _ (omega arith) c.utf8.left (omega (arith, c.row_len-more.ensures))
 
 pub split_at-requires-then-more-gt0 : goal.split_at-requires-then-more-gt0
-split_at-requires-then-more-gt0 c = row_boundary c.args.left.now _ c.utf8.left (omega arith) (omega arith)
+split_at-requires-then-more-gt0 c =
+    row_boundary backslash c.args.left.now _ (omega arith) c.utf8.left (omega (arith, c.row_len-more.ensures))
+
+pub split_at-requires-then-more-gt0-2 : goal.split_at-requires-then-more-gt0-2
+split_at-requires-then-more-gt0-2 c =
+    let pairs = c.row_len-more.result / 2 + c.row_len-more.result % 2 in
+    let back : 2 * pairs - 1 ≡ pairs - 1 + (pairs - 1) + 1 = omega arith in
+    let parts = c.split_while.ensures in
+    (row_with_text c.args.left.now (pairs - 1) (omega (arith, c.row_len-more.ensures)) c.split_at.ensures.back
+    (rw back at c.split_at-then-more-gt0.ensures.back) parts.bytes parts.texts.1).0
 
 pub returns-then-more-gt0 : goal.returns-then-more-gt0
 returns-then-more-gt0 c =
-    let more = c.row_len-more.result in
-    let pairs = more / 2 + more % 2 in
-    let front : pairs - 1 + 1 ≡ pairs = omega arith in
-    let back : pairs - 1 + (pairs - 1) + 1 ≡ 2 * pairs - 1 = omega arith in
+    let pairs = c.row_len-more.result / 2 + c.row_len-more.result % 2 in
+    let back : 2 * pairs - 1 ≡ pairs - 1 + (pairs - 1) + 1 = omega arith in
+    let parts = c.split_while.ensures in
+    let behind = rw back at c.split_at-then-more-gt0.ensures.back in
+    let meant = row_with_text c.args.left.now (pairs - 1) (omega (arith, c.row_len-more.ensures))
+    c.split_at.ensures.back behind parts.bytes parts.texts.1 in
     λ dialect.
-    gives_backslashes c.args.left.now (pairs - 1) c.utf8.left (omega arith)
-    (rw front c.split_at.ensures.front) (rw back c.split_at-then-more-gt0.ensures.back)
+    gives_backslashes c.args.left.now (pairs - 1) c.utf8.left (omega (arith, c.row_len-more.ensures)) parts.texts.0
+    parts.texts.1 (rw behind at parts.span) (rw meant.1 at c.split_at-then-more-gt0-2.ensures.front)
 
 pub returns-in-Unquoted : goal.returns-in-Unquoted
 returns-in-Unquoted c =
