@@ -1,16 +1,14 @@
 -- The written form by its bytes: character by character, pair by pair, and how many there are.
-use Rattle.std.proofs.Common.{◌≡◌, ℕ, zero, suc, ◌+◌, ◌<◌, Bool, true, false, cond, List, [], ◌∷◌, ◌++◌, ◌≤◌, map}
+use Rattle.std.proofs.Common.{◌≡◌, ℕ, zero, suc, ◌+◌, Bool, true, false, cond, List, [], ◌∷◌, ◌++◌, ◌≤◌, map}
 use Rattle.std.proofs.Common.{filter, refl, ap, arith, take, drop, length, length-append, append_assoc}
-use Rattle.std.proofs.Math.ListN.{replicate}
 use Rattle.std.specs.Prelude.{◌==◌}
 use lib.Utf8.{encode}
 use Rattle.std.specs.Prelude.{encode_utf8, encode_utf8_all}
 use Rattle.std.specs.List.{flat_map, list_all, prefix_len}
 use Rattle.std.specs.Str.{chars, IsUtf8}
-use Rattle.std.proofs.lemmas.List.{append-nil, take-append-drop}
+use Rattle.std.proofs.lemmas.List.{append-nil}
 use Rattle.std.proofs.lemmas.Str.{encode_ascii, encodes-chars, encodes-append, chars_past_char}
-use Rattle.std.proofs.lemmas.Str.{chars-append, chars_from_encodes, IsUtf8-take}
-use Rattle.dotenvy_format.proofs.values.BackslashRows.{row_boundary}
+use Rattle.dotenvy_format.proofs.bytes.AsciiRows.{row, cut_row}
 use Rattle.dotenvy_format.specs.Characters.{double_quote, backslash, equals_sign, line_feed, byte_len}
 use Rattle.std.proofs.lemmas.Bool.Decides.{nat_tests}
 use Rattle.dotenvy_format.specs.inside.Slices.{IsSpan}
@@ -86,54 +84,31 @@ pub left_run : (rest plain after : List ℕ) → IsUtf8 plain
 left_run rest plain after utf8 span =
     rw (span.spelled, left_plain (chars plain) (chars after) span.pass, encodes-chars plain utf8)
 
--- as many backslashes
-abbrev row : ℕ → List ℕ
-row n = replicate n backslash
-
--- what is taken of backslashes at the front of a text is a row of them
-taken : (n : ℕ) (text : List ℕ) → n ≤ prefix_len (λ b. b == backslash) text → take n text ≡ row n
-taken zero text h = refl
-taken (suc n) text h = grind (arith, nat_tests, taken n)
-
--- a row of backslashes is its own UTF-8
-row_bytes : (n : ℕ) → encode_utf8_all (row n) ≡ row n
-row_bytes zero = refl
-row_bytes (suc n) = rw (row_bytes n, encode_ascii backslash (omega arith)) refl
-
 -- a backslash after a row of them is one before them
-row_moved : (n : ℕ) (bytes : List ℕ) → row n ++ backslash ∷ bytes ≡ backslash ∷ (row n ++ bytes)
+row_moved : (n : ℕ) (bytes : List ℕ) → row backslash n ++ backslash ∷ bytes ≡ backslash ∷ (row backslash n ++ bytes)
 row_moved zero bytes = refl
 row_moved (suc n) bytes = ap (λ bs. backslash ∷ bs) (row_moved n bytes)
 
 -- a row of backslashes is written twice, before what is left
-row_written : (n : ℕ) (cs : List ℕ) → left_bytes (row n ++ cs) ≡ row n ++ (row n ++ left_bytes cs)
+row_written : (n : ℕ) (cs : List ℕ)
+    → left_bytes (row backslash n ++ cs) ≡ row backslash n ++ (row backslash n ++ left_bytes cs)
 row_written zero cs = refl
 row_written (suc n) cs =
     rw (
-      left_one backslash (row n ++ cs),
+      left_one backslash (row backslash n ++ cs),
       row_written n cs,
-      row_moved n (row n ++ left_bytes cs),
+      row_moved n (row backslash n ++ left_bytes cs),
       escaped_bytes backslash refl,
       encode_ascii backslash (omega arith),
     ) refl
 
 -- the backslashes at the front of what is left are written twice, before the others
-pub left_row : (rest : List ℕ) (n : ℕ) {front after : List ℕ} → IsUtf8 rest → 0 < n
+pub left_row : (rest : List ℕ) (n : ℕ) {front after : List ℕ} → IsUtf8 rest
     → n ≡ prefix_len (λ b. b == backslash) rest → front ≡ take n rest → after ≡ drop n rest
     → left_bytes (chars rest) ≡ front ++ (front ++ left_bytes (chars after))
-left_row rest n {after = after} utf8 some is f a =
-    let boundary = row_boundary rest n utf8 some (omega (arith, is)) in
-    let own : take n rest ≡ row n = taken n rest (omega (arith, is)) in
-    let front_utf8 : IsUtf8 (row n) = rw own at (IsUtf8-take rest n utf8 boundary) in
-    let spelled : chars rest ≡ row n ++ chars after =
-    cc (
-      take-append-drop n rest,
-      own,
-      a,
-      chars-append (row n) (drop n rest) front_utf8,
-      chars_from_encodes (row n) (row n) front_utf8 (row_bytes n),
-    ) in
-    rw (f, own, spelled) (row_written n (chars after))
+left_row rest n utf8 is f a =
+    let cut = cut_row backslash n rest (omega arith) utf8 (omega (arith, is)) in
+    rw (f, a, cut.own, cut.characters) (row_written n (chars (drop n rest)))
 
 -- where no character is left, the end of the line is
 pub left_none : (rest : List ℕ) → length rest ≡ 0 → left_bytes (chars rest) ≡ double_quote ∷ line_feed ∷ []

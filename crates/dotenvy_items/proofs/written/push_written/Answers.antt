@@ -1,20 +1,21 @@
 use Rattle.std.proofs.Common.{length, length-append, append_assoc, arith, ap}
 use Rattle.std.specs.Str.{chars}
 use Rattle.std.proofs.lemmas.Str.{IsUtf8-drop}
-use Rattle.dotenvy_format.proofs.values.BackslashRows.{row_boundary}
+use Rattle.dotenvy_format.specs.Characters.{backslash}
+use Rattle.dotenvy_format.proofs.bytes.AsciiRows.{row_boundary}
 use Rattle.dotenvy_items.proofs.WrittenBytes.{escaped_bytes, left_len, left_next, left_row, left_run}
 use Rattle.dotenvy_items.proofs.written.push_written.Goals as goal
 
 pub split_at-requires : goal.split_at-requires
 split_at-requires g c =
-    row_boundary c.parts.rest.now c.row_len-row.result c.parts.invariant.utf8 (omega arith)
+    row_boundary backslash c.parts.rest.now c.row_len-row.result (omega arith) c.parts.invariant.utf8
     (omega (arith, c.row_len-row.ensures))
 
 pub unwrap-requires-then-row-gt0 : goal.unwrap-requires-then-row-gt0
 unwrap-requires-then-row-gt0 g c =
     let i = c.parts.invariant in
     let whole = simp length-append at (ap length i.whole) in
-    let next = simp length-append at (ap length (left_row c.parts.rest.now c.row_len-row.result i.utf8 (omega arith)
+    let next = simp length-append at (ap length (left_row c.parts.rest.now c.row_len-row.result i.utf8
     c.row_len-row.ensures c.split_at.ensures.front c.split_at.ensures.back)) in
     c.push_str-then-row-gt0.ensures.succeeds
     (omega (arith, whole, next, i.capacity, c.requires, c.args.out.now.bytes.ok.0, c.parts.out.bytes.ok.0))
@@ -23,7 +24,7 @@ pub unwrap-requires-then-row-gt0-2 : goal.unwrap-requires-then-row-gt0-2
 unwrap-requires-then-row-gt0-2 g c =
     let i = c.parts.invariant in
     let whole = simp length-append at (ap length i.whole) in
-    let next = simp length-append at (ap length (left_row c.parts.rest.now c.row_len-row.result i.utf8 (omega arith)
+    let next = simp length-append at (ap length (left_row c.parts.rest.now c.row_len-row.result i.utf8
     c.row_len-row.ensures c.split_at.ensures.front c.split_at.ensures.back)) in
     let len = rw c.unwrap-then-row-gt0.ensures at c.push_str-then-row-gt0.ensures.len in
     c.push_str-then-row-gt0-2.ensures.succeeds (omega (
@@ -43,8 +44,8 @@ parts-preserved-then-row-gt0 g c =
     let i = c.parts.invariant in
     let rest = c.parts.rest.now in
     let n = c.row_len-row.result in
-    let boundary = row_boundary rest n i.utf8 (omega arith) (omega (arith, c.row_len-row.ensures)) in
-    let next = left_row rest n i.utf8 (omega arith) c.row_len-row.ensures c.split_at.ensures.front
+    let boundary = row_boundary backslash rest n (omega arith) i.utf8 (omega (arith, c.row_len-row.ensures)) in
+    let next = left_row rest n i.utf8 c.row_len-row.ensures c.split_at.ensures.front
     c.split_at.ensures.back in
     let first = rw c.unwrap-then-row-gt0.ensures at c.push_str-then-row-gt0.ensures.bytes in
     let second = rw c.unwrap-then-row-gt0-2.ensures at c.push_str-then-row-gt0-2.ensures.bytes in
