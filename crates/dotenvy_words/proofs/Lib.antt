@@ -1,2 +1,3 @@
 pub mod FoundValues
 mod Refusals
+mod TextNames

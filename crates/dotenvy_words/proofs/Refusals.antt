@@ -8,8 +8,8 @@ use Rattle.clap.specs.Words.{App, IsAmong, Kinds, Text, fault_of}
 use Rattle.clap.specs.declared.error.kind.ErrorKind.{ErrorKind}
 use Rattle.clap.specs.declared.error.kind.ErrorKind.TheVariants as kind
 use Rattle.dotenvy_reports.specs.OneLine.{on_one_line}
-use Rattle.dotenvy_words.specs.Refused.{FirstRefused, IsFirstRefused, IsKindTold, IsMistakeOf, IsRefused, IsToldKind}
-use Rattle.dotenvy_words.specs.Refused.{StayRefused, is_mistake}
+use Rattle.dotenvy_words.specs.Refused.{FirstRefused, HasMistake, IsFirstRefused, IsKindTold, IsMistakeOf}
+use Rattle.dotenvy_words.specs.Refused.{IsRefused, StayRefused, is_mistake}
 
 -- words that are refused are so up to their end, also with a word more, as there is none
 pub stays_at_end : (line : App) (words : List Text) (count : ℕ) → length words ≤ count → fault_of line words ≢ [] →
@@ -62,28 +62,20 @@ pub asks_for_text : (found : ErrorKind) → (found ≡ kind.DisplayHelp) ⊎ (fo
 asks_for_text found (inl help) = ap is_mistake help
 asks_for_text found (inr version) = ap is_mistake version
 
--- of words of which what refuses the first ones is no mistake, the given kind is told
-pub told_of_all : (line : App) (front : List Text) (kind other : ErrorKind) → is_mistake other ≡ false →
-    IsAmong other (fault_of line front) → IsToldKind line front kind kind
-told_of_all line front kind other untold among = inr (refl, (other, untold, among))
-
--- the kind that is told of words is that of a mistake
-pub kind_told : (line : App) (front words : List Text) (found told : ErrorKind) → is_mistake found ≡ true →
-    IsAmong found (fault_of line words) → IsToldKind line front found told → IsKindTold line front words told
-kind_told line front words found told mistaken there (inl (is_told, among)) = (is_told, inl among)
-kind_told line front words found told mistaken there (inr (same, (other, untold, among))) =
-    rw same (mistaken, inr (other, untold, among, there))
+-- of words of which what refuses the first ones is no mistake, an unknown option is told
+pub unknown_told : (line : App) (front : List Text) (other : ErrorKind) → is_mistake other ≡ false →
+    IsAmong other (fault_of line front) → IsKindTold line front kind.UnknownArgument
+unknown_told line front other untold among = inr (refl, (other, untold, among))
 
 -- the same is told of the same words
-pub same_told : (line : App) (front others : List Text) (found told : ErrorKind) → others ≡ front →
-    IsToldKind line front found told → IsToldKind line others found told
-same_told line front others found told same h = rw same h
+pub same_told : (line : App) (front others : List Text) (told : ErrorKind) → others ≡ front →
+    IsKindTold line front told → IsKindTold line others told
+same_told line front others told same h = rw same h
 
 -- what is told of words is the first word that is refused, and the kind of mistake in the words up to it
-pub mistake_told : (line : App) (words : List Text) (place : ℕ) (word shown : Text) (found told : ErrorKind) →
-    IsFirstRefused line words place word → is_mistake found ≡ true → IsAmong found (fault_of line words) →
-    IsToldKind line (take (place + 1) words) found told → shown ≡ on_one_line (chars word) →
+pub mistake_told : (line : App) (words : List Text) (place : ℕ) (word shown : Text) (told : ErrorKind) →
+    HasMistake line words → IsFirstRefused line words place word →
+    IsKindTold line (take (place + 1) words) told → shown ≡ on_one_line (chars word) →
     IsMistakeOf line words told shown
-mistake_told line words place word shown found told (first, at) mistaken there is_told same =
-    let kind = kind_told line (take (place + 1) words) words found told mistaken there is_told in
-    ((found, mistaken, there), (word, first, rw at kind, same))
+mistake_told line words place word shown told mistaken (first, at) is_told same =
+    (mistaken, (word, first, rw at is_told, same))

@@ -1,4 +1,5 @@
 pub mod Rules
 pub mod Found
+pub mod Asked
 pub mod Refused
 pub mod Reading

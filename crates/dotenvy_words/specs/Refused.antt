@@ -6,6 +6,7 @@ use Rattle.clap.specs.Words.{App, IsAmong, Kinds, Text, fault_of}
 use Rattle.clap.specs.declared.error.kind.ErrorKind.{ErrorKind}
 use Rattle.clap.specs.declared.error.kind.ErrorKind.TheVariants as kind
 use Rattle.dotenvy_reports.specs.OneLine.{on_one_line}
+use Rattle.dotenvy_words.specs.Asked.{IsUnasked}
 
 -- an error of this kind is a mistake in the words
 abbrev pub is_mistake : ErrorKind → Bool
@@ -40,27 +41,17 @@ abbrev pub IsFirstRefused : App → List Text → ℕ → Text → Type 0
 IsFirstRefused line words place word =
     (first : FirstRefused line words word) × (first.place ≡ place)
 
--- this kind is told of words of which these are the first ones, and which this kind refuses: a kind
--- of mistake in these, or, where what refuses these is no mistake, the given one
-abbrev pub IsToldKind : App → List Text → ErrorKind → ErrorKind → Type 0
-IsToldKind line front kind told =
+-- this kind of mistake is told of words of which these are the first ones: it is in these, or, where
+-- they have a text and no mistake, it is an unknown option
+abbrev pub IsKindTold : App → List Text → ErrorKind → Type 0
+IsKindTold line front told =
     ((is_mistake told ≡ true) × IsAmong told (fault_of line front))
-    ⊎ ((told ≡ kind)
+    ⊎ ((told ≡ kind.UnknownArgument)
     × ((other : ErrorKind) × (is_mistake other ≡ false) × IsAmong other (fault_of line front)))
-
--- this kind of mistake is told of words, of which these are the first ones: it is in these, or,
--- where what refuses these is no mistake, in all
-abbrev pub IsKindTold : App → List Text → List Text → ErrorKind → Type 0
-IsKindTold line front words kind =
-    (is_mistake kind ≡ true)
-    × (IsAmong kind (fault_of line front)
-    ⊎ ((other : ErrorKind) × (is_mistake other ≡ false) × IsAmong other (fault_of line front)
-    × IsAmong kind (fault_of line words)))
 
 -- a mistake is in these words
 abbrev pub HasMistake : App → List Text → Type 0
-HasMistake line words =
-    (found : ErrorKind) × (is_mistake found ≡ true) × IsAmong found (fault_of line words)
+HasMistake line words = (found : ErrorKind) × IsUnasked line words found
 
 -- a mistake is in these words, this is the first word that is refused, as it is printed, and this
 -- kind of mistake is told of the words up to it
@@ -68,7 +59,7 @@ abbrev pub IsMistakeOf : App → List Text → ErrorKind → Text → Type 0
 IsMistakeOf line words kind shown =
     HasMistake line words
     × ((word : Text) × (first : FirstRefused line words word)
-    × IsKindTold line (take (first.place + 1) words) words kind
+    × IsKindTold line (take (first.place + 1) words) kind
     × (shown ≡ on_one_line (chars word)))
 
 -- what is said of a mistake, before the word that has it

@@ -1,9 +1,11 @@
 //! Reads the words of a command line, and finds the first word that is refused.
 
-ghost use Rattle.std.specs.Prelude.{◌<◌, ◌≡◌, ◌≢◌, [], IfOk, IsSomeAnd, length};
+ghost use Rattle.std.specs.Prelude.{◌<◌, ◌≡◌, ◌≢◌, [], IfOk, IsSomeAnd, length, string_bytes};
+ghost use Rattle.std.specs.List.{position_from};
 ghost use Rattle.clap.specs.Words.{FailsBy, fault_of, found_of, matches_of, rows_of};
 ghost use Rattle.dotenvy_words.specs.Found.{texts};
-ghost use Rattle.dotenvy_words.specs.Refused.{IsFirstRefused, IsRefused, IsToldKind, StayRefused};
+ghost use Rattle.dotenvy_words.specs.Asked.{before_text, names_text};
+ghost use Rattle.dotenvy_words.specs.Refused.{HasMistake, IsFirstRefused, IsKindTold, IsRefused, StayRefused};
 ghost use Rattle.dotenvy_words.specs.Reading.{IsReadingOf};
 
 use crate::command_line::CommandLine;
@@ -41,17 +43,66 @@ pub fn read<'a, L: CommandLine, A: Allocator>(
     match matches::<L, A>(global, words) {
         Ok(found) => Ok(Reading::Found(found)),
         Err(error) => match error.kind() {
-            ErrorKind::DisplayHelp => Ok(Reading::Help),
-            ErrorKind::DisplayVersion => Ok(Reading::Version),
             ErrorKind::OutOfMemory => Err(AllocError),
-            kind => match first_refused::<L, A>(global, words)? {
-                Some((place, word)) => {
-                    let kind = told_kind::<L, A>(global, &words[..place + 1], kind)?;
-                    Ok(Reading::Mistake(kind, one_line(alloc, word)?))
+            kind => {
+                if is_refused::<L, A>(global, before_text(kind, words))? {
+                    return mistake::<L, A>(global, alloc, words);
                 }
-                None => unreachable!(),
-            },
+                match kind {
+                    ErrorKind::DisplayHelp => Ok(Reading::Help),
+                    ErrorKind::DisplayVersion => Ok(Reading::Version),
+                    _ => unreachable!(),
+                }
+            }
         },
+    }
+}
+
+// Whether a word is a name of the option that asks for the text of this kind.
+fn names_text(kind: ErrorKind, word: &str) -> bool
+    ensures { result ≡ names_text kind word.now }
+{
+    match kind {
+        ErrorKind::DisplayHelp => word == "-h" || word == "--help",
+        ErrorKind::DisplayVersion => word == "-V" || word == "--version",
+        _ => false,
+    }
+}
+
+// The place of the first word that is a name of the option that asks for the text of this kind.
+fn name_place<A: Allocator>(kind: ErrorKind, words: &[String<A>]) -> Option<usize>
+    ensures { result ≡ position_from (λ word. names_text kind (string_bytes word)) 0 words.now }
+{
+    words
+        .iter()
+        .position(|word| names_text(kind, word.as_str()))
+}
+
+// The words before that place, or all of them.
+fn before_text<A: Allocator>(kind: ErrorKind, words: &[String<A>]) -> &[String<A>]
+    ensures { texts result.now ≡ before_text kind (texts words.now) }
+{
+    match name_place(kind, words) {
+        Some(place) => &words[..place],
+        None => words,
+    }
+}
+
+// The first word that is refused, of words with a mistake, and which kind of mistake is told of it.
+fn mistake<'a, L: CommandLine, A: Allocator>(
+    global: Global,
+    alloc: A,
+    words: &[String<A>],
+) -> Result<Reading<'a, A>, AllocError>
+    requires { HasMistake L.described (texts words.now) }
+    ensures { IfOk result (IsReadingOf L.described (texts words.now)) }
+{
+    match first_refused::<L, A>(global, words)? {
+        Some((place, word)) => {
+            let kind = told_kind::<L, A>(global, &words[..place + 1])?;
+            Ok(Reading::Mistake(kind, one_line(alloc, word)?))
+        }
+        None => unreachable!(),
     }
 }
 
@@ -67,21 +118,20 @@ fn matches<'a, L: CommandLine, A: Allocator>(
     L::command(global)?.try_get_matches_from(words)
 }
 
-// The kind of mistake that is told of words which this one refuses: that of their first words, unless these ask for
-// help or the version.
+// The kind of mistake that is told of words of which these are the first ones. What has a text and isn't its name is an
+// unknown option.
 fn told_kind<L: CommandLine, A: Allocator>(
     global: Global,
     front: &[String<A>],
-    kind: ErrorKind,
 ) -> Result<ErrorKind, AllocError>
     requires { fault_of L.described (texts front.now) ≢ [] }
-    ensures { IfOk result (IsToldKind L.described (texts front.now) kind) }
+    ensures { IfOk result (IsKindTold L.described (texts front.now)) }
 {
     match matches::<L, A>(global, front) {
         Ok(_) => unreachable!(),
         Err(error) => match error.kind() {
             ErrorKind::OutOfMemory => Err(AllocError),
-            ErrorKind::DisplayHelp | ErrorKind::DisplayVersion => Ok(kind),
+            ErrorKind::DisplayHelp | ErrorKind::DisplayVersion => Ok(ErrorKind::UnknownArgument),
             other => Ok(other),
         },
     }
