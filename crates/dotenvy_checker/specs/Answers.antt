@@ -5,7 +5,7 @@ use Rattle.std.specs.Prelude.{Result, Ok, Err, if◌then◌else◌}
 use Rattle.std.specs.Prelude.{codes, string_bytes}
 use Rattle.std.specs.Option.{option_map}
 use Rattle.std.specs.Str.{chars}
-use Rattle.clap.specs.Words.{IsAmong, Text, fault_of, matches_of}
+use Rattle.clap.specs.Words.{Text, fault_of, matches_of}
 use Rattle.clap.specs.declared.error.kind.ErrorKind.TheVariants as kind
 use Rattle.dotenvy_base.specs.Errors.{error_text}
 use Rattle.dotenvy_base.specs.Output.{Sends, most_writes}
@@ -20,6 +20,7 @@ use Rattle.dotenvy_checker.specs.declared.words.Request.{Request}
 use Rattle.dotenvy_checker.specs.declared.words.Request.TheVariants.{Check, Help, Version}
 use Rattle.dotenvy_checker.specs.declared.words.Words.{Words}
 use Rattle.dotenvy_words.specs.Found.{texts}
+use Rattle.dotenvy_words.specs.Asked.{AskFor}
 use Rattle.dotenvy_words.specs.Refused.{IsMistakeOf, mistake_text}
 use Rattle.dotenvy_checker.specs.Words.{AreTaken, Asked, asked_of, checker}
 use Rattle.dotenvy_checker.specs.Words.{mistake_of}
@@ -48,8 +49,8 @@ asked_by words = record {
 abbrev pub IsRequestOf : {A : Type 0} → List Text → Request A → Type 0
 IsRequestOf words (Check read) =
     AreTaken words × (asked_by read ≡ asked_of (matches_of checker words))
-IsRequestOf words Help = IsAmong kind.DisplayHelp (fault_of checker words)
-IsRequestOf words Version = IsAmong kind.DisplayVersion (fault_of checker words)
+IsRequestOf words Help = AskFor checker words kind.DisplayHelp
+IsRequestOf words Version = AskFor checker words kind.DisplayVersion
 
 -- this is wrong with the first value of these words with which something is, as it is printed
 abbrev pub IsValueMistakeOf : List Text → Mistake → Text → Type 0
@@ -73,8 +74,8 @@ AnswersWords words (Err failure) = IsFailureOf words failure
 -- these words are not taken, and ask neither for help nor for the version
 abbrev pub AreMistaken : List Text → Type 0
 AreMistaken words =
-    ¬ (AreTaken words) × ¬ (IsAmong kind.DisplayHelp (fault_of checker words))
-    × ¬ (IsAmong kind.DisplayVersion (fault_of checker words))
+    ¬ (AreTaken words) × ¬ (AskFor checker words kind.DisplayHelp)
+    × ¬ (AskFor checker words kind.DisplayVersion)
 
 -- these words ask for a check of which nothing is printed
 abbrev pub AskQuiet : List Text → Type 0

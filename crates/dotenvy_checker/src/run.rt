@@ -1,11 +1,11 @@
 //! What the program does once it has its words, over any reader, writer and runtime.
 
-ghost use Rattle.std.specs.Prelude.{◌≡◌, ◌<◌, ◌||◌, ◌&&◌, ◌∷◌, [], true, IfErr, IfOk, IsErrAnd, Ok, OnErr, OnOk};
-ghost use Rattle.clap.specs.Words.{fault_of};
+ghost use Rattle.std.specs.Prelude.{◌≡◌, ◌<◌, ◌||◌, ◌&&◌, true, IfErr, IfOk, IsErrAnd, Ok, OnErr, OnOk};
 ghost use Rattle.clap.specs.declared.error.kind.ErrorKind.TheVariants.{DisplayHelp, DisplayVersion};
 ghost use Rattle.dotenvy_base.specs.Errors.{IsFileFault};
 ghost use Rattle.dotenvy_base.specs.Source.{nothing_told};
 ghost use Rattle.dotenvy_items.specs.Iter.{fresh};
+ghost use Rattle.dotenvy_words.specs.Asked.{AskForOnly};
 ghost use Rattle.dotenvy_words.specs.Found.{texts};
 ghost use Rattle.dotenvy_checker.specs.Answers.{AreMistaken, AskQuiet, CountsStop, IsFailureOf};
 ghost use Rattle.dotenvy_checker.specs.Answers.{status_of, IsMemoryEnd, IsUsage, Prints};
@@ -67,9 +67,9 @@ pub fn run<A: Allocator + Clone, R: Files + Env + Alloc<A = A> + Clone + Drop, S
     ensures status { IfOk result (λ status. status < 3) }
 
     // These words print a text, and nothing is read.
-    ensures help { fault_of checker (texts words.now) ≡ DisplayHelp ∷ []
+    ensures help { AskForOnly checker (texts words.now) DisplayHelp
         → Prints W.told writer.old writer.new help_text result × (reader.new ≡ reader.old) }
-    ensures version { fault_of checker (texts words.now) ≡ DisplayVersion ∷ []
+    ensures version { AskForOnly checker (texts words.now) DisplayVersion
         → Prints W.told writer.old writer.new version_text result × (reader.new ≡ reader.old) }
 
     // Of a quiet check nothing is printed.

@@ -141,7 +141,7 @@ not_wrong command words (usage.Unexpected shown) takes (most, word, inr (inr ren
 
 -- no mistake is in words that `clap` takes
 mistakes_none : (words : List Text) → fault_of editor words ≡ [] → HasMistake editor words → ⊥
-mistakes_none words none (found, is, among) =
+mistakes_none words none (found, (unnamed, among)) =
     let never : IsAmong found [] = rw none at among in absurd never
 
 -- two values that are there and the same

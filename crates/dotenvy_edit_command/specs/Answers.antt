@@ -3,10 +3,11 @@ use Rattle.std.specs.Prelude.{ℕ, ◌≡◌, ◌≢◌, ◌⊎◌, ◌≤◌, t
 use Rattle.std.specs.Prelude.{Result, Ok, Err, codes, length, slice_get, string_bytes}
 use Rattle.std.specs.Str.{chars}
 use Rattle.std.specs.declared.string.String.{String}
-use Rattle.clap.specs.Words.{IsAmong, Row, Text, fault_of, matches_of}
+use Rattle.clap.specs.Words.{Row, Text, fault_of, matches_of}
 use Rattle.clap.specs.declared.error.kind.ErrorKind.TheVariants as kind
 use Rattle.dotenvy_reports.specs.OneLine.{on_one_line}
 use Rattle.dotenvy_words.specs.Found.{texts}
+use Rattle.dotenvy_words.specs.Asked.{AskFor}
 use Rattle.dotenvy_words.specs.Refused.{IsMistakeOf}
 use Rattle.dotenvy_edit_command.specs.declared.failure.Failure.{Failure}
 use Rattle.dotenvy_edit_command.specs.declared.failure.Failure.TheVariants as failure
@@ -132,8 +133,8 @@ IsUsageOf words other = (fault_of editor words ≡ []) × IsFoundUsage (matches_
 abbrev pub IsRequestOf : {A : Type 0} → List Text → Request A → Type 0
 IsRequestOf words (Act asked) =
     (fault_of editor words ≡ []) × AsksFor (matches_of editor words) asked
-IsRequestOf words Help = IsAmong kind.DisplayHelp (fault_of editor words)
-IsRequestOf words Version = IsAmong kind.DisplayVersion (fault_of editor words)
+IsRequestOf words Help = AskFor editor words kind.DisplayHelp
+IsRequestOf words Version = AskFor editor words kind.DisplayVersion
 
 -- the result is the request of these words, or why they are refused, unless an allocation failed
 abbrev pub AnswersWords : {A : Type 0} → List Text → Result (Request A) (Failure A) → Type 0
@@ -158,5 +159,5 @@ AreTaken words =
 -- these words are not taken, and ask neither for help nor for the version
 abbrev pub AreMistaken : List Text → Type 0
 AreMistaken words =
-    ¬ (AreTaken words) × ¬ (IsAmong kind.DisplayHelp (fault_of editor words))
-    × ¬ (IsAmong kind.DisplayVersion (fault_of editor words))
+    ¬ (AreTaken words) × ¬ (AskFor editor words kind.DisplayHelp)
+    × ¬ (AskFor editor words kind.DisplayVersion)

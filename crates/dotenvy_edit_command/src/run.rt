@@ -1,8 +1,8 @@
 //! What the program does once it has its words, over any reader, writers and runtime.
 
-ghost use Rattle.std.specs.Prelude.{◌≡◌, ◌<◌, ◌∷◌, [], IfErr, IfOk, IsErrAnd, OnErr, false};
-ghost use Rattle.clap.specs.Words.{fault_of};
+ghost use Rattle.std.specs.Prelude.{◌≡◌, ◌<◌, IfErr, IfOk, IsErrAnd, OnErr, false};
 ghost use Rattle.clap.specs.declared.error.kind.ErrorKind.TheVariants.{DisplayHelp, DisplayVersion};
+ghost use Rattle.dotenvy_words.specs.Asked.{AskForOnly};
 ghost use Rattle.dotenvy_words.specs.Found.{texts};
 ghost use Rattle.dotenvy_edit_command.specs.Answers.{AreMistaken, AreTaken, IsUsageEnd, IsUsageOf};
 ghost use Rattle.dotenvy_edit_command.specs.Ends.{EndsBy, IsWrongCall, Prints, RefusesCall};
@@ -66,11 +66,11 @@ pub fn run<A: Allocator + Clone, F: Replaceable, S: Source, W: Sink, E: Sink>(
     ensures status { IfOk result (λ status. status < 3) }
 
     // These words print a text, and nothing is found or read.
-    ensures help { fault_of editor (texts words.now) ≡ DisplayHelp ∷ []
+    ensures help { AskForOnly editor (texts words.now) DisplayHelp
         → EndsBy (Prints W.told streams.old.writer streams.new.writer help_text)
         E.told streams.old.errors streams.new.errors result
         × (file.new ≡ file.old) × (streams.new.reader ≡ streams.old.reader) }
-    ensures version { fault_of editor (texts words.now) ≡ DisplayVersion ∷ []
+    ensures version { AskForOnly editor (texts words.now) DisplayVersion
         → EndsBy (Prints W.told streams.old.writer streams.new.writer version_text)
         E.told streams.old.errors streams.new.errors result
         × (file.new ≡ file.old) × (streams.new.reader ≡ streams.old.reader) }
@@ -114,10 +114,10 @@ fn done<A: Allocator + Clone, F: Replaceable, S: Source, W: Sink, E: Sink>(
     ensures mistaken { AreMistaken (texts words.now)
         → IsErrAnd result (IsUsageEnd (IsUsageOf (texts words.now)))
         × (file.new ≡ file.old) × (streams.new ≡ streams.old) }
-    ensures help { fault_of editor (texts words.now) ≡ DisplayHelp ∷ []
+    ensures help { AskForOnly editor (texts words.now) DisplayHelp
         → Prints W.told streams.old.writer streams.new.writer help_text result
         × (file.new ≡ file.old) × (streams.new.reader ≡ streams.old.reader) }
-    ensures version { fault_of editor (texts words.now) ≡ DisplayVersion ∷ []
+    ensures version { AskForOnly editor (texts words.now) DisplayVersion
         → Prints W.told streams.old.writer streams.new.writer version_text result
         × (file.new ≡ file.old) × (streams.new.reader ≡ streams.old.reader) }
     ensures taken { AreTaken (texts words.now)

@@ -2,7 +2,7 @@
 use Rattle.std.specs.Prelude.{◌≡◌, Bool, List, [], map, Some, None}
 use Rattle.std.specs.Prelude.{Result, Ok, Err, codes, string_bytes}
 use Rattle.std.specs.Str.{chars}
-use Rattle.clap.specs.Words.{IsAmong, Row, Text, fault_of, first_of, matches_of}
+use Rattle.clap.specs.Words.{Row, Text, fault_of, first_of, matches_of}
 use Rattle.clap.specs.declared.error.kind.ErrorKind.TheVariants as kind
 use Rattle.dotenvy_reports.specs.OneLine.{on_one_line}
 use Rattle.dotenvy_export_command.specs.declared.failure.Failure.{Failure}
@@ -15,6 +15,7 @@ use Rattle.dotenvy_export_command.specs.declared.words.Request.TheVariants.{Expo
 use Rattle.dotenvy_export_command.specs.declared.words.Words.{Words}
 use Rattle.dotenvy_export_command.specs.Files.{AreFilesOf, named_of}
 use Rattle.dotenvy_export_command.specs.Names.{target_named}
+use Rattle.dotenvy_words.specs.Asked.{AskFor}
 use Rattle.dotenvy_words.specs.Refused.{IsMistakeOf}
 use Rattle.dotenvy_export_command.specs.Words.{AreTaken, Asked, asked_of, exporter}
 
@@ -38,8 +39,8 @@ abbrev pub IsRequestOf : {A : Type 0} → List Text → Request A → Type 0
 IsRequestOf words (Export read) =
     AreTaken words × (asked_by read ≡ asked_of (matches_of exporter words))
     × AreFilesOf (matches_of exporter words) (map named_of read.files.items)
-IsRequestOf words Help = IsAmong kind.DisplayHelp (fault_of exporter words)
-IsRequestOf words Version = IsAmong kind.DisplayVersion (fault_of exporter words)
+IsRequestOf words Help = AskFor exporter words kind.DisplayHelp
+IsRequestOf words Version = AskFor exporter words kind.DisplayVersion
 
 -- no target is named by what was found; or one that there is not is, which is printed so
 abbrev pub IsTargetUsage : {A : Type 0} → List Row → Usage A → Type 0
@@ -86,5 +87,5 @@ AnswersWords words (Err failure) = IsFailureOf words failure
 -- these words are not taken, and ask neither for help nor for the version
 abbrev pub AreMistaken : List Text → Type 0
 AreMistaken words =
-    ¬ (AreTaken words) × ¬ (IsAmong kind.DisplayHelp (fault_of exporter words))
-    × ¬ (IsAmong kind.DisplayVersion (fault_of exporter words))
+    ¬ (AreTaken words) × ¬ (AskFor exporter words kind.DisplayHelp)
+    × ¬ (AskFor exporter words kind.DisplayVersion)

@@ -1,8 +1,8 @@
 //! What the program does once it has its words, over any reader, writers and runtime.
 
-ghost use Rattle.std.specs.Prelude.{◌≡◌, ◌<◌, ◌∷◌, [], IfErr, IfOk, IsErrAnd, OnErr};
-ghost use Rattle.clap.specs.Words.{fault_of};
+ghost use Rattle.std.specs.Prelude.{◌≡◌, ◌<◌, IfErr, IfOk, IsErrAnd, OnErr};
 ghost use Rattle.clap.specs.declared.error.kind.ErrorKind.TheVariants.{DisplayHelp, DisplayVersion};
+ghost use Rattle.dotenvy_words.specs.Asked.{AskForOnly};
 ghost use Rattle.dotenvy_words.specs.Found.{texts};
 ghost use Rattle.dotenvy_export_command.specs.Answers.{AreMistaken, IsFailureOf};
 ghost use Rattle.dotenvy_export_command.specs.Ends.{EndsBy, EndsExport, IsWrongCall, Prints, RefusesCall};
@@ -56,11 +56,11 @@ pub fn run<A: Allocator + Clone, R: Files + Env + Alloc<A = A>, S: Source, W: Si
     ensures status { IfOk result (λ status. status < 2) }
 
     // These words print a text, and nothing is read.
-    ensures help { fault_of exporter (texts words.now) ≡ DisplayHelp ∷ []
+    ensures help { AskForOnly exporter (texts words.now) DisplayHelp
         → EndsBy (Prints W.told streams.old.writer streams.new.writer help_text)
         E.told streams.old.errors streams.new.errors result
         × (streams.new.reader ≡ streams.old.reader) }
-    ensures version { fault_of exporter (texts words.now) ≡ DisplayVersion ∷ []
+    ensures version { AskForOnly exporter (texts words.now) DisplayVersion
         → EndsBy (Prints W.told streams.old.writer streams.new.writer version_text)
         E.told streams.old.errors streams.new.errors result
         × (streams.new.reader ≡ streams.old.reader) }
@@ -97,10 +97,10 @@ fn done<A: Allocator + Clone, R: Files + Env + Alloc<A = A>, S: Source, W: Sink,
         (λ failure. IsWrongCall failure → streams.new ≡ streams.old) }
     ensures mistaken { AreMistaken (texts words.now)
         → IsErrAnd result (IsFailureOf (texts words.now)) }
-    ensures help { fault_of exporter (texts words.now) ≡ DisplayHelp ∷ []
+    ensures help { AskForOnly exporter (texts words.now) DisplayHelp
         → Prints W.told streams.old.writer streams.new.writer help_text result
         × (streams.new.reader ≡ streams.old.reader) }
-    ensures version { fault_of exporter (texts words.now) ≡ DisplayVersion ∷ []
+    ensures version { AskForOnly exporter (texts words.now) DisplayVersion
         → Prints W.told streams.old.writer streams.new.writer version_text result
         × (streams.new.reader ≡ streams.old.reader) }
     ensures exports { AreTaken (texts words.now)
