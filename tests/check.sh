@@ -135,6 +135,10 @@ check_words() {
     check_refused 'an unknown option after a file: nothing is checked' "unknown option '--list'" bad.env --list
     check_refused 'a part of an option' "unknown option '--stric'" --stric
     check_refused 'an unknown letter beside a known one' "unknown option '-qx'" -qx
+    local word
+    for word in -hello -Vx -hV -qh -hq -qVq -h=x; do
+        check_refused "letters with that of help or the version: $word" "unknown option '$word'" bad.env "$word" --help
+    done
     check_refused 'a value of an option that takes none' "unexpected value in '--next=1'" --next=1 -x
     check_refused 'an unknown option before --help' "unknown option '-x'" -x --help
     check_values

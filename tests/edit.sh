@@ -356,10 +356,17 @@ check_refused 'a word more than rename takes' "unexpected word '3'" rename f.env
 check_refused 'an unknown option' "unknown option '--nex'" set --nex f.env A 2
 check_refused 'an unknown short option' "unknown option '-x'" set f.env A 2 -x
 check_refused 'a value of an option' "unexpected value in '--next=yes'" set --next=yes f.env A 2
+for word in -hello -Vx -hV -hh -qh -Vq -h=x -qx -5; do
+    check_refused "a value that is no option: $word" "unknown option '$word'" set f.env A "$word"
+done
+check_refused 'letters before --help' "unknown option '-hello'" set f.env A -hello --help
+check_refused 'the version with a value' "unexpected value in '--version=x'" set f.env A --version=x
 file "A=1$nl"
-call set f.env A -hello
-check 'letters after one -: the first one asks for help' grep -q '^Usage: dotenvy_edit set ' "$room/output"
+call set f.env A -h -hello
+check 'help by its letter: no word after it is read' grep -q '^Usage: dotenvy_edit set ' "$room/output"
 check 'and nothing is set' has f.env "A=1$nl"
+call set -- f.env A -h
+check_new 'a value that is a name of an option, after --' "A=-h$nl"
 for value in - -hello -q --next; do
     call_with "$value" set --exact f.env A
     check_new "any value comes from standard input: $value" "A=$value$nl"

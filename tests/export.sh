@@ -210,7 +210,7 @@ check_optional() {
 }
 
 check_words() {
-    local option
+    local option word
     check_refused 'no word' 'there is no TARGET'
     check_refused 'no target' 'there is no TARGET' --next --optional a.env
     check_refused 'an unknown target' "unknown target 'bash'" bash a.env
@@ -221,6 +221,10 @@ check_words() {
     check_refused 'an unknown option: no target is looked at' "unknown option '-x'" none -x
     check_refused 'an unknown option after a file' "unknown option '--list'" sh a.env --list
     check_refused 'a part of an option' "unknown option '--overrid'" sh --overrid
+    for word in -hello -Vx -hV -h=x; do
+        check_refused "letters that begin with that of help or the version: $word" "unknown option '$word'" \
+            sh a.env "$word" -h
+    done
     check_refused 'a value of an option that takes none' "unexpected value in '--next=1'" sh --next=1
     check_refused 'an option that lacks its value' "no value after '--optional'" sh a.env --optional
     check_refused 'an option in place of a value' "no value after '--optional'" sh --optional --next

@@ -9,6 +9,7 @@ use Rattle.dotenvy_findings.specs.declared.kind.Kind.TheVariants as kind
 use Rattle.dotenvy_checker.specs.declared.mistake.Mistake.{Mistake}
 use Rattle.dotenvy_checker.specs.declared.mistake.Mistake.TheVariants as mistake
 use Rattle.dotenvy_reports.specs.declared.format.Format.TheVariants as format
+use Rattle.dotenvy_words.specs.Asked.{AskForOnly, before_text}
 use Rattle.dotenvy_checker.specs.Words.{Asked, asked_of, checker, mistake_of}
 
 -- words are taken, and ask for this
@@ -94,9 +95,10 @@ WordsFail =
     × HaveFaults (codes "-qx" ∷ []) (UnknownArgument ∷ [])
     × HaveFaults (codes "--strict=yes" ∷ []) (TooManyValues ∷ [])
     × HaveFaults (codes "-x" ∷ codes "--help" ∷ []) (UnknownArgument ∷ [])
-    × HaveFaults (codes "--help" ∷ codes "-x" ∷ []) (DisplayHelp ∷ [])
-    × HaveFaults (codes "-qh" ∷ []) (DisplayHelp ∷ [])
-    × HaveFaults (codes "-V" ∷ []) (DisplayVersion ∷ [])
+    × AskForOnly checker (codes "--help" ∷ codes "-x" ∷ []) DisplayHelp
+    × AskForOnly checker (codes "a" ∷ codes "-V" ∷ []) DisplayVersion
+    -- letters with the one of help among them are no name of it
+    × HaveFaults (before_text DisplayHelp (codes "-qh" ∷ [])) (DisplayHelp ∷ [])
     × HaveFaults (codes "--" ∷ codes "--version" ∷ []) []
     -- an option lacks its value, since a value that begins with `-` stands after `=`
     × HaveFaults (codes "--known" ∷ []) (InvalidValue ∷ [])

@@ -8,6 +8,7 @@ use Rattle.dotenvy_format.specs.declared.dialect.Dialect.TheVariants.{V15, Next}
 use Rattle.env_layers.specs.declared.layers.Mode.TheVariants.{Keep, Override}
 use Rattle.dotenvy_exporter.specs.declared.target.Target.TheVariants.{Docker, Json, Sh}
 use Rattle.dotenvy_export_command.specs.Files.{merged, placed}
+use Rattle.dotenvy_words.specs.Asked.{AskForOnly, before_text}
 use Rattle.dotenvy_words.specs.Found.{values_of}
 use Rattle.dotenvy_export_command.specs.Words.{Asked, asked_of, exporter}
 
@@ -60,9 +61,10 @@ WordsFail =
     × HaveFaults (codes "sh" ∷ codes "-x" ∷ []) (UnknownArgument ∷ [])
     × HaveFaults (codes "--next=yes" ∷ []) (TooManyValues ∷ [])
     × HaveFaults (codes "-x" ∷ codes "--help" ∷ []) (UnknownArgument ∷ [])
-    × HaveFaults (codes "--help" ∷ codes "-x" ∷ []) (DisplayHelp ∷ [])
-    × HaveFaults (codes "sh" ∷ codes "-hV" ∷ []) (DisplayHelp ∷ [])
-    × HaveFaults (codes "-V" ∷ []) (DisplayVersion ∷ [])
+    × AskForOnly exporter (codes "--help" ∷ codes "-x" ∷ []) DisplayHelp
+    × AskForOnly exporter (codes "sh" ∷ codes "-V" ∷ []) DisplayVersion
+    -- letters that begin with the one of help are no name of it
+    × HaveFaults (before_text DisplayHelp (codes "sh" ∷ codes "-hV" ∷ [])) (DisplayHelp ∷ [])
     × HaveFaults (codes "--" ∷ codes "--version" ∷ []) []
     -- an option lacks its value, since a value that begins with `-` stands after `=`
     × HaveFaults (codes "sh" ∷ codes "--optional" ∷ []) (InvalidValue ∷ [])

@@ -15,7 +15,7 @@ values = (refl, refl, refl, refl)
 
 faults : WordsFail
 unfolding clap_on_literals checker
-faults = (refl, refl, refl, refl, refl, refl, refl, refl, refl, refl, refl, refl, refl)
+faults = (refl, refl, refl, refl, refl, refl, (refl, refl), (refl, refl), refl, refl, refl, refl, refl)
 
 mistakes : ValuesFail
 unfolding clap_on_literals checker

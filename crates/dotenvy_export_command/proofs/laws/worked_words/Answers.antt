@@ -11,7 +11,7 @@ asks = ((refl, refl, refl), (refl, refl, refl), (refl, refl, refl), (refl, refl,
 
 faults : WordsFail
 unfolding clap_on_literals exporter
-faults = (refl, refl, refl, refl, refl, refl, refl, refl, refl, refl, refl, refl)
+faults = (refl, refl, refl, refl, refl, refl, (refl, refl), (refl, refl), refl, refl, refl, refl)
 
 files : FilesMerge
 files = (refl, refl)
