@@ -1,4 +1,5 @@
--- The words of the library's contracts. A crate that cites them depends on `dotenvy` alone.
+-- The definitions that the library's contracts use, such as `load_result`. A crate that cites them depends on `dotenvy`
+-- alone.
 pub mod FirstUse
 pub mod Laws
 pub use Rattle.dotenvy_format.specs.Characters

@@ -22,6 +22,9 @@ use std::path::{Path, PathBuf};
 ///
 /// `Io` tells why the file could not be opened or read. After any error what stands before it in the file is set.
 ///
+/// Whatever the file holds and whatever is returned, only names that are keys change, and the `loaded` flag stays. The
+/// same goes for each call here that loads a file.
+///
 /// ```
 /// from_path(&rt, Path::new("/etc/service.env"), &mut environment)?;
 /// ```
@@ -52,6 +55,8 @@ pub fn from_path_override<A: Allocator + Clone, R: Files + Alloc<A = A>>(
 
 /// A fresh iterator over the file at a path; nothing is read yet, and nothing is set. `Io` tells why the file could not
 /// be opened.
+///
+/// The error is `Memory` or `Io`, and the kind of an `Io` is never `OutOfMemory`.
 ///
 /// ```
 /// let mut file = from_path_iter(&rt, Path::new("/etc/service.env"))?;

@@ -25,6 +25,8 @@ use std::{env, fs, io};
 /// Returns the path that was found, which also names the file in messages; nothing is opened (docs/GRAMMAR.md, "Finding
 /// the file"). The errors are those of [`from_filename`](crate::from_filename) that come before the file is opened.
 ///
+/// The error is `Memory` or `Io`, and the kind of an `Io` is never `OutOfMemory`.
+///
 /// ```
 /// let path = find_filename(&rt, Path::new(".env"))?; // for example `/srv/app/.env`
 /// ```
@@ -59,6 +61,8 @@ pub fn find_filename<A: Allocator + Clone, R: Files + Env + Alloc<A = A>>(
 ///
 /// Returns the path that was found, and a fresh iterator over the file, in this dialect (docs/GRAMMAR.md, "Finding the
 /// file"). Nothing is read yet, and nothing is set. The errors are those of [`from_filename`](crate::from_filename).
+///
+/// The error is `Memory` or `Io`, and the kind of an `Io` is never `OutOfMemory`.
 ///
 /// ```
 /// let (path, mut file) = open_filename(&rt, Path::new(".env"), Dialect::V15)?;

@@ -20,6 +20,10 @@ use std::path::PathBuf;
 /// A fault of that load is ignored: what is before it in the file is set. The error is `EnvVar` if the name has no
 /// value, and otherwise `Memory`. If an allocation of the load failed, the flag stays, and the next use loads again.
 ///
+/// If the flag is set by then and the name has no value, the error is `EnvVar` and never `Memory`. No clause tells an
+/// allocation of the load, after which the flag stays, from one of the copy, which leaves it set; of `mark_after`,
+/// which takes the result of the load, it is proved.
+///
 /// ```
 /// let mut environment = Environment::from_process(&rt)?;
 /// let port = var(&rt, &mut environment, "PORT")?;

@@ -23,8 +23,9 @@ ahead_code =
     (coded× (coded_list coded_ℕ) (coded_option kind.the_row.coded)) (λ a. (a.bytes, a.fault))
     (λ p. record { bytes = p.0; fault = p.1 }) (λ _. refl)
 
--- what a source specifies of itself: what is still to be read; the calls that were made on it so
--- far; and through which references it is read, the outermost first, by their ghost names
+-- what a source specifies of itself: what is still to be read; the calls that were made on it so far; and through which
+-- references it is read, the outermost first, by their ghost names; these names are the identity of the reader, so that
+-- a contract can say that it is the same one, and a source that is no reference has none
 pub record Told : Type 0 where
   pub ahead : Option Ahead
   pub calls : Option (List Call)

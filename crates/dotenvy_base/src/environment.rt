@@ -112,6 +112,8 @@ impl<A: Allocator> Environment<A> {
     /// An entry of the process is skipped if it is not UTF-8, has no `=` or has no valid name; of several entries with
     /// one name the first counts. The environment of the process is only read. The error is `Memory`.
     ///
+    /// No clause says that the names are those of the process: tests do.
+    ///
     /// ```
     /// let environment = Environment::from_process(&rt)?;
     /// ```

@@ -36,8 +36,8 @@ pub enum Error<A: Allocator = Global> {
     /// from 0.
     ///
     /// If the line is no `KEY=value`, the text is the whole line, and the place counts bytes. If only the value is
-    /// wrong, the text is the value without its key, and the place counts characters; if the value lacks its end, the
-    /// place is its length in bytes, less one (docs/GRAMMAR.md, "Faults and their places").
+    /// wrong, the text is the value without its key, and the place counts characters. If a quote or a brace is never
+    /// closed, the place says nothing: look for where it opens (docs/GRAMMAR.md, "Faults and their places").
     LineParse(String<A>, usize),
     /// A reader, a writer, a file or a directory failed, and this is its error.
     ///

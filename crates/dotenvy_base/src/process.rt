@@ -29,7 +29,8 @@ pub fn text_entries<A: Allocator + Clone, R: Env + Alloc<A = A>>(
     Ok(entries)
 }
 
-// The bytes of the entry with this index, or `None` after the last one.
+// The bytes of the entry with this index, or `None` after the last one. `std::env::vars` returns an error if one entry
+// isn't text, which would hide all others.
 fn entry_at<A: Allocator, R: Env + Alloc<A = A>>(
     rt: &R,
     index: usize,

@@ -1,4 +1,5 @@
-//! The search for a file, in a directory and in those above it.
+//! The search for a file, in a directory and in those above it. What is at a path is asked of a function, once for each
+//! candidate and in order.
 
 ghost use Rattle.std.specs.Prelude.{◌≡◌, IfOk};
 ghost use Rattle.std.specs.Option.{option_map};
@@ -34,6 +35,10 @@ pub enum Look {
 /// is, once for each directory.
 ///
 /// The error is the `Io` that ended the search, an `Io` of kind `NotFound` if no directory has the file, or `Memory`.
+///
+/// After `Memory`, the candidates that were asked are the first of some search. `look` has to be a function that can
+/// always be called. It is borrowed, so that the contract can follow it from state to state: so it is proved that no
+/// place is looked at twice, out of order or after the end.
 ///
 /// ```
 /// let path = find(alloc, Path::new("/srv/app"), Path::new(".env"), &mut |path| seen_at(path))?;

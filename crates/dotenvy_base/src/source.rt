@@ -16,6 +16,14 @@ use std::io::{ErrorKind, Read, Write};
 /// their results, and which reference it is, if it is one. Then contracts say what is read from it. A source that
 /// specifies nothing can still be read.
 ///
+/// If its bytes are specified, a read gives the next of them. It gives none into a buffer that isn't empty only at the
+/// end, and fails only after the last of them, with the kind of error that is specified. What comes after that isn't
+/// specified. A source may stop specifying its calls. An interrupted read is made again, so one that specifies an
+/// interruption as its fault counts as specifying nothing.
+///
+/// For example, `Bytes` over `A=1` specifies that `A=1` is still to come, no fault, and no calls. After a read of two
+/// bytes, it specifies that `1` is.
+///
 /// ```
 /// let mut source = Bytes::new(b"HOST=db.local\n");
 /// let read = source.read_some(&mut buffer)?;
@@ -116,6 +124,9 @@ impl<'a> Source for Bytes<'a> {
 
 /// A source over any reader of std, whose bytes are not specified, and a sink over any writer of std, which holds what
 /// that writer holds.
+///
+/// A read is one read of the reader below, a write one write and no flush, and their errors come as they are. Tests say
+/// so, and no contract.
 ///
 /// ```
 /// let source = Plain::new(File::open(&rt, ".env")?);

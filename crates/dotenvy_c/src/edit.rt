@@ -130,12 +130,15 @@ fn answer_set(
 
 /// Sets a key of a file to a value, and writes the new file to `out`, and the names of the warnings after it. The first
 /// line that assigns the key has the value, and later ones are gone; where none does, one is appended. Every other byte
-/// stays (docs/CONTRACTS.md, "The library for C").
+/// stays.
 ///
 /// Where `warnings` is too short for all warnings, or `out` for the file and the names, nothing is written, and the
 /// answer tells how long both have to be.
 ///
 /// What came of it is written to `answer`, and its status is returned, too.
+///
+/// The specification is that of `dotenvy_editor::edit`. The status is 7 for a key that is not UTF-8, as for one that is
+/// no key; or that of the reason of a refusal. Then `fits` is false, and neither buffer changed.
 #[unsafe(no_mangle)]
 pub extern "C" fn dotenvy_set(
     alloc: Global,
@@ -204,11 +207,14 @@ fn answer_unset(
 }
 
 /// Unsets a key of a file, and writes the new file to `out`, and the names of the warnings after it. The lines that
-/// assign the key are gone, with their comments. Every other byte stays (docs/CONTRACTS.md, "The library for C").
+/// assign the key are gone, with their comments. Every other byte stays.
 ///
 /// Where a buffer is too short, it is as in `dotenvy_set`.
 ///
 /// What came of it is written to `answer`, and its status is returned, too.
+///
+/// The specification is that of `dotenvy_editor::edit`. The status is 7 for a key that is not UTF-8, as for one that is
+/// no key; or that of the reason of a refusal. Then `fits` is false, and neither buffer changed.
 #[unsafe(no_mangle)]
 pub extern "C" fn dotenvy_unset(
     alloc: Global,

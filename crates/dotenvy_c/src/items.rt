@@ -189,6 +189,9 @@ fn answer_items(
 ///
 /// The counts are written to `counts`, and their status is returned, too.
 ///
+/// With `DROP_MARK` the bytes are those without an opening byte order mark. None of the items is refused memory. An
+/// item that is on no line has no bytes, at 0.
+///
 /// ```
 /// // of `A=1\nB=$A\n` these are A with 1, and B with 1, or with `AS_WRITTEN` with `$A`; B is on the 5 bytes from 4 on
 /// ```

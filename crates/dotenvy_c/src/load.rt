@@ -113,6 +113,9 @@ fn answer_load(alloc: Global, file: &[u8], block: &[u8], options: u32, out: &mut
 /// Where `out` is too short for both, nothing is written, and the answer tells how long both are.
 ///
 /// What came of it is written to `answer`, and its status is returned, too.
+///
+/// Of fewer than 2^32 bytes it is the load of all declarations up to the first fault. If memory is refused, or an
+/// option is unknown, `fits` is false, the numbers are 0, and nothing is written. Bytes after what is written stay.
 #[unsafe(no_mangle)]
 pub extern "C" fn dotenvy_load(
     alloc: Global,

@@ -25,6 +25,8 @@ fn whole_of(alloc: Global, file: &[u8], options: u32) -> Result<usize, AllocErro
 ///
 /// The status is returned. Where it isn't 0, `whole` is 0.
 ///
+/// With `DROP_MARK` it is so of the bytes without an opening byte order mark, which is counted.
+///
 /// ```
 /// // of the 9 bytes of `A=1\nB='x\n` 4 are whole: the quote is still open
 /// ```

@@ -275,7 +275,7 @@ GuessesFrom dialect number None text guesses = guesses ≡ []
 GuessesFrom dialect number (Some from) text guesses =
     AreGuesses dialect from false number (cut (encode_utf8_all text)) guesses
 
--- a line, and the guesses behind it
+-- a line, and the guesses after it
 pub record Row : Type 0 where
   pub line : FileLine
   pub guesses : List FileLine

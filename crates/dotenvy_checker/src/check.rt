@@ -45,6 +45,12 @@ pub struct Checked<A: Allocator> {
 /// With `how.text` a line follows in the format text, behind the fault of a line that is text: four blanks, and what a
 /// load says of the line, which holds its text or its value.
 ///
+/// Over a reader whose bytes are specified: after `Ok` the end was reached, and the report of all findings that are not
+/// allowed was written, in at most 2^32 writes, and nothing else. After `Stop::Read` it is the report of the findings
+/// that the bytes before the fault decide; after `Stop::Write` a first part of the report; after `Stop::Memory` nothing
+/// was written. An error is never allowed. A comment that allows kinds is a line without a declaration and without a
+/// fault.
+///
 /// ```
 /// let file = Iter::new(alloc, Watched::new(alloc, Bytes::new(b"A=1\nB=two words\nC=$X\n"))?)?;
 /// let checked = check(file, "a.env", &environment, &mut Reporting::TEXT, &mut writer)?;

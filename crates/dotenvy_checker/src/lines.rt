@@ -1,4 +1,5 @@
-//! Reads the lines of a file, and keeps what is found on each.
+//! Reads the lines of a file, and keeps what is found on each. After a fault that is a quote, physical lines are read
+//! one by one, as guesses.
 
 ghost use Rattle.std.specs.Prelude.{◌≡◌, ◌≢◌, ◌⊎◌, ◌∷◌, ◌<◌, ◌+◌, [], ℕ, Err, None, Ok, false, true, IfErr, IfOk, OnOk, encode_utf8_all, length, map, string_bytes};
 ghost use Rattle.std.specs.Str.{chars};

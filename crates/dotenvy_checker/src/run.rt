@@ -60,6 +60,7 @@ pub fn run<A: Allocator + Clone, R: Files + Env + Alloc<A = A> + Clone + Drop, S
     // A mistake in the words refuses the run, before anything is read or written.
     ensures mistaken { AreMistaken (texts words.now)
         → IsErrAnd result (IsFailureOf (texts words.now)) }
+    // Whenever it returns `Usage`, nothing was read of standard input, and nothing was written.
     ensures early { IfErr result
         (λ failure. IsUsage failure → (reader.new ≡ reader.old) × (writer.new ≡ writer.old)) }
     ensures taken { AreTaken (texts words.now) →
@@ -316,6 +317,8 @@ impl<'a, A: Allocator + Clone, W: Sink> CheckedFiles<'a, A, W> {
     }
 
     // Counts what was found in a file, and keeps the names that it declares. Why it could not be read is written.
+    //
+    // After `Stop::Read` and `Stop::Memory` a file could not be read; after `Stop::Write` it returns that error.
     fn count(&mut self, name: &str, outcome: Result<Checked<A>, Stop<A>>) -> Result<(), Failure<A>>
         ensures ok { OnOk outcome (IfErr result IsMemoryEnd) }
         ensures found { IfOk outcome

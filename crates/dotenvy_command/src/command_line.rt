@@ -1,4 +1,4 @@
-//! Reads the words of the command line (docs/COMMAND.md, "Words").
+//! Reads the words of the command line (docs/COMMAND.md, "Options and the command").
 
 ghost use Rattle.std.specs.Prelude.{◌≡◌, OnOk};
 ghost use Rattle.dotenvy_command.specs.Answers.{AnswersWords, line_of, texts};
@@ -22,7 +22,7 @@ pub struct CommandLine<A: Allocator = Global> {
     pub command: Vec<String<A>, A>,
 }
 
-/// Reads the words after the program's name (docs/COMMAND.md, "Words").
+/// Reads the words after the program's name (docs/COMMAND.md, "Options and the command").
 ///
 /// An error is one of the words, or `Memory`. `UnknownOption` has the first word that begins with `-` and is no option
 /// of the program.

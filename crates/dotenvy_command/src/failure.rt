@@ -3,7 +3,7 @@
 use std::alloc::{AllocError, AllocFailed, Allocator, Global};
 use std::{fmt, io};
 
-/// Why the words of the command line are refused (docs/COMMAND.md, "Words").
+/// Why the words of the command line are refused (docs/COMMAND.md, "Options and the command").
 #[derive(Drop)]
 #[derive_where(Debug)]
 pub enum Usage<A: Allocator = Global> {

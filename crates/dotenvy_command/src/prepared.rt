@@ -12,6 +12,8 @@ use std::io;
 use std::process::{Command, ExitStatus, Processes};
 
 /// A command, ready to be started once, as it was made. It borrows the environment whose names it sets.
+///
+/// The name that the command is told is its own, which no contract says.
 #[derive(Drop)]
 pub struct Prepared<'a, A: Allocator = Global> {
     command: Command<A>,

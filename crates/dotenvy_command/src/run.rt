@@ -32,6 +32,7 @@ pub fn run<A: Allocator + Clone, R: Loader<A> + Starter + Alloc<A = A>, S: Sourc
     // If the words are refused, so is the run, before anything is read or written.
     ensures usage { (usage : Refusal) → HasUsage (texts words.now) (Err usage)
         → IsErrAnd result (EndsByUsage usage) }
+    // Whenever the failure is a `Usage`, nothing was read and nothing was written.
     ensures early { IfErr result
         (λ failure. IsUsage failure → (reader.new ≡ reader.old) × (writer.new ≡ writer.old)) }
 
@@ -50,8 +51,8 @@ pub fn run<A: Allocator + Clone, R: Loader<A> + Starter + Alloc<A = A>, S: Sourc
         → (IsEarly result ⊎ IfErr result IsRunFault)
         × (reader.new ≡ reader.old) × (writer.new ≡ writer.old) }
 
-    // Its status, or the error of its start, is that of the command that the words ask for, in the environment that is
-    // loaded from the files that they name.
+    // A status is the one with which a command ended that was made of the words and of the names that were loaded, or 1
+    // if it ended without one. `Start` holds the error of the start of such a command, or one of kind `OutOfMemory`.
     ensures runs { (line : Line) → AsksCommand (texts words.now) line
         → RunsCommand (R.loads rt.now line.files line.dialect) (R.ends rt.now) line.command
         result }

@@ -13,6 +13,8 @@ use std::io;
 ///
 /// The command inherits the environment of the process, with each name of this environment set. The error says that it
 /// could not be started, or that waiting failed.
+///
+/// It may also be of kind `OutOfMemory`.
 pub fn start<A: Allocator + Clone, R: Starter + Alloc<A = A>>(
     rt: &R,
     program: &str,

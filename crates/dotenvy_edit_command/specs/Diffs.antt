@@ -37,11 +37,12 @@ pub record Hunk : Type 0 where
   pub trail : List Text
   pub after : List Text
 
--- the lines of the old text, and of the new one
+-- the lines of the old text
 abbrev pub old_lines : Hunk → List Text
 old_lines hunk =
     hunk.before ++ (hunk.lead ++ (hunk.removed ++ (hunk.trail ++ hunk.after)))
 
+-- the lines of the new text
 abbrev pub new_lines : Hunk → List Text
 new_lines hunk = hunk.before ++ (hunk.lead ++ (hunk.added ++ (hunk.trail ++ hunk.after)))
 

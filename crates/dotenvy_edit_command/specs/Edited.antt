@@ -94,6 +94,7 @@ name_for_reason old new reason.Present = new
 name_for_reason old new reason.Key = if is_key (chars old) then new else old
 name_for_reason old new other = old
 
+-- the same of two names that weren't renamed, for whatever reason; it is the old one if an allocation failed
 abbrev pub name_for : Text → Text → Unedited → Text
 name_for old new (unedited.Refused refusal) = name_for_reason old new refusal.reason
 name_for old new (unedited.Memory refused) = old

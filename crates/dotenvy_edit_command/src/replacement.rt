@@ -1,4 +1,5 @@
-//! How a file is replaced whole, step by step, over anything that takes the steps.
+//! How a file is replaced whole, step by step, over anything that takes the steps. The file has its old bytes or all of
+//! the new ones.
 
 ghost use Rattle.std.specs.Prelude.{◌≡◌, ◌≢◌, ◌↔◌, Bool, true, false, Option, None, Some, Ok, IfErr, IfOk, IsTrue, is_err, is_ok, is_some};
 ghost use Rattle.std.specs.Option.{option_copied};

@@ -75,7 +75,9 @@ pub fn run<A: Allocator + Clone, F: Replaceable, S: Source, W: Sink, E: Sink>(
         E.told streams.old.errors streams.new.errors result
         × (file.new ≡ file.old) × (streams.new.reader ≡ streams.old.reader) }
 
-    // These have a task done with a file.
+    // The file has the new bytes, or the old ones with what the refusal says. Of `unset` with several names, the
+    // warnings are those of each name in the old file. With `--dry-run` the file is as it was, and the difference is
+    // printed. `get` prints the value that a load gives, over an environment without names.
     ensures tasks { AreTaken (texts words.now)
         → EndsBy (EndsTask S.told W.told (texts words.now) (F.known file.old) (F.known file.new)
         streams.old.reader streams.new.reader streams.old.writer streams.new.writer)

@@ -6,10 +6,11 @@ use Rattle.dotenvy.specs.LogicalLine.{Logical, Skip, HasText, StaysOpen, Broken}
 use Rattle.dotenvy.specs.Outcome.{trimmed, is_nothing}
 use Rattle.dotenvy.specs.Statement.{IsStatement}
 
--- a line feed, and a carriage return and a line feed
+-- a line feed
 abbrev pub feed : List ℕ
 feed = line_feed ∷ []
 
+-- a carriage return and a line feed
 abbrev pub return_feed : List ℕ
 return_feed = carriage_return ∷ line_feed ∷ []
 

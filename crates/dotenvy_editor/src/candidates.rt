@@ -1,4 +1,4 @@
-//! Lines that may set a key, and the first of them that reads back.
+//! Lines that may set a key, and the first of them that reads back. Each is read as a file.
 
 ghost use Rattle.std.specs.Prelude.{◌≡◌, ◌↔◌, ◌∷◌, [], ◌++◌, IfOk, IsTrue, None, chars, encode_utf8_all, option_map, string_bytes, true};
 ghost use Rattle.std.specs.Str.{IsUtf8};

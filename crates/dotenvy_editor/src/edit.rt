@@ -87,6 +87,8 @@ pub fn set<A: Allocator + Clone>(
         edited.bytes.items) }
     ensures refused { IfErr result
         (IsRefused (RefusesSet how (chars key.now) (chars value.now) bytes.now)) }
+    // The warnings are told kind by kind, each kind in order. In which order several kinds come is left open, as is
+    // which refusal is told where two hold.
     ensures told { IfOk result (λ edited. TellsSet how (chars key.now) (chars value.now) bytes.now
         edited.warnings.items) }
 {

@@ -20,6 +20,10 @@ use std::alloc::{AllocError, Allocator};
 
 /// Writes for the target what the files declare, over the environment, and returns the warnings that are to be said.
 ///
+/// Pairs with a name that the target keeps are left out if `how` asks for it: none, unless the target is a shell. There
+/// is a warning for each, in byte order of the names. After `Nul`, `Line`, `Refused` and `Memory` nothing was written.
+/// Keys and names in them are as they are printed, on one line, and no value is in them.
+///
 /// ```
 /// // of a file with the line `A=it's`, for a shell, it writes export A='it'\''s'
 /// let warnings = export(alloc, how, &inputs, &mut writer)?;

@@ -39,6 +39,8 @@ pub struct Streams<S, W, E> {
 /// The error is a wrong call, of which nothing is read, written or said. `--help` and `--version` print their text
 /// instead.
 ///
+/// If standard error can't be written, the status stays.
+///
 /// ```
 /// // of the words `sh a.env`, a file whose line is `A="it's"`, it writes export A='it'\''s'
 /// let status = run(&rt, global, &words, &mut streams)?; // 0

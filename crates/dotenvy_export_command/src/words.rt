@@ -59,6 +59,9 @@ pub struct How {
 ///
 /// The error is `Usage` for words that are refused, or `Memory`.
 ///
+/// A file comes after those optional ones whose place among the words is before its own. No clause says that these
+/// places are those of the files, as `clap` has none on them.
+///
 /// ```
 /// // of the words `sh --next a.env b.env`: the files a.env and b.env, in the second dialect, for a shell
 /// let request = read_words(global, alloc, &words)?;

@@ -1,4 +1,5 @@
--- How `docker run --env-file` reads a text (28.2), and what is written for it.
+-- How `docker run --env-file` reads a text (28.2), and what is written for it. It reads nothing (None) of a text that
+-- docker refuses, or in which a name has no `=`, so that docker asks its own environment.
 use Rattle.std.specs.Prelude.{ℕ, Bool, false, not, ◌&&◌, ◌||◌, ◌==◌, nat_lt, List, [], ◌∷◌}
 use Rattle.std.specs.Prelude.{◌++◌, length}
 use Rattle.std.specs.Prelude.{if◌then◌else◌, Option, Some, None, encode_utf8_all}

@@ -1,5 +1,6 @@
--- What a POSIX shell makes of lines that prepare a command: pairs that it exports, and words that it
--- puts before the command, for `env`. Nothing is said of other texts (None).
+-- What a POSIX shell makes of lines that prepare a command: pairs that it exports, and words that it puts before the
+-- command, for `env`. Nothing is said of other texts (None), nor of a word for `env` that has no name before its first
+-- `=`, or begins with `-`, which `env` takes for an option.
 use Rattle.std.specs.Prelude.{ℕ, Bool, false, not, ◌&&◌, ◌==◌, List, [], ◌∷◌, ◌++◌, map, codes}
 use Rattle.std.specs.Prelude.{if◌then◌else◌, Option, Some, None}
 use Rattle.std.specs.List.{flat_map}
@@ -18,10 +19,11 @@ pub data Step : Type 0 where
   Exports : Pair → Step
   Puts : Pair → Step
 
--- before the word in a line that puts it, and after it
+-- what comes before the word in a line that puts it
 abbrev pub set_words : List ℕ
 set_words = codes "set -- "
 
+-- what comes after the word: the arguments that there are already
 abbrev pub arguments : List ℕ
 arguments = codes " \"$@\""
 

@@ -1,4 +1,5 @@
--- A JSON object of texts: what a reader of JSON reads of it, and what is written.
+-- A JSON object of texts: what a reader of JSON reads of it, and what is written. It reads nothing (None) of bytes that
+-- are no object of texts, or if a name is there twice.
 use Rattle.std.specs.Prelude.{ℕ, List, [], ◌∷◌, ◌++◌, if◌then◌else◌, Option, Some, None}
 use Rattle.std.specs.Prelude.{encode_utf8_all}
 use Rattle.std.specs.List.{flat_map}

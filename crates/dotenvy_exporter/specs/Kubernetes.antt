@@ -1,5 +1,6 @@
--- How `kubectl create configmap|secret --from-env-file` reads a text (1.32). What is written for it is
--- what docker is given.
+-- How `kubectl create configmap|secret --from-env-file` reads a text (1.32). What is written for it is what docker is
+-- given. It reads up to the first line of 65,536 bytes or more, and nothing (None) of a text that kubectl refuses or
+-- that isn't UTF-8, or if a name that it reads has no `=`.
 use Rattle.std.specs.Prelude.{ℕ, Bool, false, not, ◌&&◌, ◌||◌, ◌==◌, nat_eq, nat_le, List, []}
 use Rattle.std.specs.Prelude.{◌∷◌}
 use Rattle.std.specs.Prelude.{if◌then◌else◌, Option, Some, None, codes, encode_utf8_all}

@@ -20,6 +20,7 @@ pub data Mode : Type 0 where
   Quoted : Mode
   Escaped : Mode
 
+-- it is outside quotes, and after no backslash
 abbrev pub is_bare : Mode → Bool
 is_bare Bare = true
 is_bare Quoted = false
@@ -65,9 +66,11 @@ abbrev pub followed_by : List ℕ → Option (List ℕ × List ℕ) → Option (
 followed_by rest None = None
 followed_by rest (Some (word, more)) = if same more rest then Some word else None
 
+-- a character with which the name of a shell's variable may begin
 abbrev pub begins_shell_name : ℕ → Bool
 begins_shell_name c = is_ascii_alphabetic c || c == underscore
 
+-- a character that may follow in such a name
 abbrev pub continues_shell_name : ℕ → Bool
 continues_shell_name c = begins_shell_name c || is_ascii_digit c
 
@@ -90,6 +93,7 @@ after [] text = Some text
 after (p ∷ ps) [] = None
 after (p ∷ ps) (c ∷ cs) = if c == p then after ps cs else None
 
+-- the pair of a name and a value, if there is a value
 abbrev pub with_name : List ℕ → Option (List ℕ) → Option Pair
 with_name name None = None
 with_name name (Some value) = Some (name, value)
@@ -119,6 +123,7 @@ lines_pairs (line ∷ lines) = with_pair (exported (after export_word line)) (li
 abbrev pub shell_reads : List ℕ → Option (List Pair)
 shell_reads text = lines_pairs (shell_lines Bare text)
 
+-- what a shell reads of bytes, of which nothing is said if they aren't UTF-8
 abbrev pub shell_reads_bytes : List ℕ → Option (List Pair)
 shell_reads_bytes bytes = if is_utf8 bytes then shell_reads (chars bytes) else None
 

@@ -1,5 +1,6 @@
--- How systemd (252) reads an EnvironmentFile=, by its bytes. What is written for it is the written form
--- of pairs.
+-- How systemd (252) reads an EnvironmentFile=, by its bytes. What is written for it is the written form of pairs. It
+-- reads the last assignment of each name, also of one that a unit leaves out, and nothing (None) of a text that systemd
+-- refuses.
 use Rattle.std.specs.Prelude.{ℕ, Bool, not, ◌&&◌, ◌||◌, ◌==◌, nat_le, ◌%◌, List, [], ◌∷◌, ◌++◌, map}
 use Rattle.std.specs.Prelude.{if◌then◌else◌, Option, Some, None}
 use Rattle.std.specs.List.{list_all, list_any}
@@ -30,9 +31,11 @@ pub data Place : Type 0 where
   Comment : Place
   CommentEscaped : Place
 
+-- a line feed or a carriage return, which ends a line
 abbrev pub is_end : ℕ → Bool
 is_end c = c == line_feed || c == carriage_return
 
+-- white space: what ends a line, a space or a tab
 abbrev pub is_white : ℕ → Bool
 is_white c = is_end c || (c == space || c == tab)
 

@@ -74,6 +74,14 @@ impl<A: Allocator> From<AllocError> for Stopped<A> {
 /// The line is 0 if an allocation fails, or at the bound on reads (2^32). A value with a NUL is an error in the first
 /// declaration of a name, even where the environment's value counts.
 ///
+/// Where a name that the files declare keeps its value of the environment, they are loaded twice: over no names, to
+/// learn what they declare, and over those of the environment. This takes twice the time.
+///
+/// On `Ok` loading each file returns `Ok`, over what the files before it left, without an opening byte order mark: so
+/// no file has a fault. The load that stops is one over no names or, under `Mode::Keep`, over the names of the
+/// environment that the files declare. No clause speaks of the `loaded` flag of the result, or of a NUL where the
+/// environment's value counts.
+///
 /// ```
 /// // of PORT=1 in the environment, and a file of two lines, `PORT=2` and `URL=http://$HOST:$PORT`:
 /// // PORT, which is 1, and URL, which is http://:1

@@ -49,6 +49,10 @@ impl<A: Allocator> From<AllocError> for Unwritten<A> {
 ///
 /// All is built before the first write: if a pair is refused, or an allocation fails, nothing was written.
 ///
+/// `Unwritten::Refused` has the first pair that the target can't be given. Of several reasons it has the first: the
+/// name, a name that shells keep, a NUL, what else is wrong. After `Unwritten::Write` a beginning was appended, and not
+/// the whole.
+///
 /// ```
 /// // of A=`it's`, for a shell: export A='it'\''s'
 /// write_for(alloc, Target::Sh, &environment, &mut writer)?;

@@ -1,4 +1,6 @@
--- What both loads result in, said without a changing environment: by the environment before, and all declarations.
+-- What both loads result in, said without a changing environment: by the environment before, and all declarations. A
+-- run (Run) takes entry after entry over an environment that changes; the law `loads_in_turn` says that it comes to the
+-- same.
 use Rattle.std.specs.Prelude.{◌≡◌, ℕ, Bool, true, ◌&&◌, List, [], ◌∷◌, ◌++◌, Some, None, Result, Ok}
 use Rattle.std.specs.Prelude.{Err, is_none, bytes_eq, if◌then◌else◌}
 use Rattle.std.specs.Option.{option_or}

@@ -13,7 +13,8 @@ abbrev pub BeginsValue : Dialect → List ℕ → Type 0
 BeginsValue dialect front =
     (more : List ℕ) × (pieces : List Piece) × IsValue dialect (front ++ more) pieces
 
--- the place is the length of the longest front that can be completed, in characters
+-- the place is the length of the longest front that can be completed, in characters; the index of `LineParse` counts
+-- bytes or characters (Outcome)
 pub record IsPlace (Begins : List ℕ → Type 0) (text : List ℕ) (place : ℕ) : Type 0 where
   pub within : place ≤ length text
   pub completed : Begins (take place text)

@@ -279,6 +279,9 @@ fn double_quote(left: &str, quoting: Quoting) -> NextPiece<'_>
 /// Reads the next piece of a value from what is left of it.
 ///
 /// Begin outside quotes with the whole value, and go on with the `rest` and `quoting` of each piece.
+///
+/// It is a function and no iterator struct: the prover knows of a parameter and of a result that a `&str` is UTF-8, and
+/// after a loop doesn't know it of a field.
 #[inline(always)]
 pub fn next_piece(text: &str, quoting: Quoting, dialect: Dialect) -> NextPiece<'_>
     ensures next { NextPieceIs dialect (base quoting) (chars text.now) result }

@@ -1,4 +1,5 @@
--- What was remembered: the last value of each name, and `None` where a name was declared with nothing.
+-- What was remembered: the last value of each name, and `None` where a name was declared with nothing. Loads ask for
+-- it, and add nothing to it.
 use Rattle.std.specs.Prelude.{ℕ, List, [], ◌∷◌, map, Option, Some, option_map, string_bytes}
 use Rattle.std.specs.Option.{option_flatten}
 use Rattle.std.specs.Ordering.{nat_cmp}

@@ -123,6 +123,8 @@ pub fn into_reader<R: Source, A: Allocator>(file: Iter<R, A>) -> R
 
 impl<R: Source, A: Allocator + Clone> Iter<R, A> {
     /// A fresh iterator over a reader, in the first dialect. Nothing is read yet.
+    ///
+    /// The error is `Memory`.
     pub fn new(alloc: A, reader: R) -> Result<Iter<R, A>, A>
     where
         R: Drop,
@@ -148,6 +150,8 @@ impl<R: Source, A: Allocator + Clone> Iter<R, A> {
     ///
     /// The error is `Memory`. Some of the values may be remembered then.
     ///
+    /// On `Ok` each value is remembered under its name, in the place of an earlier one.
+    ///
     /// ```text
     /// let mut file = Iter::new(alloc, Bytes::new(b"URL=http://$HOST\n"))?;
     /// file.remember(&process)?;
@@ -164,11 +168,22 @@ impl<R: Source, A: Allocator + Clone> Iter<R, A> {
 
     /// The next pair or fault. A name that a value mentions means its value in `env`, else the last one remembered,
     /// else the empty text; `env` may be another at each call (docs/GRAMMAR.md, "What a name means").
+    ///
+    /// Over a reader whose bytes are specified it is the first pair or fault of those that are left. The call uses the
+    /// lines that give nothing, then the line of this item, and nothing after that line. The value of a pair is then
+    /// remembered under its key; a fault changes nothing that is remembered.
+    ///
+    /// `None` comes only if no pair and no fault is left, and no read fails after them. A read that fails comes only if
+    /// the bytes before it decide no further pair and no further fault. The bound on reads is an `Io` of kind `Other`;
+    /// fewer than 2^32 bytes never meet it. After each of these, and after `Memory`, it returns `None`, and nothing
+    /// changes.
     pub fn next_item(&mut self, env: &Environment<A>) -> Option<Result<(String<A>, String<A>), A>>
         ensures next { NextItem env.now.names self.old result self.new }
+        // A loop up to `None` ends: each item lowers a bound on the items that can still come.
         ensures falls { IsSome result → items_measure self.new < items_measure self.old }
         ensures none { result ≡ None → ¬ (IsOpen self.new) }
         ensures memory { IfSome result (λ item. IsMemoryErr item → HasFailed self.new) }
+        // A pair has a key, and so a name that `Environment::set` takes.
         ensures key { GivesKey result }
         ensures name { GivesName result }
 
@@ -209,6 +224,10 @@ impl<R: Source, A: Allocator + Clone> Iter<R, A> {
     /// Drops a byte order mark that stands next, as both loads do before their first line; `next_item` keeps it.
     ///
     /// Does nothing after the end or a final fault. The errors are those of reading, and `Memory`; each is final.
+    ///
+    /// On `Ok` what is left is what was left, without one byte order mark at its start. A fault of reading comes only
+    /// if the bytes before it are a beginning of a mark, and not the whole. What is remembered, the dialect, the lines
+    /// of the last item and the count of lines stay.
     ///
     /// ```text
     /// let mut file = Iter::new(alloc, reader)?;
@@ -351,6 +370,14 @@ impl<R: Source, A: Allocator + Clone> Iter<R, A> {
     /// a NUL that would be set is such a fault. After `Ok` nothing is left, and the lines are as they were. An iterator
     /// that has ended or failed loads nothing and returns `Ok`.
     ///
+    /// Over a reader whose bytes are specified, each absent name that is declared before the stop has its first value
+    /// there. A name in a value may also mean what is remembered. A read that fails, the bound on reads and `Memory`
+    /// are stops, too; after `Memory` some of the first pairs are set. `Memory` can come at a pair that isn't set,
+    /// since its key and value may be copied before its name is found.
+    ///
+    /// What is remembered stays as it was: the pairs that were loaded are in the environment alone. So go on in that
+    /// one after an error; another knows nothing of them.
+    ///
     /// ```text
     /// let mut file = Iter::new(alloc, Bytes::new(b"A=1\nB=two words\nC=3\n"))?;
     /// while let Err(error) = file.load_rest(&mut env) {
@@ -362,19 +389,25 @@ impl<R: Source, A: Allocator + Clone> Iter<R, A> {
             (result ≡ Ok tt) × (self.new ≡ self.old) × (env.new ≡ env.old) }
         ensures told { IsOpen self.old →
             LoadsRest load_result self.old env.old.names result env.new.names }
+        // Whatever is returned, names that are there keep their values, only names that are keys change, and the
+        // `loaded` flag stays.
         ensures adds { OnlyAdds env.old env.new }
         ensures stops { IsOpen self.old →
             Stops load_result self.old env.old.names result self.new }
         ensures ok { OnOk result (¬ (IsOpen self.new)) }
         ensures memory { IsMemoryErr result → HasFailed self.new }
         ensures same { KeepsRemembered self.old self.new }
+        // A loop up to `Ok` ends: each error lowers a bound on the items that can still come.
         ensures falls { OnErr result (items_measure self.new < items_measure self.old) }
+        // The reads are those of `next_item`.
         ensures asks { AsksBetween self.old self.new }
     {
         self.load_lines(Mode::Keep { looks_first: true }, env)
     }
 
     /// As `load_rest`, but each name is set, whether it is there or not.
+    ///
+    /// Over a reader whose bytes are specified, each name that is declared before the stop has its last value there.
     ///
     /// ```text
     /// let mut file = Iter::new(alloc, Bytes::new(b"A=1\nA=2\n"))?;
@@ -385,6 +418,7 @@ impl<R: Source, A: Allocator + Clone> Iter<R, A> {
             (result ≡ Ok tt) × (self.new ≡ self.old) × (env.new ≡ env.old) }
         ensures told { IsOpen self.old →
             LoadsRest override_result self.old env.old.names result env.new.names }
+        // Whatever is returned, only names that are keys change, and the `loaded` flag stays.
         ensures changes { ChangesOnlyKeys env.old env.new }
         ensures stops { IsOpen self.old →
             Stops override_result self.old env.old.names result self.new }
@@ -484,6 +518,8 @@ impl<R: Source + Drop, A: Allocator + Clone> Iter<R, A> {
 }
 
 /// The items of an iterator under one environment; `Iter::items` makes it.
+///
+/// Each `next` is a `next_item` under that environment, and promises the same.
 #[derive(Drop)]
 pub struct Items<'a, R: Source, A: Allocator = Global> {
     file: &'a mut Iter<R, A>,
@@ -507,6 +543,8 @@ impl<'a, R: Source, A: Allocator + Clone> Iterator for Items<'a, R, A> {
 }
 
 /// The items of an iterator under one environment, each with its first line; `Iter::numbered_items` makes it.
+///
+/// Each `next` is a `next_item` under that environment, and promises the same.
 #[derive(Drop)]
 pub struct NumberedItems<'a, R: Source, A: Allocator = Global> {
     file: &'a mut Iter<R, A>,
@@ -539,6 +577,7 @@ pub fn from_read<R: Source + Drop, A: Allocator + Clone>(
 ) -> Result<(), A>
     ensures told { LoadsRest load_result (fresh (R.told reader) Dialect.V15)
         env.old.names result env.new.names }
+    // The result is also that of setting one pair after another, into an environment that changes.
     ensures in_turn { LoadsRest (run Keep) (fresh (R.told reader) Dialect.V15)
         env.old.names result env.new.names }
     ensures adds { OnlyAdds env.old env.new }
@@ -554,6 +593,7 @@ pub fn from_read_override<R: Source + Drop, A: Allocator + Clone>(
 ) -> Result<(), A>
     ensures told { LoadsRest override_result (fresh (R.told reader) Dialect.V15)
         env.old.names result env.new.names }
+    // The result is also that of setting one pair after another, into an environment that changes.
     ensures in_turn { LoadsRest (run Replace)
         (fresh (R.told reader) Dialect.V15) env.old.names result env.new.names }
     ensures changes { ChangesOnlyKeys env.old env.new }
@@ -562,6 +602,8 @@ pub fn from_read_override<R: Source + Drop, A: Allocator + Clone>(
 }
 
 /// A fresh iterator over a reader; nothing is set.
+///
+/// The error is `Memory`.
 pub fn from_read_iter<R: Source + Drop, A: Allocator + Clone>(
     alloc: A,
     reader: R,

@@ -27,6 +27,9 @@ pub(crate) enum Mode {
 
 impl Mode {
     // Whether a name is seen to keep its value, before that is expanded.
+    //
+    // The contract says only that a name for which it returns true would keep its value. So no guess changes what a
+    // load leaves.
     fn passes_by<A: Allocator>(&self, env: &Environment<A>, key: &str) -> bool
         ensures { result ≡ true →
             sets (mode_of self.now) (values_of env.now.names) (chars key.now) ≡ false }
@@ -63,6 +66,8 @@ impl Mode {
 ///
 /// Nothing is remembered: a key that a load has met is in the environment, and that is asked first when a name is
 /// looked up. So a name that is seen to keep its value takes no memory, and its value is only read for a fault.
+///
+/// It returns and leaves what the load of the line's own entries returns and leaves; or `Memory`, and nothing changed.
 pub(crate) fn load_line<A: Allocator + Clone>(
     line: Line<'_, A>,
     remembered: &Remembered<A>,

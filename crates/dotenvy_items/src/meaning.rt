@@ -123,6 +123,10 @@ impl<'n, A: Allocator> Names<'n, A> {
 
     /// What the first pass finds out about a value; or what is left of it where no value goes on, which is nothing
     /// where it lacks its end.
+    ///
+    /// This pass takes no memory, and measures what the value means; the second writes that into a text of just this
+    /// size, so no push can fail. The price: a value of several pieces is read twice, and each of several names looked
+    /// up in each pass.
     pub(crate) fn measure<'a>(
         &self,
         value: &'a str,

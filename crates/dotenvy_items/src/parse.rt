@@ -148,6 +148,9 @@ pub(crate) fn declaration_of<'n, 'a, A: Allocator + Clone>(
 }
 
 /// The second pass: the key of a declaration, and what its value means.
+///
+/// It copies the text, or takes the memory once and fills it: no later push can be refused. No clause says that memory
+/// is asked for once.
 pub(crate) fn pair_of<'n, A: Allocator + Clone>(
     alloc: A,
     declaration: Declaration<'n, '_>,
@@ -170,6 +173,9 @@ pub(crate) fn pair_of<'n, A: Allocator + Clone>(
 }
 
 /// What one logical line says: nothing, a key and its value, or a fault. A pair is remembered.
+///
+/// The result is nothing; a key and what its value means; the fault with its text and place; or `Memory`. Only a pair
+/// changes what is remembered, and only under its key.
 pub(crate) fn parse_line<A: Allocator + Clone>(
     line: Line<'_, A>,
     remembered: &mut Remembered<A>,

@@ -1,4 +1,5 @@
-//! The values that an iterator remembers.
+//! The values that an iterator remembers. They are in a hash map, and no result depends on the order of a walk through
+//! it.
 ghost use Rattle.std.specs.Prelude.{◌≡◌, OnOk, OnErr, option_copied, option_map, string_bytes};
 ghost use Rattle.std.specs.FinMap as fin;
 ghost use Rattle.dotenvy_items.specs.Remembered.{remembered_of, recalled, with_values};

@@ -78,6 +78,9 @@ fn push_written<A: Allocator>(out: &mut String<A>, key: &str, text: &str)
 /// Each pair of the environment in its written form, in byte order of the names (docs/GRAMMAR.md, "The written form").
 /// Memory is asked for once.
 ///
+/// No push after the first request for memory can be refused: each is unwrapped, and proved to be safe. No clause says
+/// that memory is asked for once.
+///
 /// ```text
 /// listing(alloc, &env)?    // of A=1 and B=$2: A="1" and B="\$2", a line each
 /// ```
@@ -105,6 +108,13 @@ pub fn listing<A: Allocator + Clone>(
 /// The form is built before the first write. An interrupted write is asked again; a write that takes nothing is `Io`
 /// of kind WriteZero, and past 2^32 writes the answer is `Io` of kind Other.
 ///
+/// It requires that the key is a key of a file. Each error is `Memory` or `Io`. After `Memory` nothing was written. On
+/// `Ok` the whole form was appended; after `Io` a beginning of it, and not the whole.
+///
+/// On a fresh writer the `Io` has the kind of the last write that failed, or it is of kind `Other`: after 2^32 writes
+/// or bytes, or if that write was interrupted. Of a writer of which a write had failed before, also by an interruption,
+/// this isn't said. No write follows one that took nothing, or that failed without being interrupted.
+///
 /// ```text
 /// write_pair(alloc, &mut writer, "K", "it costs $1")?;    // K="it costs \$1"
 /// ```
@@ -128,6 +138,8 @@ pub fn write_pair<W: Sink, A: Allocator + Clone>(
 ///
 /// The whole output is built before the first write, so after a fault of the load, or refused memory, nothing was
 /// written. Faults of the writer are as for `write_pair`.
+///
+/// What is written is a beginning of the written form of the pairs that the load left, and the whole on `Ok`.
 ///
 /// ```text
 /// list(alloc, Bytes::new(b"B=2\nA=1\nA=3\n"), &mut writer)?;    // A="1" and B="2", a line each
@@ -158,7 +170,9 @@ pub fn list_with<R: Source + Drop, W: Sink, A: Allocator + Clone>(
 
 /// As `list_with`, of a reader that is lent.
 ///
-/// The memory for reading is allocated first, so that the reader is given back whatever happens.
+/// The memory for reading is allocated first, so that the reader is given back whatever happens. By the name of the
+/// reference (`references` of `told`) the toolchain knows the reader for the one that was lent: an iterator hides it,
+/// and without the name no contract could say what was read from it.
 pub fn list_lent<R: Source, W: Sink, A: Allocator + Clone>(
     alloc: A,
     reader: &mut R,
@@ -167,6 +181,8 @@ pub fn list_lent<R: Source, W: Sink, A: Allocator + Clone>(
 ) -> Result<(), A>
     ensures lists { Lists (fresh (R.told reader.old) dialect)
         W.told writer.old writer.new result }
+    // Whatever is returned: at most 2^32 reads are made, interrupted ones among them, each for at most 8,192 bytes; and
+    // none follows the end, or a read that failed without being interrupted.
     ensures asks { ReadsBetween (R.told reader.old) (R.told reader.new) }
 {
     let remembering = alloc.clone()?;

@@ -83,7 +83,8 @@ abbrev pub IsReadFault : Ahead → InputState → (List ℕ → Type 0) → Inpu
 IsReadFault a s P t e =
     ((a.fault ≡ Some (error_kind e)) × P a.bytes) ⊎ ((error_kind e ≡ Other) × BoundIsMet a s P t)
 
--- a final fault: memory was refused, or a fault of reading
+-- a final fault: memory was refused, or a fault of reading; the fault that follows the specified bytes is specified,
+-- and neither refused memory nor the bound on reads is
 abbrev pub IsFinal : {A : Type 0} → Ahead → InputState → (List ℕ → Type 0) → Error A → InputState →
     Type 0
 IsFinal a s P e t = IsMemory e ⊎ IsIoOf (IsReadFault a s P t) e

@@ -1,4 +1,5 @@
-//! The bytes of a source, one physical line at a time.
+//! The bytes of a source, one physical line at a time. Reads are counted here, interrupted ones are repeated, and the
+//! end is kept for good.
 
 ghost use Rattle.std.specs.Prelude.{[], ◌≡◌, ◌≤◌, ◌<◌, ◌+◌, ◌==◌, true, false, Some, None, IfOk, IsOk, IsTrue, ◌↔◌, OnOk, length, take};
 ghost use Rattle.dotenvy_base.specs.Source.{Ahead};

@@ -87,6 +87,8 @@ pub enum Stage {
 }
 
 /// The memory in which lines are read: an empty buffer for reads, and the line buffer.
+///
+/// Memory is refused, if at all, when it is made: so before a reader is borrowed.
 #[derive(Drop)]
 pub struct Room<A: Allocator> {
     buffer: Buffer<A>,
@@ -293,6 +295,10 @@ impl<R: Source, A: Allocator + Clone> Splitter<R, A> {
     /// Takes the next logical line, and leaves its text in the line buffer: the empty text for a line that is skipped.
     ///
     /// Returns the line's fault if it has one, and `None` at the end and after a final fault.
+    ///
+    /// A line that stays open at the end is `LineParse` with its whole text, and with its length in bytes as the index.
+    /// A line that isn't UTF-8 is `Io` of kind `InvalidData`; the physical lines after it are left. For a logical line
+    /// there is at most one read more than it has bytes.
     pub fn advance(&mut self) -> Option<Result<(), A>>
         ensures shut { self.old.lines.stage ≢ Stage.Open → (result ≡ None) × (self.new ≡ self.old) }
         ensures falls { IsSome result →

@@ -12,6 +12,10 @@ use std::io::ErrorKind;
 
 /// All bytes of a source, which are read into room for so many. It grows if the source has more. A read that is
 /// interrupted is tried again.
+///
+/// Over a source whose bytes are specified, without an interruption as its fault, `Ok` has all bytes up to the end. The
+/// error is `Memory`, an `Io` of the kind that is specified, or says that the source has 2^64 - 1 bytes or more. No
+/// clause says what is returned after an interruption, or which reads are made.
 pub fn read_all<A: Allocator, S: Source>(
     alloc: A,
     room: usize,

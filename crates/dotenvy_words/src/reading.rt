@@ -1,4 +1,4 @@
-//! Reads the words of a command line, and finds the first word that is refused.
+//! Reads the words of a command line by `clap`, and finds the first word that is refused, by halves.
 
 ghost use Rattle.std.specs.Prelude.{◌<◌, ◌≡◌, ◌≢◌, [], IfOk, IsSomeAnd, length, string_bytes};
 ghost use Rattle.std.specs.List.{position_from};

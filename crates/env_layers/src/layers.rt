@@ -83,6 +83,9 @@ impl<A: Allocator + Clone> Layers<A> {
     /// The errors are those of the load: `LineParse`, `Io`, `Nul`, `Memory`. After each of them the layers are as they
     /// were, unlike after a load, which keeps what stands before its fault.
     ///
+    /// Over a reader whose bytes are specified, the result and, on `Ok`, the environment are those of the load: of
+    /// `Iter::load` for `Mode::Keep`, and of `Iter::load_override` for `Mode::Override`.
+    ///
     /// ```
     /// layers.add(alloc, Bytes::new(b"HOST=db.local\n"), Mode::Override)?;
     /// ```
@@ -140,6 +143,8 @@ impl<A: Allocator + Clone> Layers<A> {
     }
 
     // Adds what an iterator has left as a layer: all of it, or nothing where the load of it stops.
+    //
+    // After an error of the load, of whichever kind and in either mode, the layers are as they were.
     fn add_rest<R: Source + Drop>(&mut self, file: Iter<R, A>, mode: Mode) -> Result<(), A>
         requires { IsOpen file }
         ensures told { AddsLayer mode file self.old.names result self.new.names }
@@ -159,6 +164,8 @@ impl<A: Allocator + Clone> Layers<A> {
     /// Whether each of these names has a value, be it the empty one. It takes no memory where each has.
     ///
     /// `Missing::Names` holds those that have none.
+    ///
+    /// They are in the order in which you asked, and as often. `Missing::Memory` comes only if a name is absent.
     ///
     /// ```
     /// layers.require(alloc, &["HOST", "PORT"])?;
