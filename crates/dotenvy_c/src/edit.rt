@@ -130,7 +130,7 @@ fn answer_set(
 
 /// Sets a key of a file to a value, and writes the new file to `out`, and the names of the warnings after it. The first
 /// line that assigns the key has the value, and later ones are gone; where none does, one is appended. Every other byte
-/// stays.
+/// stays, except for blanks before the line's comment and the end of the last line.
 ///
 /// Where `warnings` is too short for all warnings, or `out` for the file and the names, nothing is written, and the
 /// answer tells how long both have to be.
@@ -207,7 +207,8 @@ fn answer_unset(
 }
 
 /// Unsets a key of a file, and writes the new file to `out`, and the names of the warnings after it. The lines that
-/// assign the key are gone, with their comments. Every other byte stays.
+/// assign the key are gone, with their comments. Every other byte stays; one empty line is left where the file would
+/// else begin with a byte order mark that it had not.
 ///
 /// Where a buffer is too short, it is as in `dotenvy_set`.
 ///

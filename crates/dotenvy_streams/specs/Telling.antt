@@ -16,7 +16,7 @@ abbrev pub line_or : {A : Type 0} → List ℕ → Result (String A) AllocError 
 line_or otherwise (Ok line) = string_bytes line
 line_or otherwise (Err refused) = otherwise
 
--- a line with this text, behind what each line of the program begins with; nothing is said of one
+-- a line with this text, after what each line of the program begins with; nothing is said of one
 -- whose text is not specified
 abbrev pub IsLine : List ℕ → Option (List ℕ) → List ℕ → Type 0
 IsLine start told line = IfSome told (λ text. line ≡ start ++ (text ++ codes "\n"))
