@@ -36,6 +36,18 @@ ENDS = {
     "blank": " ", "tab": "\t", "comment": " # 'c", "comment-at-once": " #", "two-blanks-and-comment": "  #c",
     "three-blanks-and-comment": "   #\"", "returned": "\r", "blank-and-return": " \r", "form-feed": "\f",
 }
+# What is before a row of blanks and a `#`, which begins a comment only after an odd number of them; and these blanks.
+FRONTS = {
+    "letter": "v", "double-quotes": '"q"', "single-quotes": "'q'", "escaped-space": "\\ ", "escaped-backslash": "\\\\",
+    "wide-letter": "\u00e9", "wide-sign": "\U0001f600", "wide-blank-and-letter": "\u3000v", "hash": "v#",
+    "name": "${A}",
+}
+BLANKS = {
+    "spaces": " ", "tabs": "\t", "spaces-and-tabs": " \t", "form-feeds": "\f", "wide-blanks": "\u00a0",
+    "wide-spaces-and-spaces": "\u3000 ",
+}
+# A comment; and a quote that joins the next line, unless it is in a comment.
+TAILS = {"comment": "#c", "quote": "#'\nX{}=1 #'"}
 IN_KEYS = {"full-stop": ".", "underscore": "_", "digit": "7", "capital": "Q", "last-letter": "z"}
 
 
@@ -73,8 +85,11 @@ def written_row(name, value):
 
 def value_rows():
     """Each sign at each place of a value of each length, a line each, in the three ways of quoting."""
-    ways = [("outside-quotes", "", SIGNS), ("in-double-quotes", '"', DOUBLE_QUOTED), ("in-single-quotes", "'", SINGLE_QUOTED)]
-    for way, quote, signs in ways:
+    ways = {
+        "outside-quotes": ("", SIGNS), "in-double-quotes": ('"', DOUBLE_QUOTED),
+        "in-single-quotes": ("'", SINGLE_QUOTED),
+    }
+    for way, (quote, signs) in ways.items():
         for called, sign in signs.items():
             for length in LENGTHS:
                 lines = [f"K{place}={quote}{filled(length, place, sign)}{quote}\n" for place in PLACES]
@@ -87,6 +102,16 @@ def end_rows():
     for called, end in ENDS.items():
         lines = [f"K{place}={filled(place, place, '')}{end}\n" for place in range(1, 34)]
         yield from row(f"{called}-ends", "v15", "".join(lines).encode())
+
+
+def blank_rows():
+    """Rows of blanks of each length between a value and a `#`."""
+    for front, value in FRONTS.items():
+        for blank, blanks in BLANKS.items():
+            for tail, text in TAILS.items():
+                lines = [f"K{count}={value}{(blanks * 34)[:count]}{text.format(count)}\n" for count in range(34)]
+                whole = [line for line in lines if row("", "v15", line.encode())]
+                yield from row(f"{tail}-after-{blank}-after-{front}", "v15", "".join(whole).encode())
 
 
 def key_rows():
@@ -115,8 +140,13 @@ def line_rows():
 def part_rows():
     """Lines around the end of a part of the file, which a comment fills up to there."""
     shapes = {
-        "plain": "K=abcdefghijklmnopqrstuvwxyz\n", "quoted": 'K="abcdefgh ijklmnop"#q\n', "comment": "K=abcdefghij #klm'nopq\n",
-        "wide": "K=ab\u00e9cd\u4e2def\U0001f600ghijklmnop\n", "open": "K='abcdefgh\nijklmnop'\n", "return": "K=abcdefghijklm\r\n",
+        "plain": "K=abcdefghijklmnopqrstuvwxyz\n", "quoted": 'K="abcdefgh ijklmnop"#q\n',
+        "comment": "K=abcdefghij #klm'nopq\n", "wide": "K=ab\u00e9cd\u4e2def\U0001f600ghijklmnop\n",
+        "open": "K='abcdefgh\nijklmnop'\n", "return": "K=abcdefghijklm\r\n",
+        "single-quoted": "K='abcde #fghijk'lm\n", "many-quotes": "K=\"ab\"'cd'\"ef\"gh'ij'\n",
+        "escaped": 'K=a\\ b\\\\c\\"d"e\\"f\\\\"g\n', "hash-in-value": "K=ab#cd#\"ef#\"#gh\n",
+        "comment-after-blanks": "K=abcdef\t \t#gh'i\"\n", "two-blanks-and-comment": "K=abcdef  #gh'i'\n",
+        "wide-comment": "K=abcdef #g\u00e9\u4e2d\U0001f600'h\n", "open-after-hash": "K=ab#'cd\nef'\n",
     }
     for called, shape in shapes.items():
         for before in range(40):
@@ -141,8 +171,11 @@ def main():
     """Prints all rows."""
     sys.stdout.reconfigure(encoding="utf-8", newline="\n")
     print("# Texts at the boundaries of blocks of sixteen bytes and of parts that are read (tests/boundaries_rows.py).")
-    for heading, rows in (("Values", value_rows), ("Ends of values", end_rows), ("Keys", key_rows), ("Lines", line_rows),
-                          ("Ends of parts", part_rows), ("The written form", written_rows)):
+    groups = {
+        "Values": value_rows, "Ends of values": end_rows, "Blanks": blank_rows, "Keys": key_rows, "Lines": line_rows,
+        "Ends of parts": part_rows, "The written form": written_rows,
+    }
+    for heading, rows in groups.items():
         print(f"\n# {heading}.")
         for made in rows():
             print("|".join(made))
