@@ -1,3 +1,3 @@
 pub mod FoundValues
-mod Refusals
+pub mod Refusals
 mod TextNames

@@ -8,6 +8,7 @@ use Rattle.clap.specs.Words.{App, IsAmong, Kinds, Text, fault_of}
 use Rattle.clap.specs.declared.error.kind.ErrorKind.{ErrorKind}
 use Rattle.clap.specs.declared.error.kind.ErrorKind.TheVariants as kind
 use Rattle.dotenvy_reports.specs.OneLine.{on_one_line}
+use Rattle.dotenvy_words.specs.Asked.{AskForOnly}
 use Rattle.dotenvy_words.specs.Refused.{FirstRefused, HasMistake, IsFirstRefused, IsKindTold, IsMistakeOf}
 use Rattle.dotenvy_words.specs.Refused.{IsRefused, StayRefused, is_mistake}
 
@@ -61,6 +62,16 @@ pub asks_for_text : (found : ErrorKind) → (found ≡ kind.DisplayHelp) ⊎ (fo
     is_mistake found ≡ false
 asks_for_text found (inl help) = ap is_mistake help
 asks_for_text found (inr version) = ap is_mistake version
+
+-- words that ask for a text, and for nothing else, have no mistake
+pub asked_not_mistaken : (line : App) (words : List Text) (asks : ErrorKind) → AskForOnly line words asks →
+    HasMistake line words → ⊥
+asked_not_mistaken line words asks asked (found, (unnamed, among)) =
+    let there : (found ≡ asks) ⊎ ⊥ = rw asked.1 at among in
+    elim there [
+      | inl same ↦ unnamed (rw same asked.0)
+      | inr never ↦ never
+    ]
 
 -- of words of which what refuses the first ones is no mistake, an unknown option is told
 pub unknown_told : (line : App) (front : List Text) (other : ErrorKind) → is_mistake other ≡ false →
