@@ -7,5 +7,7 @@ pub mod SplitLines
 pub mod LineTexts
 pub mod BlankPairs
 pub mod LineEnds
-pub mod WholeLines
 pub mod CommentLines
+pub mod SearchPlaces
+pub mod PlaceModes
+pub mod WholeLines

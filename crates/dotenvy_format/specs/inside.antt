@@ -1,5 +1,6 @@
 pub mod Slices
 pub mod Walk
+pub mod LineEnd
 pub mod ParseStatement
 pub mod ReadValue
 pub mod NextPiece

@@ -1,10 +1,10 @@
 //! Cuts texts after runs of characters of one class. Runs are searched by bytes, where that finds the same end.
 
-ghost use Rattle.std.specs.Prelude.{◌≡◌, ◌==◌, ◌++◌, ◌∷◌, ℕ, List, [], not, false, length, unwrap_or, MatchOption};
+ghost use Rattle.std.specs.Prelude.{◌≡◌, ◌==◌, ◌++◌, ℕ, List, [], not, false, length, unwrap_or, MatchOption};
 ghost use Rattle.std.specs.Str.{chars, IsUtf8};
 ghost use Rattle.dotenvy_format.specs.Characters.{continues_key, is_empty_or_comment, is_space_or_tab, line_feed};
 ghost use Rattle.std.specs.List.{prefix_len, position_from};
-ghost use Rattle.dotenvy_format.specs.inside.Slices.{BeginsLine, BeginsWith, IsSpan, PassesBytes, has_character, is_name_byte, is_of_kind, in_run};
+ghost use Rattle.dotenvy_format.specs.inside.Slices.{BeginsLine, BeginsWith, IsSpan, has_character, is_name_byte, is_of_kind, in_run};
 
 use crate::blocks::{not_ascii_in_line, not_calm, not_in_key, not_in_quotes, not_plain, not_token};
 use crate::classes::{continues_key, is_blank, is_name_byte, is_name_character};
@@ -219,6 +219,14 @@ fn kind_run(bytes: &[u8], kind: ByteKind) -> usize
     bytes.len() - rest.len() + kind_end(rest, kind).unwrap_or(rest.len())
 }
 
+/// Cuts bytes after the longest run of bytes of the kind at their start. Either part may be empty.
+#[inline(always)]
+pub fn split_run(bytes: &[u8], kind: ByteKind) -> (&[u8], &[u8])
+    ensures { IsSpan (is_of_kind kind) bytes.now result.0.now result.1.now }
+{
+    bytes.split_at(kind_run(bytes, kind))
+}
+
 /// The first line of the bytes, without its line feed, if it is whole and all of its bytes are of the kind.
 #[inline(always)]
 pub fn line_of(bytes: &[u8], kind: ByteKind) -> Option<&[u8]>
@@ -232,17 +240,6 @@ pub fn line_of(bytes: &[u8], kind: ByteKind) -> Option<&[u8]>
         Some(b'\n') => Some(line),
         _ => None,
     }
-}
-
-/// The first byte that is not of the kind, and what is behind it; `None` if all bytes are of the kind.
-#[inline(always)]
-pub fn split_at_other(bytes: &[u8], kind: ByteKind) -> Option<(u8, &[u8])>
-    ensures { MatchOption result (PassesBytes (is_of_kind kind) bytes.now [])
-        (λ p. PassesBytes (is_of_kind kind) bytes.now (p.0 ∷ p.1.now) × (is_of_kind kind p.0 ≡ false)) }
-{
-    let (_, after) = bytes.split_at(kind_run(bytes, kind));
-    let (first, behind) = after.split_first()?;
-    Some((*first, behind))
 }
 
 #[inline(always)]

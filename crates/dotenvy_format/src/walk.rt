@@ -2,11 +2,13 @@
 
 ghost use Rattle.std.specs.Prelude.{◌≡◌, ◌==◌, ◌∷◌, ℕ, List, None, Some, true, false, MatchOption, IsTrue};
 ghost use Rattle.dotenvy_format.specs.Characters.{is_quote, is_space_or_tab, line_feed};
-ghost use Rattle.dotenvy_format.specs.inside.Slices.{is_calm};
+ghost use Rattle.dotenvy_format.specs.inside.Slices.{BeginsLine, is_ascii_in_line, is_calm};
 ghost use Rattle.dotenvy_format.specs.Tokens.{stands_for_itself};
-ghost use Rattle.dotenvy_format.specs.inside.Walk.{leads_outside, leads, behind_line, BeginsComment, BeginsWhole, LeadsOut, WalksTo, WalksText};
+ghost use Rattle.dotenvy_format.specs.inside.Walk.{leads_outside, leads, BeginsComment, WalksTo, WalksText};
+ghost use Rattle.dotenvy_format.specs.inside.LineEnd.{BeginsWhole, LeadsOut, from_line_end, line_start, between, unquoted};
+ghost use Rattle.dotenvy_format.specs.inside.LineEnd.{after_byte, blanks_over, ends_line, hash_leads, is_odd, with_one};
 
-use crate::text::{ByteKind, Class, line_of, row_len, split_at_other, split_first, split_while};
+use crate::text::{ByteKind, Class, line_of, row_len, split_first, split_run, split_while};
 
 /// What the walk is in the middle of.
 #[derive(Clone, Copy, Drop)]
@@ -144,6 +146,82 @@ pub fn walk_text(text: &str, start: LineMode) -> Walked
     }
 }
 
+/// How many blanks come right before a byte outside quotes, as each two of them are a token.
+#[derive(Clone, Copy, Drop)]
+enum Blanks {
+    /// An even number, after a visible character or a whole token.
+    Even,
+    /// An odd number, after one of these.
+    Odd,
+    /// It isn't known: perhaps only white space comes before, or a blank beyond ASCII.
+    Unknown,
+}
+
+// The blanks after a byte that is calm, and no space or tab.
+fn after_byte(byte: u8) -> Blanks
+    ensures { result ≡ after_byte byte }
+{
+    match byte {
+        b'!'..=b'~' => Blanks::Even,
+        _ => Blanks::Unknown,
+    }
+}
+
+fn is_space_or_tab(byte: u8) -> bool
+    ensures { result ≡ is_space_or_tab byte }
+{
+    matches!(byte, b' ' | b'\t')
+}
+
+// The blanks with one more in the row, if there is one more.
+fn with_one(blanks: Blanks, is_more: bool) -> Blanks
+    ensures { result ≡ with_one is_more blanks }
+{
+    if !is_more {
+        return blanks;
+    }
+    match blanks {
+        Blanks::Even => Blanks::Odd,
+        Blanks::Odd => Blanks::Even,
+        Blanks::Unknown => Blanks::Unknown,
+    }
+}
+
+// The blanks after calm bytes, as those at their end tell.
+#[inline(always)]
+fn blanks_over(blanks: Blanks, run: &[u8]) -> Blanks
+    ensures { result ≡ blanks_over blanks run.now }
+{
+    let mut front = run;
+    let mut is_one_more = false;
+    'row: while let Some((last, before)) = front.split_last() {
+        if is_space_or_tab(*last) {
+            is_one_more = !is_one_more;
+            front = before;
+        } else {
+            return with_one(after_byte(*last), is_one_more);
+        }
+    }
+    with_one(blanks, is_one_more)
+}
+
+fn is_odd(blanks: Blanks) -> bool
+    ensures { result ≡ is_odd blanks }
+{
+    match blanks {
+        Blanks::Odd => true,
+        Blanks::Even | Blanks::Unknown => false,
+    }
+}
+
+// Whether the byte after these blanks ends its logical line: a line feed, or the `#` of a comment.
+#[inline(always)]
+fn ends_line(blanks: Blanks, byte: u8) -> bool
+    ensures { result ≡ ends_line (unquoted blanks) byte }
+{
+    byte == b'\n' || (byte == b'#' && is_odd(blanks))
+}
+
 // What is behind the first byte, if it is no line feed.
 #[inline(always)]
 fn after_escaped(bytes: &[u8]) -> Option<&[u8]>
@@ -160,62 +238,107 @@ fn after_escaped(bytes: &[u8]) -> Option<&[u8]>
 #[inline(always)]
 fn after_quotes(bytes: &[u8], quote: u8) -> Option<&[u8]>
     requires { is_quote quote ≡ true }
-    ensures { MatchOption result (behind_line (LineMode.Inside quote) bytes.now ≡ None)
-        (λ rest. LeadsOut (LineMode.Inside quote) bytes.now rest.now) }
+    ensures { MatchOption result (from_line_end (between quote) bytes.now ≡ None)
+        (λ rest. LeadsOut (between quote) bytes.now rest.now) }
 {
     let mut rest = bytes;
     'escapes: loop {
-        let (first, behind) = split_at_other(rest, ByteKind::Quoted(quote))?;
-        if first == quote {
+        let (_, end) = split_run(rest, ByteKind::Quoted(quote));
+        let (first, behind) = end.split_first()?;
+        if *first == quote {
             return Some(behind);
         }
-        if first == b'\n' {
+        if *first == b'\n' {
             return None;
         }
         rest = after_escaped(behind)?;
     }
 }
 
-// What is behind a quoted part or an escape that begins with this byte, if it is whole and on one line.
+// What is behind a `#` after these blanks, if it is surely a part of a token.
 #[inline(always)]
-fn after_part(first: u8, behind: &[u8]) -> Option<&[u8]>
-    requires { (is_calm first ≡ false) × ((first == line_feed) ≡ false) }
-    ensures { MatchOption result (behind_line LineMode.Outside (first ∷ behind.now) ≡ None)
-        (λ rest. LeadsOut LineMode.Outside (first ∷ behind.now) rest.now) }
+fn after_hash(blanks: Blanks, behind: &[u8]) -> Option<&[u8]>
+    ensures { MatchOption result (hash_leads blanks ≡ None)
+        (λ rest. (hash_leads blanks ≡ Some (unquoted Blanks.Even)) × (rest.now ≡ behind.now)) }
+{
+    match blanks {
+        Blanks::Even => Some(behind),
+        Blanks::Odd | Blanks::Unknown => None,
+    }
+}
+
+// What is behind the escape, the quoted part or the `#` that begins with this byte, after these blanks, if it is whole,
+// on one line and no comment.
+#[inline(always)]
+fn after_part(blanks: Blanks, first: u8, behind: &[u8]) -> Option<&[u8]>
+    requires { (is_calm first ≡ false) × (ends_line (unquoted blanks) first ≡ false) }
+    ensures { MatchOption result (from_line_end (unquoted blanks) (first ∷ behind.now) ≡ None)
+        (λ rest. LeadsOut (unquoted blanks) (first ∷ behind.now) rest.now) }
 {
     match first {
-        b'#' => None,
+        b'#' => after_hash(blanks, behind),
         b'\\' => after_escaped(behind),
         _ => after_quotes(behind, first),
     }
 }
 
-// What is behind the line feed of the first line, if the line's quotes are closed, and no `#` is outside them.
+// The bytes from the one on that ends the first logical line, if quotes are closed before it.
 #[inline(always)]
-fn behind_line(bytes: &[u8]) -> Option<&[u8]>
-    ensures { MatchOption result (behind_line LineMode.Outside bytes.now ≡ None)
-        (λ rest. behind_line LineMode.Outside bytes.now ≡ Some rest.now) }
+fn from_line_end(bytes: &[u8]) -> Option<&[u8]>
+    ensures { MatchOption result (from_line_end line_start bytes.now ≡ None)
+        (λ end. from_line_end line_start bytes.now ≡ Some end.now) }
 {
+    let mut blanks = Blanks::Unknown;
     let mut rest = bytes;
     'parts: loop {
-        let (first, behind) = split_at_other(rest, ByteKind::Calm)?;
-        if first == b'\n' {
-            return Some(behind);
+        let (run, end) = split_run(rest, ByteKind::Calm);
+        let (first, behind) = end.split_first()?;
+        let before = blanks_over(blanks, run);
+        if ends_line(before, *first) {
+            return Some(end);
         }
-        rest = after_part(first, behind)?;
+        rest = after_part(before, *first, behind)?;
+        blanks = Blanks::Even;
     }
 }
 
-/// The first line of the bytes, without its line feed, if it is text, its quotes are closed and no `#` is outside them.
-///
-/// Such a line is a logical line by itself, and no comment.
+// What the first line has before its line feed, if that is ASCII: nothing, or a comment.
 #[inline(always)]
-pub fn whole_line(bytes: &[u8]) -> Option<&str>
-    ensures { MatchOption result ((line : List ℕ) → ¬ (BeginsWhole bytes.now line))
-        (λ line. BeginsWhole bytes.now line.now) }
+fn rest_of_line(end: &[u8]) -> Option<&[u8]>
+    ensures { MatchOption result ((line : List ℕ) → ¬ (BeginsLine is_ascii_in_line end.now line))
+        (λ line. BeginsLine is_ascii_in_line end.now line.now) }
 {
-    let later = behind_line(bytes)?;
-    str::from_utf8(&bytes[..bytes.len() - later.len() - 1]).ok()
+    match end.first() {
+        Some(b'\n') => Some(&end[..0]),
+        _ => line_of(end, ByteKind::Ascii),
+    }
+}
+
+/// A physical line that is a logical line by itself, without its line feed.
+#[derive(Clone, Copy)]
+pub struct WholeLine<'a> {
+    /// What the logical line keeps of it, with the carriage return that may be at its end.
+    pub kept: &'a str,
+    /// The comment after that, from its `#` on; empty if there is none.
+    pub rest: &'a [u8],
+}
+
+/// The first line of the bytes, if all of it is there, it is text and a logical line by itself, and its comment is
+/// ASCII.
+///
+/// It is also `None` where only a walk can tell whether a `#` begins a comment: if nothing but white space is before
+/// it, or if the character before it, and before its spaces and tabs, isn't visible ASCII.
+#[inline(always)]
+pub fn whole_line(bytes: &[u8]) -> Option<WholeLine<'_>>
+    ensures { MatchOption result ((kept rest : List ℕ) → ¬ (BeginsWhole bytes.now kept rest))
+        (λ line. BeginsWhole bytes.now line.kept.now line.rest.now) }
+{
+    let end = from_line_end(bytes)?;
+    let rest = rest_of_line(end)?;
+    match str::from_utf8(&bytes[..bytes.len() - end.len()]) {
+        Ok(kept) => Some(WholeLine { kept, rest }),
+        Err(_) => None,
+    }
 }
 
 /// The first line of the bytes, without its line feed, if it is whole, begins with `#` and is ASCII.

@@ -1,6 +1,6 @@
 -- A line that is read whole: using it up with its line feed takes it.
-use Rattle.std.proofs.Common.{◌≡◌, ℕ, ◌+◌, ◌≤◌, ◌<◌, Bool, true, List, [], ◌∷◌, ◌++◌, length, take, drop, refl, ap, ◌∙◌, inl, arith, Some}
-use Rattle.std.proofs.Common.{append_assoc, length-append}
+use Rattle.std.proofs.Common.{◌≡◌, ℕ, ◌+◌, ◌≤◌, ◌<◌, Bool, true, List, [], ◌∷◌, ◌++◌, length, take, drop, refl, ap, ◌∙◌}
+use Rattle.std.proofs.Common.{append_assoc, arith, inl, length-append, Some}
 use Rattle.std.specs.Prelude.{IsUtf8}
 use Rattle.std.specs.Str.{chars, skip_leading_whitespace}
 use Rattle.std.proofs.Math.Utf8.{encode}
@@ -12,8 +12,10 @@ use Rattle.dotenvy_format.specs.Characters.{begins_with, hash, line_feed}
 use Rattle.dotenvy_format.specs.LogicalLine.{without_carriage_return}
 use Rattle.dotenvy_format.specs.PhysicalLines.{no_line_feed}
 use Rattle.dotenvy_format.specs.inside.Slices.{BeginsLine}
-use Rattle.dotenvy_format.specs.inside.Walk.{BeginsComment, BeginsWhole}
+use Rattle.dotenvy_format.specs.inside.LineEnd.{BeginsWhole}
+use Rattle.dotenvy_format.specs.inside.Walk.{BeginsComment}
 use Rattle.dotenvy_format.proofs.lines.WholeLines.{whole_begins, whole_is_shown, whole_line_ends, whole_line_none}
+use Rattle.dotenvy_format.proofs.lines.WholeLines.{whole_text}
 use Rattle.dotenvy_format.proofs.lines.CommentLines.{comment_none, comment_seen, comment_text}
 use Rattle.dotenvy_base.specs.Source.{Ahead}
 use Rattle.dotenvy_lines.specs.declared.physical_line.Taken.TheVariants.{Ended as taken_ended}
@@ -77,24 +79,36 @@ whole_taken {a = a} {s = s} {line = line} is =
       };
     }
 
--- a line with closed quotes ended its logical line
-pub closed_taken : {a : Ahead} {s : InputState} {unread line : List ℕ} (seen : List ℕ) → unread ≡ take s.unread a.bytes
-    → length unread ≡ s.unread → s.left ≡ Some a → BeginsWhole unread line
-    → LineMakes Outside seen a s taken_ended (without_carriage_return (seen ++ chars line))
-    (used_up (length line + 1) s)
-closed_taken {line = line} seen told len left is = (
-  line ++ line_feed ∷ [],
+-- a line that is a logical line by itself ended it
+pub closed_taken : {a : Ahead} {s : InputState} {unread kept rest : List ℕ} (seen : List ℕ)
+    → unread ≡ take s.unread a.bytes → length unread ≡ s.unread → s.left ≡ Some a → BeginsWhole unread kept rest
+    → LineMakes Outside seen a s taken_ended (without_carriage_return (seen ++ chars kept))
+    (used_up (length kept + length rest + 1) s)
+closed_taken {kept = kept} {rest = rest} seen told len left is = rw (← length-append kept rest) (
+  (kept ++ rest) ++ line_feed ∷ [],
   whole_taken (record {
     told = told;
     len = len;
     left = left;
-    text = is.text;
+    text = whole_text is;
     none = whole_line_none is;
     begins = whole_begins is;
   }),
   λ _. whole_is_shown is,
   whole_line_ends seen is,
 )
+
+-- it is no more than the bytes that begin with it
+pub closed_within : {unread kept rest : List ℕ} → BeginsWhole unread kept rest
+    → length kept + length rest + 1 ≤ length unread
+closed_within {kept = kept} {rest = rest} is = rw (← length-append kept rest) (read_whole (whole_begins is))
+
+-- with it used up, less is left to use
+pub closed_falls : {unread kept rest : List ℕ} (s : InputState) → length unread ≡ s.unread
+    → BeginsWhole unread kept rest
+    → input_measure (used_up (length kept + length rest + 1) s) < input_measure s
+closed_falls {kept = kept} {rest = rest} s len is =
+    rw (← length-append kept rest) (whole_falls s len (whole_begins is))
 
 -- a comment was taken
 pub comment_taken : {a : Ahead} {s : InputState} {unread line : List ℕ} → unread ≡ take s.unread a.bytes

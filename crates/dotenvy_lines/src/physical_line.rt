@@ -251,8 +251,8 @@ fn take_comment<R: Source, A: Allocator>(input: &mut Input<R, A>) -> bool
     }
 }
 
-// Takes the next physical line, if all of it is read, its quotes are closed and no `#` is outside them. Then it ends its
-// logical line.
+// Takes the next physical line, if all of it is read and it is a logical line by itself.
+#[tactic(auto, using(crate::proofs::WholeLines::closed_within))]
 #[inline(always)]
 fn take_whole<R: Source, A: Allocator>(
     input: &mut Input<R, A>,
@@ -267,8 +267,9 @@ fn take_whole<R: Source, A: Allocator>(
     let Some(line) = whole_line(input.unread()) else {
         return Ok(false);
     };
-    let len = line.len();
-    text.push_str(line)?;
+    let len = line.kept.len() + line.rest.len();
+    text.push_str(line.kept)?;
+    // Before a comment there is a blank, and no carriage return.
     drop_carriage_return(text);
     input.use_up(len + 1);
     Ok(true)

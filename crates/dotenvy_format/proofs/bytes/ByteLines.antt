@@ -1,13 +1,13 @@
 -- The first line of bytes, found as the run of bytes before a line feed.
-use Rattle.std.proofs.Common.{◌≡◌, ℕ, suc, ◌+◌, ◌∙◌, Bool, true, false, List, [], ◌∷◌, length, take, drop}
+use Rattle.std.proofs.Common.{◌≡◌, ℕ, suc, ◌+◌, ◌∙◌, Bool, true, false, not, List, [], ◌∷◌, length, take, drop}
 use Rattle.std.proofs.Common.{sym, refl, arith, Some, inl, inr}
 use Rattle.std.specs.Prelude.{slice_get}
 use Rattle.std.specs.List.{list_all, prefix_len}
 use Rattle.std.proofs.lemmas.Bool.{cases_Bool}
 use Rattle.std.proofs.Math.Seq.{take-append_seam, drop-append_seam}
 use Rattle.std.proofs.lemmas.List.{take-append-drop}
-use Rattle.dotenvy_format.specs.Characters.{line_feed}
-use Rattle.dotenvy_format.specs.inside.Slices.{BeginsLine}
+use Rattle.dotenvy_format.specs.Characters.{begins_passing, line_feed}
+use Rattle.dotenvy_format.specs.inside.Slices.{BeginsLine, IsSpan}
 use Rattle.dotenvy_format.proofs.bytes.ByteRuns.{passed_over}
 
 -- the run at the front passes
@@ -19,6 +19,26 @@ run_passes passes (b ∷ bytes) =
       | inl is ↦ rw (is, step, is) (run_passes passes bytes)
       | inr fails ↦ rw fails refl
     ]
+
+-- no byte behind it does
+run_longest : (passes : ℕ → Bool) (bytes : List ℕ)
+    → not (begins_passing passes (drop (prefix_len passes bytes) bytes)) ≡ true
+run_longest passes [] = refl
+run_longest passes (b ∷ bytes) =
+    let step : 1 + prefix_len passes bytes ≡ suc (prefix_len passes bytes) = omega arith in
+    elim (cases_Bool (passes b)) [
+      | inl is ↦ rw (is, step) (run_longest passes bytes)
+      | inr fails ↦ rw (fails, fails) refl
+    ]
+
+-- so it and the bytes behind it are a span
+pub run_span : {passes : ℕ → Bool} {bytes run rest : List ℕ} {n : ℕ} → n ≡ prefix_len passes bytes → run ≡ take n bytes
+    → rest ≡ drop n bytes → IsSpan passes bytes run rest
+run_span {passes} {bytes} e r d = record {
+  spelled = rw (r, d, e) (sym (take-append-drop (prefix_len passes bytes) bytes));
+  pass = rw (r, e) (run_passes passes bytes);
+  longest = rw (d, e) (run_longest passes bytes);
+}
 
 -- where a line feed is behind the run at the front, the run is the first line
 pub line_found : {passes : ℕ → Bool} {bytes front : List ℕ} (later : List ℕ)

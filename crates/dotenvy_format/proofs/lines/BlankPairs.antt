@@ -10,11 +10,11 @@ use Rattle.dotenvy_format.specs.inside.Walk.{going, leads, walk, WalksTo}
 use Rattle.dotenvy_format.proofs.bytes.AsciiRows.{row, cut_row}
 
 -- outside quotes a blank leads to the mode after one
-blank_begins : (c : ℕ) → is_space_or_tab c ≡ true → leads Outside c ≡ Some AfterBlank
+pub blank_begins : (c : ℕ) → is_space_or_tab c ≡ true → leads Outside c ≡ Some AfterBlank
 blank_begins c h = grind (arith, nat_tests)
 
 -- a second blank ends the token that the first one began
-blank_ends : (c : ℕ) → is_space_or_tab c ≡ true → leads AfterBlank c ≡ Some Outside
+pub blank_ends : (c : ℕ) → is_space_or_tab c ≡ true → leads AfterBlank c ≡ Some Outside
 blank_ends c h = grind (arith, nat_tests)
 
 -- a blank is an ASCII character

@@ -19,7 +19,7 @@ small : (b : ℕ) → is_ascii_in_line b ≡ true → b < 128
 small b h = grind (arith, nat_tests)
 
 -- bytes that pass are ASCII
-ascii_bytes : (line : List ℕ) → list_all is_ascii_in_line line ≡ true → IsAscii line
+pub ascii_bytes : (line : List ℕ) → list_all is_ascii_in_line line ≡ true → IsAscii line
 ascii_bytes [] h = IsAscii-nil
 ascii_bytes (b ∷ line) h =
     let parts = and_parts (is_ascii_in_line b) (list_all is_ascii_in_line line) h in
@@ -30,7 +30,7 @@ pub comment_text : {bytes line : List ℕ} → BeginsComment bytes line → IsUt
 comment_text {line = line} is = IsUtf8-from_ascii line (ascii_bytes line is.1.pass)
 
 -- it has no line feed
-none_among : (line : List ℕ) → list_all is_ascii_in_line line ≡ true → no_line_feed line ≡ true
+pub none_among : (line : List ℕ) → list_all is_ascii_in_line line ≡ true → no_line_feed line ≡ true
 none_among [] h = refl
 none_among (b ∷ line) h = grind (arith, nat_tests, none_among line)
 

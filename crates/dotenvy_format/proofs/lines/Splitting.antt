@@ -116,7 +116,7 @@ open_more {q = q} x o is = record {
 }
 
 -- after a whole token: where a line feed, a backslash, a quote, a blank and another character lead
-outside_leads : (c : ℕ) →
+pub outside_leads : (c : ℕ) →
     ((c ≡ line_feed) × (leads_outside c ≡ None))
     ⊎ (((c ≡ backslash) × (leads_outside c ≡ Some Escaping))
     ⊎ (((is_quote c ≡ true) × (leads_outside c ≡ Some (Inside c)))
@@ -125,20 +125,20 @@ outside_leads : (c : ℕ) →
 outside_leads c = grind (arith, nat_tests)
 
 -- after a backslash: where a line feed and another character lead
-escaping_leads : (c : ℕ) →
+pub escaping_leads : (c : ℕ) →
     ((c ≡ line_feed) × (leads Escaping c ≡ None))
     ⊎ ((not (c == line_feed) ≡ true) × (leads Escaping c ≡ Some Outside))
 escaping_leads c = grind (arith, nat_tests)
 
 -- in quotes: where the quote, a backslash and another character lead
-inside_leads : (q c : ℕ) →
+pub inside_leads : (q c : ℕ) →
     ((c ≡ q) × (leads (Inside q) c ≡ Some Outside))
     ⊎ (((c ≡ backslash) × (leads (Inside q) c ≡ Some (InsideEscaping q)))
     ⊎ ((is_quoted q (one c) ≡ true) × (leads (Inside q) c ≡ Some (Inside q))))
 inside_leads q c = grind (arith, nat_tests)
 
 -- after a blank: where `#`, a character before which the blank stands alone, and another character lead
-blank_leads : (c : ℕ) →
+pub blank_leads : (c : ℕ) →
     ((c ≡ hash) × (leads AfterBlank c ≡ None))
     ⊎ (((stands_for_itself c ≡ true) × (leads AfterBlank c ≡ leads_outside c))
     ⊎ ((not (c == hash || stands_for_itself c) ≡ true) × (leads AfterBlank c ≡ Some Outside)))

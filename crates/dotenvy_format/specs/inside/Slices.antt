@@ -78,7 +78,7 @@ pub record BeginsWith (text : List ℕ) (c : ℕ) (rest : List ℕ) : Type 0 whe
   pub follows : IsUtf8 rest
   pub characters : chars text ≡ c ∷ chars rest
 
--- the text is the longest front of characters that pass the test, and the rest
+-- the text, or the bytes, are the longest front of characters that pass the test, and the rest
 pub record IsSpan (passes : ℕ → Bool) (text front rest : List ℕ) : Type 0 where
   pub spelled : text ≡ front ++ rest
   pub pass : IsTrue (list_all passes front)

@@ -1,5 +1,5 @@
 -- How the splitter walks over characters. Contracts of private functions cite it; proofs/lines/Splitting reads tokens.
-use Rattle.std.specs.Prelude.{ℕ, ◌≡◌, ◌≤◌, ◌<◌, ◌==◌, List, [], ◌∷◌, ◌++◌, length, take, true}
+use Rattle.std.specs.Prelude.{ℕ, ◌≡◌, ◌≤◌, ◌==◌, true, List, [], ◌∷◌, ◌++◌, length, take}
 use Rattle.std.specs.Prelude.{Option, Some, None, if◌then◌else◌}
 use Rattle.dotenvy_format.specs.declared.walk.LineMode.{LineMode}
 use Rattle.dotenvy_format.specs.declared.walk.LineMode.TheVariants.{Outside, Escaping, Inside}
@@ -57,37 +57,6 @@ WalksText m text (EndedAt at c) =
     (at ≤ length text) × IsCharBoundary text at
     × ((seen : List ℕ) →
     walk m seen (chars text) ≡ ended (kept_before c (seen ++ chars (take at text))))
-
--- the bytes behind the line feed that ends a line, walked from a mode; `None` where none comes, or where a line feed in
--- quotes or after a backslash comes first, or a `#` outside quotes without a backslash
-abbrev pub behind_line : LineMode → List ℕ → Option (List ℕ)
-behind_line m [] = None
-behind_line Outside (b ∷ bytes) =
-    if b == line_feed then Some bytes else
-    if b == hash then None else
-    if b == backslash then behind_line Escaping bytes else
-    if is_quote b then behind_line (Inside b) bytes else behind_line Outside bytes
-behind_line Escaping (b ∷ bytes) = if b == line_feed then None else behind_line Outside bytes
-behind_line (Inside quote) (b ∷ bytes) =
-    if b == line_feed then None else
-    if b == quote then behind_line Outside bytes else
-    if b == backslash then behind_line (InsideEscaping quote) bytes else
-    behind_line (Inside quote) bytes
-behind_line (InsideEscaping quote) (b ∷ bytes) =
-    if b == line_feed then None else behind_line (Inside quote) bytes
-behind_line AfterBlank (b ∷ bytes) = None
-
--- a walk from the mode comes outside quotes, with this rest of the bytes before it
-pub record LeadsOut (m : LineMode) (bytes rest : List ℕ) : Type 0 where
-  pub same : behind_line m bytes ≡ behind_line Outside rest
-  pub shorter : length rest < length bytes
-
--- the bytes begin with this line and its line feed; the line is text, its quotes are closed, and no `#` is outside
-pub record BeginsWhole (bytes line : List ℕ) : Type 0 where
-  pub text : IsUtf8 line
-  pub later : List ℕ
-  pub begins : bytes ≡ line ++ line_feed ∷ later
-  pub ends : behind_line Outside bytes ≡ Some later
 
 -- the bytes begin with this line and its line feed; the line is ASCII, and begins with `#`
 abbrev pub BeginsComment : List ℕ → List ℕ → Type 0

@@ -18,7 +18,8 @@ use Rattle.dotenvy_lines.specs.declared.physical_line.Taken.TheVariants.{Comment
 use Rattle.dotenvy_lines.specs.declared.physical_line.Taken.TheVariants.{Broken as taken_broken}
 use Rattle.dotenvy_format.specs.Characters.{begins_with, hash}
 use Rattle.dotenvy_format.specs.PhysicalLines.{no_line_feed, is_whole_line}
-use Rattle.dotenvy_format.specs.inside.Walk.{walk, going, ended, BeginsComment, BeginsWhole}
+use Rattle.dotenvy_format.specs.inside.LineEnd.{BeginsWhole}
+use Rattle.dotenvy_format.specs.inside.Walk.{walk, going, ended, BeginsComment}
 use Rattle.dotenvy_base.specs.Source.{Ahead}
 use Rattle.dotenvy_lines.specs.Input.{InputState, IsFinal, input_measure}
 use Rattle.dotenvy_lines.specs.inside.InputSteps.{TakesLine}
@@ -157,15 +158,15 @@ abbrev pub TakesLineOn : {A : Type 0} → LineMode → List ℕ → Ahead → In
 TakesLineOn m seen a s (Ok made) now t = LineMakes m seen a s made now t
 TakesLineOn m seen a s (Err e) now t = IsFinal a s (λ bytes. no_line_feed bytes ≡ true) e t
 
--- a line with closed quotes was taken, and ended its logical line; or none is next in what was read, and none was used
+-- a line that is a logical line by itself was taken; or none is next in what was read, and nothing was used
 abbrev pub TakesWhole : List ℕ → InputState → Bool → List ℕ → InputState → Type 0
 TakesWhole seen s true now t =
     (input_measure t < input_measure s)
     × ((a : Ahead) → s.left ≡ Some a → LineMakes Outside seen a s taken_ended now t)
 TakesWhole seen s false now t =
     (now ≡ seen) × (t ≡ s)
-    × ((a : Ahead) → s.left ≡ Some a → (line : List ℕ) →
-    ¬ (BeginsWhole (take s.unread a.bytes) line))
+    × ((a : Ahead) → s.left ≡ Some a → (kept rest : List ℕ) →
+    ¬ (BeginsWhole (take s.unread a.bytes) kept rest))
 
 -- a comment was taken; or none is next in what was read, and nothing was used
 abbrev pub TakesComment : InputState → Bool → InputState → Type 0

@@ -1,23 +1,36 @@
-use Rattle.std.proofs.Common.{refl, arith}
-use Rattle.dotenvy_format.proofs.lines.WholeLines.{found_line, found_shorter, only_line, read_or_none}
+use Rattle.std.proofs.Common.{◌≡◌, ◌∙◌, refl, sym, arith, Some, None}
+use Rattle.dotenvy_format.proofs.lines.WholeLines.{found_kept, found_shorter, only_end, only_kept}
 use Rattle.dotenvy_format.proofs.walk.whole_line.Goals as goal
 
 pub overflow_sub-bytes : goal.overflow_sub-bytes
-overflow_sub-bytes c =
-    omega (arith, found_shorter c.args.bytes.now c.in_ok-later.later.now c.in_ok-later.ensures)
+overflow_sub-bytes c = omega (arith, found_shorter c.args.bytes.now c.in_ok-end.end.now c.in_ok-end.ensures)
 
 pub slice_bounds-from_utf8-count : goal.slice_bounds-from_utf8-count
 slice_bounds-from_utf8-count c =
-    omega (arith, found_shorter c.args.bytes.now c.in_ok-later.later.now c.in_ok-later.ensures)
+    omega (arith, found_shorter c.args.bytes.now c.in_ok-end.end.now c.in_ok-end.ensures)
 
-pub returns : goal.returns
-returns c =
-    let found = c.in_ok-later.ensures in
-    rw c.ok.ensures.value (read_or_none c.from_utf8.result c.from_utf8.ensures.cases
-    (λ e fails line is. fails.0 (rw (only_line _ found refl is) at is.text))
-    (λ text reads. rw reads.0 record {
+pub returns-in_err-end : goal.returns-in_err-end
+returns-in_err-end c =
+    rw c.from_residual.ensures (λ kept rest is.
+    let none : None ≡ Some is.end = sym c.in_err-end.ensures ∙ is.ends in cc)
+
+pub returns-in_err-rest : goal.returns-in_err-rest
+returns-in_err-rest c =
+    rw c.from_residual-in_err-rest.ensures (λ kept rest is.
+    c.in_err-rest.ensures rest (rw (only_end c.in_ok-end.ensures is) at is.line))
+
+pub returns-in-Ok : goal.returns-in-Ok
+returns-in-Ok c =
+    let ends = c.in_ok-end.ensures in
+    let reads = c.in-Ok.ensures.cases in
+    rw reads.0 record {
       text = reads.1;
-      later = c.in_ok-later.later.now;
-      begins = found_line _ found refl;
-      ends = found;
-    }))
+      end = c.in_ok-end.end.now;
+      begins = found_kept _ ends refl;
+      ends = ends;
+      line = c.in_ok-rest.ensures;
+    }
+
+pub returns-in-Err : goal.returns-in-Err
+returns-in-Err c =
+    λ kept rest is. c.in-Err.ensures.cases.0 (rw (only_kept _ c.in_ok-end.ensures refl is) at is.text)
