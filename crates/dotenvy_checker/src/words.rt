@@ -65,10 +65,11 @@ pub struct Words<A: Allocator = Global> {
 ///
 /// The error is `Usage` for words that are refused, `Value` for a value that is, or `Memory`.
 ///
-/// The word of `Usage` is the first that is refused: the words before it are not refused, and with it they are. The
-/// kind is one of those of the words up to it; only if these ask for help or the version, it is one of all words.
-/// `Value` has the first value that names no kind or format, or that would allow an error; of several options the one
-/// of `--allow`, or else of `--deny`, or else of `--format`.
+/// Words ask for help if `clap` takes those before the first `-h` or `--help`, and for the version likewise: a word
+/// with more letters, such as `-qh`, asks for neither. The word of `Usage` is the first that is refused: the words
+/// before it are not refused, and with it they are. The kind is a mistake that `clap` finds in the words up to it, or
+/// an unknown option, if it finds help or the version there. `Value` has the first value that names no kind or format,
+/// or that would allow an error; of several options the one of `--allow`, or else of `--deny`, or else of `--format`.
 ///
 /// ```
 /// // of the words `--next a.env b.env`: the files a.env and b.env, in the second dialect

@@ -1,4 +1,5 @@
-//! Cuts texts after runs of characters of one class. Runs are searched by bytes, where that finds the same end.
+//! Cuts texts after runs of characters of one class, and bytes after runs of one kind or after their first line. Runs
+//! are searched by bytes, where that finds the same end.
 
 ghost use Rattle.std.specs.Prelude.{◌≡◌, ◌==◌, ◌++◌, ℕ, List, [], not, false, length, unwrap_or, MatchOption};
 ghost use Rattle.std.specs.Str.{chars, IsUtf8};

@@ -1,4 +1,5 @@
-//! Walks over the characters of a physical line to the end of its logical line (docs/GRAMMAR.md, "Logical lines").
+//! Walks over the characters of a physical line to the end of its logical line (docs/GRAMMAR.md, "Logical lines"), and
+//! sees which lines need no walk: `whole_line`, `comment_line`.
 
 ghost use Rattle.std.specs.Prelude.{◌≡◌, ◌==◌, ◌∷◌, ℕ, List, None, Some, true, false, MatchOption, IsTrue};
 ghost use Rattle.dotenvy_format.specs.Characters.{is_quote, is_space_or_tab, line_feed};

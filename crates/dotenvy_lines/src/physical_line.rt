@@ -1,4 +1,4 @@
-//! One physical line, in the pieces in which it is read, as a part of a logical line.
+//! One physical line, at once or in the pieces in which it is read, as a part of a logical line.
 
 ghost use Rattle.std.specs.Prelude.{◌≡◌, ◌≤◌, ◌<◌, IfOk, IfErr, IsOk, OnOk, string_bytes};
 ghost use Rattle.std.specs.Str.{chars};
