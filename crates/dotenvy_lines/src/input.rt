@@ -86,6 +86,14 @@ impl<R: Source, A: Allocator> Input<R, A> {
         reader
     }
 
+    /// Its source. Bytes that were read and not used are the input's.
+    pub fn reader(&self) -> &R
+        ensures calls { (R.told result.now).calls ≡ self.now.calls }
+        ensures references { (R.told result.now).references ≡ self.now.references }
+    {
+        &self.reader
+    }
+
     /// The allocator of the buffer.
     pub fn allocator(&self) -> &A {
         self.buffer.allocator()

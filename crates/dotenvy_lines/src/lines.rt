@@ -163,6 +163,14 @@ impl<R: Source, A: Allocator> Splitter<R, A> {
         }
     }
 
+    /// Its source, of which bytes may have been read that are not used yet.
+    pub fn reader(&self) -> &R
+        ensures calls { (R.told result.now).calls ≡ self.now.lines.input.calls }
+        ensures references { (R.told result.now).references ≡ self.now.lines.input.references }
+    {
+        self.input.reader()
+    }
+
     /// Gives its source back. Bytes that were read and not used are lost.
     pub fn into_reader(self) -> R
         ensures calls { (R.told result).calls ≡ self.lines.input.calls }
