@@ -1,11 +1,14 @@
 -- A file that was checked, and a load of it.
 use Rattle.std.proofs.Common.{◌≡◌, ℕ, ◌+◌, List, [], ◌∷◌, ◌∙◌, ap, append-nil, inl, inr, false, Result, Ok, Err, refl}
-use Rattle.std.proofs.Common.{map, sym, ◌||◌}
+use Rattle.std.proofs.Common.{arith, map, sym, true, ◌&&◌, ◌==◌, ◌||◌}
 use Rattle.std.proofs.lemmas.Bool.{cases_Bool}
 use Rattle.dotenvy_base.specs.declared.errors.Error.{Error}
 use Rattle.std.specs.List.{list_any}
-use Rattle.dotenvy_findings.specs.Comments.{Allow}
+use Rattle.dotenvy_findings.specs.declared.bytes.BadByte.{BadByte}
+use Rattle.dotenvy_findings.specs.declared.finding.Finding.{Finding}
 use Rattle.dotenvy_findings.specs.declared.kind.Kind.{Kind}
+use Rattle.dotenvy_findings.specs.declared.kind.Kind.TheVariants as kind
+use Rattle.dotenvy_findings.specs.Kinds.{is_fault}
 use Rattle.dotenvy_format.specs.Entries.{Failure}
 use Rattle.dotenvy_format.specs.Loads.{load_result, override_result}
 use Rattle.dotenvy_format.specs.Marks.{without_mark}
@@ -17,9 +20,9 @@ use Rattle.dotenvy_items.specs.Meaning.{values_of, recalled_of}
 use Rattle.dotenvy_items.proofs.WholeLoads.{load_takes_all, override_takes_all}
 use Rattle.dotenvy_checker.specs.declared.report.Found.{Found}
 use Rattle.dotenvy_checker.specs.Checks.{file_setting}
-use Rattle.dotenvy_checker.specs.Findings.{Declared, Remark, Row, Setting, SoFar, comments_from, findings, findings_of}
-use Rattle.dotenvy_checker.specs.Findings.{is_allowed_on, is_among, is_error, lines_of, reported, resolved, settled}
-use Rattle.dotenvy_checker.specs.Findings.{shown, told_of}
+use Rattle.dotenvy_checker.specs.Findings.{AreTold, Declared, Remark, Row, Setting, SoFar, broken_kind, findings}
+use Rattle.dotenvy_checker.specs.Findings.{findings_of, is_allowed_on, is_among, is_broken, is_error, lines_of}
+use Rattle.dotenvy_checker.specs.Findings.{placed_one, resolved, settled, settled_all, shown}
 use Rattle.dotenvy_checker.specs.Laws.{CheckedFilesLoad, LoadsChecked, LoadsIfNoError}
 use Rattle.dotenvy_checker.proofs.FoundFaults.{faults_stop_loads}
 use Rattle.dotenvy_checker.proofs.NumberedLines.{numbered_entries}
@@ -31,19 +34,42 @@ ok_said (Ok done) answer is e = refl
 ok_said (Err failure) (Ok done) is e = absurd is
 ok_said (Err failure) (Err error) is e = cc
 
+-- a line that is no text is a fault, whatever the file seems to be
+broken_fault : (k : Kind) → is_fault (broken_kind k) ≡ true
+broken_fault kind.Utf16 = refl
+broken_fault kind.Latin1 = refl
+broken_fault k = refl
+
+-- the kind of a line that is no text is a fault
+broken_is_fault : (k : Kind) → is_broken k ≡ true → is_fault k ≡ true
+broken_is_fault kind.NotUtf8 is = refl
+broken_is_fault k is = cc
+
+-- a finding is an error, or none, at the place of a byte that is no text, too
+placed_error : (bad : List BadByte) (finding : Finding) → is_error (placed_one bad finding) ≡ is_error finding
+placed_error [] finding = refl
+placed_error (bad ∷ others) finding =
+    elim (cases_Bool (is_broken finding.kind && bad.place.line == finding.place.line)) [
+      | inl is ↦
+          let broken : is_broken finding.kind ≡ true = grind (arith, is) in
+          rw (is, broken_fault bad.hint, broken_is_fault finding.kind broken) refl
+      | inr passes ↦ rw passes refl
+    ]
+
 -- what is told has an error exactly where what is found has one
-errors_told : (allowed : List Kind) (comments : List Allow) (remarks : List Remark) →
-    list_any is_error (shown (told_of allowed comments remarks)) ≡ list_any is_error (shown remarks)
-errors_told allowed comments [] = refl
-errors_told allowed comments (remark ∷ remarks) =
-    let left = comments_from remark.above comments in
+errors_told : (allowed : List Kind) (remarks told : List Remark) → AreTold allowed remarks told →
+    list_any is_error (shown told) ≡ list_any is_error (shown remarks)
+errors_told allowed [] told is = rw is refl
+errors_told allowed (remark ∷ remarks) told (comments, bad, others, are, is) =
     let finding = remark.finding in
+    let later = errors_told allowed remarks others are in
+    let same = placed_error bad finding in
     elim (cases_Bool (is_error finding)) [
-      | inl is ↦ rw (is, is) refl
+      | inl error ↦ rw (is, error, same, error) refl
       | inr passes ↦
-          elim (cases_Bool (is_among finding.kind allowed || is_allowed_on remark.above finding.kind left)) [
-            | inl hidden ↦ rw (passes, hidden) (errors_told allowed left remarks)
-            | inr other ↦ rw (passes, other, passes) (errors_told allowed left remarks)
+          elim (cases_Bool (is_among finding.kind allowed || is_allowed_on remark.above finding.kind comments)) [
+            | inl hidden ↦ rw (is, passes, hidden) later
+            | inr other ↦ rw (is, passes, other, same, passes) later
           ]
     ]
 
@@ -53,11 +79,11 @@ settled_shown : (declared : Declared) (remarks : List Remark) →
 settled_shown declared [] = refl
 settled_shown declared (remark ∷ remarks) = rw (settled_shown declared remarks) refl
 
--- what is reported has an error exactly where what is found has one
-errors_reported : (allowed : List Kind) (comments : List Allow) (all : SoFar) →
-    list_any is_error (shown (reported allowed comments all)) ≡ list_any is_error (findings_of all)
-errors_reported allowed comments all =
-    errors_told allowed comments (map (settled all.declared) all.remarks)
+-- what is told of all that is found has an error exactly where that has one
+errors_reported : (allowed : List Kind) (all : SoFar) (told : List Remark) → AreTold allowed (settled_all all) told →
+    list_any is_error (shown told) ≡ list_any is_error (findings_of all)
+errors_reported allowed all told are =
+    errors_told allowed (settled_all all) told are
     ∙ ap (list_any is_error) (settled_shown all.declared all.remarks)
 
 -- a rule loads the lines of a file exactly where no error is found
@@ -69,7 +95,7 @@ StopsAtErrors rule =
 -- a rule that loads all that is left, and entries exactly where no error is found, loads what was checked
 loads_checked : {A W : Type 0} (rule : Rule) → LoadsAllLeft rule A → StopsAtErrors rule → LoadsChecked rule A W
 loads_checked {A = A} rule takes_all if_no_error sink a outcome answer k =
-    let (all, (rows, (no_fault, has), are_rows, is_all), (comments, tells, sends)) = k.reports in
+    let (all, (rows, (no_fault, has), are_rows, is_all), (remarks, tells, (are_told, sends))) = k.reports in
     let setting = file_setting k.names k.checked.dialect k.how.text in
     let number = k.checked.lines.lines_taken + 1 in
     let entries = entries_of (lines_of rows) in
@@ -82,7 +108,7 @@ loads_checked {A = A} rule takes_all if_no_error sink a outcome answer k =
     if_no_error setting number (without_mark a.bytes) rows refl has (values_of k.old) (recalled_of k.loaded.remembered)
     in
     let errors : outcome.found.faults ≡ list_any is_error (findings setting rows) =
-    ap (λ (found : Found). found.faults) tells.found ∙ errors_reported k.how.allowed.now comments all
+    ap (λ (found : Found). found.faults) tells.found ∙ errors_reported k.how.allowed.now all remarks are_told
     ∙ ap (λ (all : SoFar). list_any is_error (findings_of all)) is_all in (
       λ none. (loaded.answer, loads.1 (sym errors ∙ none), said),
       λ ok. errors ∙ loads.0 (ok_said loaded.answer answer said ok),

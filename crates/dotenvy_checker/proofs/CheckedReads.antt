@@ -1,11 +1,12 @@
 -- The lines that a checker reads, one after another, and how its reading ends.
 use Rattle.std.proofs.Common.{◌≡◌, ◌≢◌, ℕ, ◌+◌, ◌-◌, ◌<◌, ◌≤◌, ◌⊎◌, inl, inr, List, [], ◌∷◌, ◌++◌, length, Option, Some, None}
-use Rattle.std.proofs.Common.{Result, Ok, Err, refl, sym, ap, ◌∙◌, string_bytes, Bool, true, false, arith}
-use Rattle.std.specs.Prelude.{◌^◌, IsErrAnd}
+use Rattle.std.proofs.Common.{Result, Ok, Err, refl, sym, ap, ◌∙◌, string_bytes, Bool, true, false, arith, map}
+use Rattle.std.specs.Prelude.{◌^◌}
+use Rattle.std.specs.List.{AllByRecursion}
 use Rattle.std.specs.Str.{chars}
 use Rattle.std.specs.declared.io.ErrorKind.TheVariants.{InvalidData}
 use Rattle.std.proofs.Math.Nat.{lt_of_not-le}
-use Rattle.std.proofs.lemmas.List.{drop_all, length-drop, map-append}
+use Rattle.std.proofs.lemmas.List.{append_assoc, drop_all, length-drop, map-append}
 use Rattle.std.proofs.lemmas.Str.{chars-nil}
 use Rattle.dotenvy_base.specs.declared.errors.Error.{Error}
 use Rattle.dotenvy_base.specs.declared.errors.Error.TheVariants as error
@@ -20,7 +21,7 @@ use Rattle.dotenvy_format.specs.Outcome.{Nothing}
 use Rattle.dotenvy_format.proofs.lines.NextLine.{broken_within}
 use Rattle.dotenvy_format.proofs.statements.Outcomes.{one_outcome}
 use Rattle.dotenvy_lines.specs.declared.lines.Stage.TheVariants.{Open, Failed}
-use Rattle.dotenvy_lines.specs.Input.{InputState, IsFinal, DropsMark, begins_mark}
+use Rattle.dotenvy_lines.specs.Input.{InputState, IsFinal, IsTold, DropsMark, begins_mark}
 use Rattle.dotenvy_lines.specs.Lines.{LinesState, WhereOpen, whole_lines}
 use Rattle.dotenvy_lines.specs.Numbered.{FileLine, HasNumbered, DecidesNumbered}
 use Rattle.dotenvy_lines.specs.inside.NextLine.{AdvanceIs}
@@ -30,38 +31,53 @@ use Rattle.dotenvy_lines.proofs.DroppedMarks.{Unmarks, unmarks, mark_decides, ma
 use Rattle.dotenvy_lines.proofs.LineEntries.{no_lines}
 use Rattle.dotenvy_lines.proofs.LinesRead.{Read, TakesLine, Answers, file_line, read_none, read_more}
 use Rattle.dotenvy_lines.proofs.LinesRead.{next_outcome, read_end, read_final}
-use Rattle.dotenvy_findings.specs.Readings.{Known}
-use Rattle.dotenvy_items.specs.Iter.{IterState}
+use Rattle.dotenvy_findings.specs.declared.kind.Kind.{Kind}
 use Rattle.dotenvy_items.specs.LoadStops.{unmarked}
 use Rattle.dotenvy_items.proofs.NextItems.{goes_on_lines}
+use Rattle.dotenvy_checker.specs.declared.file_report.FileReport.{FileReport}
 use Rattle.dotenvy_checker.specs.declared.lines.Checker.{Checker}
-use Rattle.dotenvy_checker.specs.declared.check.Checked.{Checked}
 use Rattle.dotenvy_checker.specs.declared.failure.Stop.{Stop}
 use Rattle.dotenvy_checker.specs.declared.failure.Stop.TheVariants as stop
-use Rattle.dotenvy_checker.specs.declared.report.Reporting.{Reporting}
-use Rattle.dotenvy_checker.specs.Checks.{file_setting, names_in, FewLines, HasFindings, IsMemoryStop, Reports}
-use Rattle.dotenvy_checker.specs.Findings.{Row, Setting, SoFar, behind, last_of, lines_of, logical_text}
-use Rattle.dotenvy_checker.specs.Findings.{nothing_yet, with_lines, with_logical, with_rows}
-use Rattle.dotenvy_checker.specs.Findings.{AreRows, GuessesFrom}
-use Rattle.dotenvy_checker.specs.inside.CheckedLines.{setting_of, so_far, ChecksOutcome, ChecksRead, ChecksRows}
-use Rattle.dotenvy_checker.specs.inside.CheckedLines.{ChecksUpTo, ComesTo, IsNew, WhereFew}
-use Rattle.dotenvy_checker.proofs.KeptLines.{comes_none, comes_on, same_setting, with_rows-append}
+use Rattle.dotenvy_checker.specs.Checks.{file_setting, names_in, FewLines, ReadsLines}
+use Rattle.dotenvy_checker.specs.Findings.{Remark, Row, Setting, SoFar, behind, last_of, lines_of, logical_text}
+use Rattle.dotenvy_checker.specs.Findings.{nothing_yet, settled, settled_all, with_lines, with_logical, with_rows}
+use Rattle.dotenvy_checker.specs.Findings.{AreRows, AreTold, GuessesFrom}
+use Rattle.dotenvy_checker.specs.inside.CheckedLines.{declared_of, failed_as, setting_of, so_far, ChecksOutcome}
+use Rattle.dotenvy_checker.specs.inside.CheckedLines.{ComesTo, IsNew, WhereFew}
+use Rattle.dotenvy_checker.specs.inside.ToldLines.{end_of_reading, led_by, AreSettled, IsSettled, TellsAll, TellsFirst}
+use Rattle.dotenvy_checker.specs.inside.ToldLines.{TellsFront, TellsKept, TellsLines, TellsParts, TellsSettled}
+use Rattle.dotenvy_checker.proofs.KeptLines.{with_rows-append}
+use Rattle.dotenvy_checker.proofs.Settled.{all_settled, all_stay, behind_front, entries_extend, lines_extend}
+use Rattle.dotenvy_checker.proofs.Settled.{row_behind, Extends}
+use Rattle.dotenvy_checker.proofs.Told.{cannot-append, tells-append, told-append}
+use Rattle.dotenvy_checker.proofs.ToldFronts.{all-append, told_none}
 
--- of what is told at s some lines were read up to t, after a byte order mark, and checked
-pub record CheckedTo {A : Type 0} (a : Ahead) (s t : LinesState) (old new : Checker A) : Type 0 where
+-- what the checker kept, behind what was told of it, is what is found in these rows; nothing else changes
+pub record ComesBehind {A : Type 0} (front : List Remark) (rows : List Row) (old new : Checker A) : Type 0 where
+  pub comes : behind_front front (so_far new) ≡ led_by old rows
+  pub names : new.names ≡ old.names
+  pub dialect : new.dialect ≡ old.dialect
+  pub tells : new.tells_text ≡ old.tells_text
+
+-- of what is told at s some lines were read up to t, after a byte order mark, and checked, and this was told
+pub record CheckedTo {A : Type 0} (a : Ahead) (s t : LinesState) (front : List Remark) (old new : Checker A)
+    : Type 0 where
   pub start : LinesState
   pub unmarks : Unmarks a s start
   pub rows : List Row
   pub read : Read old.dialect (unmarked a) start (lines_of rows) t
-  pub checks : ChecksRows rows old new
+  pub are_rows : AreRows old.dialect rows
+  pub comes : ComesBehind front rows old new
 
--- the same, whatever is told
-pub record CheckedSoFar {A : Type 0} (s t : LinesState) (old new : Checker A) : Type 0 where
-  pub told : WhereFew s (λ a. CheckedTo a s t old new)
-
--- no row is checked
-checks_none : {A : Type 0} (s : Checker A) → ChecksRows [] s s
-checks_none s = record { are_rows = tt; comes = comes_none s }
+-- the same, whatever is told; all that was told is settled, and its parts are written
+pub record CheckedSoFar {A W : Type 0} (told : W → SinkTold) (s t : LinesState) (old : Checker A)
+    (report : FileReport A) (writer : W) (now : Checker A) (later : FileReport A) (written : W) : Type 0 where
+  pub front : List Remark
+  pub remarks : List Remark
+  pub are : AreTold report.how.allowed.now (map (settled (declared_of now.declared)) front) remarks
+  pub settled_front : AllByRecursion (IsSettled (declared_of now.declared)) front
+  pub parts : TellsParts told remarks report writer later written
+  pub read : WhereFew s (λ a. CheckedTo a s t front old now)
 
 -- rows, and then one more, are rows
 rows_more : (dialect : Dialect) (rows : List Row) (row : Row) → AreRows dialect rows → AreRows dialect (row ∷ []) →
@@ -70,19 +86,27 @@ rows_more dialect [] row are is = is
 rows_more dialect (first ∷ rows) row (own, are) is = (own, rows_more dialect rows row are is)
 
 -- a checker that read no line yet has come to where the mark is dropped
-pub checked_none : {A : Type 0} (s t : LinesState) (old : Checker A) → (s.stage ≡ Open → t.stage ≡ s.stage) →
-    t.lines_taken ≡ s.lines_taken →
-    WhereOpen s (λ a. DropsMark {A = A} a s.input (Ok tt) t.input) → CheckedSoFar s t old old
-checked_none {A = A} s t old stage taken drops = record {
-  told = λ a opened told few.
-      let dropped = unmarks A (stage opened ∙ opened) taken (drops a opened told) in record {
-        start = t;
-        unmarks = dropped;
-        rows = [];
-        read = read_none dropped.moves.is_left dropped.is_open;
-        checks = checks_none old;
-      };
-}
+pub checked_none : {A W : Type 0} (told : W → SinkTold) (s t : LinesState) (old : Checker A) (report : FileReport A)
+    (writer : W) → (s.stage ≡ Open → t.stage ≡ s.stage) → t.lines_taken ≡ s.lines_taken →
+    WhereOpen s (λ a. DropsMark {A = A} a s.input (Ok tt) t.input) →
+    CheckedSoFar told s t old report writer old report writer
+checked_none {A = A} told s t old report writer stage taken drops =
+    let none = told_none (λ remark. Unit {0}) told old report writer in record {
+      front = [];
+      remarks = [];
+      are = refl;
+      settled_front = tt;
+      parts = none.parts;
+      read = λ a opened is_told few.
+          let dropped = unmarks A (stage opened ∙ opened) taken (drops a opened is_told) in record {
+            start = t;
+            unmarks = dropped;
+            rows = [];
+            read = read_none dropped.moves.is_left dropped.is_open;
+            are_rows = tt;
+            comes = record { comes = refl; names = refl; dialect = refl; tells = refl };
+          };
+    }
 
 -- the next logical line is made of these physical lines
 next_within : (lines : List (Option (List ℕ))) (count : ℕ) (next : Logical) → lines ≢ [] → IsNext lines count next →
@@ -191,6 +215,40 @@ line_checked dialect a t old new m (Err (error.Io e)) same (inl (count, takes, c
     }
 line_checked dialect a t old new m (Err e) same (inl (count, takes, counts, goes_on)) checks = absurd takes
 
+-- how lines are checked stays the same
+settings : {A : Type 0} {front : List Remark} {rows : List Row} {old new : Checker A} (is_guess : Bool) →
+    ComesBehind front rows old new → setting_of new is_guess ≡ setting_of old is_guess
+settings is_guess k = rw (k.names, k.dialect, k.tells) refl
+
+-- what is told of what is kept stands behind what was told
+told_on : {A : Type 0} {a : Ahead} {s t : LinesState} {allowed : List Kind} {front more remarks : List Remark}
+    {old now new : Checker A} → TellsFront allowed more remarks now new → CheckedTo a s t front old now →
+    CheckedTo a s t (front ++ more) old new
+told_on {front = front} {more} {new = new} tells k = record {
+  start = k.start;
+  unmarks = k.unmarks;
+  rows = k.rows;
+  read = k.read;
+  are_rows = k.are_rows;
+  comes = record {
+    comes = rw (tells.declared, tells.above, append_assoc front more (so_far new).remarks, ← tells.left) k.comes.comes;
+    names = tells.names ∙ k.comes.names;
+    dialect = tells.dialect ∙ k.comes.dialect;
+    tells = tells.tells ∙ k.comes.tells;
+  };
+}
+
+-- the names of a logical line, and of the guesses behind it, leave those that were declared on their lines
+whole_extends : {A : Type 0} {now new : Checker A} (number last : ℕ) (logical : Logical) (entries : List Entry)
+    (guesses : List FileLine) →
+    ComesTo (with_lines (setting_of now true)
+    (with_logical (setting_of now false) (so_far now) number last logical entries) guesses) now new →
+    Extends (declared_of now.declared) (declared_of new.declared)
+whole_extends {now = now} number last logical entries guesses comes name first was =
+    let own = with_logical (setting_of now false) (so_far now) number last logical entries in
+    rw (ap (λ (s : SoFar). s.declared) comes.comes) (lines_extend (setting_of now true) own guesses name first
+    (entries_extend number entries (declared_of now.declared) name first was))
+
 -- the row of a line that was taken
 abbrev row_of : {A : Type 0} {dialect : Dialect} {a : Ahead} {t m : LinesState} {number last : ℕ}
     {old new : Checker A} → ℕ →
@@ -204,11 +262,11 @@ same_row : {a b c d : Setting} {s t : SoFar} {n m l k : ℕ} (next : Logical) (f
 same_row next front guesses a c s n l = rw (a, c, s, n, l) refl
 
 -- with one more line that was taken and checked a checker has come to what follows
-line_read : {A : Type 0} {a : Ahead} {s t : LinesState} {old now new : Checker A} (m : LinesState) →
-    FewLines s a → (k : CheckedTo a s t old now) →
+line_read : {A : Type 0} {a : Ahead} {s t : LinesState} {front : List Remark} {old now new : Checker A}
+    (m : LinesState) → FewLines s a → (k : CheckedTo a s t front old now) →
     LineIs old.dialect (ahead_of k.read.left a.fault) t (last_lines m).0 (last_lines m).1 now new m →
-    CheckedTo a s m old new
-line_read {old = old} m few k is =
+    CheckedTo a s m front old new
+line_read {front = front} {old = old} {now} m few k is =
     let number = k.start.lines_taken + 1 + k.read.count in
     let row = row_of number is in
     let numbers = line_numbers (rw k.unmarks.taken few) k.read is.line in record {
@@ -216,30 +274,57 @@ line_read {old = old} m few k is =
       unmarks = k.unmarks;
       rows = k.rows ++ row ∷ [];
       read = rw map-append (read_more k.read is.line);
-      checks = record {
-        are_rows = rows_more old.dialect k.rows row k.checks.are_rows (rw numbers.0 at is.guessed, tt);
-        comes = comes_on k.checks.comes (rw (with_rows-append (setting_of old false) (so_far old) k.rows (row ∷ []))
-            (record {
-              comes = is.comes.comes ∙ same_row is.line.next is.front is.guesses (same_setting true k.checks.comes)
-                  (same_setting false k.checks.comes) k.checks.comes.comes numbers.0 numbers.1;
-              names = is.comes.names;
-              dialect = is.comes.dialect;
-              tells = is.comes.tells;
-            }));
+      are_rows = rows_more old.dialect k.rows row k.are_rows (rw numbers.0 at is.guessed, tt);
+      comes = record {
+        comes = ap (behind_front front) is.comes.comes
+            ∙ row_behind (setting_of now true) (setting_of now false) front (so_far now) (last_lines m).0
+            (last_lines m).1 is.line.next is.front is.guesses
+            ∙ same_row is.line.next is.front is.guesses (settings true k.comes) (settings false k.comes) k.comes.comes
+            numbers.0 numbers.1
+            ∙ sym (with_rows-append (setting_of old false) (so_far old) k.rows (row ∷ []));
+        names = is.comes.names ∙ k.comes.names;
+        dialect = is.comes.dialect ∙ k.comes.dialect;
+        tells = is.comes.tells ∙ k.comes.tells;
       };
     }
 
--- one more line leads a checker on
-pub checked_more : {A : Type 0} {s : LinesState} {old now new : Checker A} {p m : SplitterState}
-    (outcome : Result (Unit {0}) (Error A)) → CheckedSoFar s p.lines old now → Answers p (Some outcome) m →
-    ChecksOutcome m outcome now new → CheckedSoFar s m.lines old new
-checked_more {old = old} {now} {new} {p} {m} outcome came answers checks = record {
-  told = λ a opened told few.
-      let k = came.told a opened told few in
-      line_read m.lines few k
-      (line_checked old.dialect (ahead_of k.read.left a.fault) p.lines now new m outcome k.checks.comes.dialect
-      (next_outcome (k.unmarks.moves.is_left, told.1) k.read answers) checks);
-}
+-- what a line that was checked adds to the names leaves those that were declared on their lines
+outcome_extends : {A : Type 0} (m : SplitterState) (outcome : Result (Unit {0}) (Error A)) (now new : Checker A) →
+    ChecksOutcome m outcome now new → Extends (declared_of now.declared) (declared_of new.declared)
+outcome_extends m (Ok done) now new (entries, guesses, gives, guessed, comes) =
+    whole_extends (last_lines m.lines).0 (last_lines m.lines).1 (HasText (chars m.line)) entries guesses comes
+outcome_extends m (Err e) now new (not_failed, (entries, guesses, gives, guessed, comes)) =
+    whole_extends (last_lines m.lines).0 (last_lines m.lines).1 (failed_as e) entries guesses comes
+
+-- one more line leads a checker on, and what is then told of what it kept is told behind what was told
+pub checked_more : {A W : Type 0} (told : W → SinkTold) {s : LinesState} {old now new end : Checker A}
+    {report later last : FileReport A} {writer written at : W} {p m : SplitterState}
+    (outcome : Result (Unit {0}) (Error A)) → CheckedSoFar told s p.lines old report writer now later written →
+    Answers p (Some outcome) m → ChecksOutcome m outcome now new →
+    TellsKept AreSettled told new later written (Ok tt) end last at →
+    CheckedSoFar told s m.lines old report writer end last at
+checked_more told {s} {old} {now} {new} {end} {report} {later} {last} {writer} {written} {at} {p} {m} outcome came answers
+    checks (more, remarks, tells, parts, settled_more) =
+    let extends = outcome_extends m outcome now new checks in
+    let before = declared_of now.declared in
+    let after = declared_of new.declared in
+    let own = AreTold report.how.allowed.now in
+    let stays = all_stay before after came.front extends came.settled_front in
+    let first = rw (← stays) at came.are in
+    let second = rw (came.parts.how) at tells.are in record {
+      front = came.front ++ more;
+      remarks = came.remarks ++ remarks;
+      are = rw (tells.declared, map-append) (told-append report.how.allowed.now (map (settled after) came.front)
+          (map (settled after) more) came.remarks remarks first second);
+      settled_front = rw tells.declared (all-append (IsSettled after) came.front more
+          (all_settled before after came.front extends came.settled_front) settled_more);
+      parts = tells-append told came.parts parts;
+      read = λ a opened is_told few.
+          let k = came.read a opened is_told few in
+          told_on tells (line_read m.lines few k
+          (line_checked old.dialect (ahead_of k.read.left a.fault) p.lines now new m outcome k.comes.dialect
+          (next_outcome (k.unmarks.moves.is_left, is_told.1) k.read answers) checks));
+    }
 
 -- where nothing is left, all lines were read
 reads_all : {dialect : Dialect} {a : Ahead} {s t : LinesState} {lines : List FileLine}
@@ -252,95 +337,240 @@ reads_all {a = a} k empty none = record {
 }
 
 -- where no line is left, all lines were checked
-pub checked_all : {A : Type 0} {s : LinesState} {old new : Checker A} {p m : SplitterState} →
-    CheckedSoFar s p.lines old new → Answers {A = A} p None m →
-    WhereFew s (λ a. ChecksRead {A = A} s a (Ok tt) old new)
-checked_all came answers a opened told few =
-    let k = came.told a opened told few in
-    let (empty, none, ended) = read_end (k.unmarks.moves.is_left, told.1) k.read answers in
-    (k.rows, (none, rw k.unmarks.taken at (reads_all k.read empty none)), k.checks)
+pub checked_all : {A W : Type 0} (told : W → SinkTold) {s : LinesState} {old now : Checker A}
+    {report later : FileReport A} {writer written : W} {p m : SplitterState} →
+    CheckedSoFar told s p.lines old report writer now later written → Answers {A = A} p None m →
+    WhereFew s (λ a. TellsLines told s a old report writer (Ok None) now later written)
+checked_all told came answers a opened is_told few =
+    let k = came.read a opened is_told few in
+    let (empty, none, ended) = read_end (k.unmarks.moves.is_left, is_told.1) k.read answers in (
+      came.remarks,
+      record {
+        rows = k.rows;
+        reads = (none, rw k.unmarks.taken at (reads_all k.read empty none));
+        are_rows = k.are_rows;
+        front = came.front;
+        are = came.are;
+        comes = k.comes.comes;
+      },
+      came.parts,
+    )
 
 -- the lines that are decided before a fault of reading
 abbrev DecidedBefore : Dialect → ℕ → List FileLine → List ℕ → Type 0
 DecidedBefore dialect taken lines bytes = DecidesNumbered dialect (taken + 1) (without_mark bytes) lines
 
--- a final fault, before which the lines that were checked are decided, ends a check
-check_ends : {A : Type 0} {rows : List Row} {old new : Checker A} (a : Ahead) (s : LinesState)
-    (m : InputState) (e : Error A) → IsFinal a s.input (DecidedBefore old.dialect s.lines_taken (lines_of rows)) e m →
-    ChecksRows rows old new → ChecksRead s a (Err e) old new
-check_ends a s m e (inl memory) checks = inl memory
-check_ends {rows = rows} a s m e (inr io) checks = inr (rows, (m, io), checks)
+-- a final fault is that of the reader, before which the lines that were checked are decided; or memory was refused
+reads_end : {A : Type 0} (dialect : Dialect) (lines : List FileLine) (a : Ahead) (s : LinesState) (m : InputState)
+    (e : Error A) → IsFinal a s.input (DecidedBefore dialect s.lines_taken lines) e m →
+    IsMemory e ⊎ ReadsLines dialect s a (Some e) lines
+reads_end dialect lines a s m e (inl memory) = inl memory
+reads_end dialect lines a s m e (inr io) = inr (m, io)
 
--- a final fault that is given back ends the check, unless memory was refused
-pub checked_before : {A : Type 0} {s : LinesState} {old now new : Checker A} {p m : SplitterState}
-    {outcome : Result (Unit {0}) (Error A)} (e : Error A) → CheckedSoFar s p.lines old now →
-    Answers p (Some outcome) m →
+-- what was told is told of a front of what is found in the first lines
+tells_first : {A : Type 0} {a : Ahead} {s t : LinesState} {allowed : List Kind} {front remarks : List Remark}
+    {old now : Checker A} → AreTold allowed (map (settled (declared_of now.declared)) front) remarks →
+    CheckedTo a s t front old now → TellsFirst s a allowed remarks old
+tells_first {front = front} {old = old} {now = now} are k =
+    let all = led_by old k.rows in
+    let declared : all.declared ≡ declared_of now.declared = ap (λ (s : SoFar). s.declared) (sym k.comes.comes) in
+    record {
+      rows = k.rows;
+      reads = (k.read.count, rw k.unmarks.taken at k.read.begins.are);
+      are_rows = k.are_rows;
+      front = map (settled all.declared) front;
+      later = map (settled all.declared) (so_far now).remarks;
+      cut = ap (λ (s : SoFar). map (settled all.declared) s.remarks) (sym k.comes.comes) ∙ map-append;
+      are = rw declared are;
+    }
+
+-- reading ends where memory is refused, with what was told
+ends_memory : {A W : Type 0} (told : W → SinkTold) {a : Ahead} {s : LinesState} {old : Checker A}
+    {report later : FileReport A} {writer written : W} {remarks : List Remark} (new : Checker A) (e : Error A) →
+    IsMemory e → TellsFirst s a report.how.allowed.now remarks old →
+    TellsParts told remarks report writer later written →
+    TellsLines told s a old report writer (end_of_reading e) new later written
+ends_memory told {remarks = remarks} new (error.Memory refused) is first parts = (remarks, first, parts)
+ends_memory told new e is first parts = absurd is
+
+-- reading ends with a fault of the reader, with what was told
+ends_fault : {A W : Type 0} (told : W → SinkTold) {a : Ahead} {s : LinesState} {old now : Checker A}
+    {report later : FileReport A} {writer written : W} {remarks : List Remark} (e : Error A) →
+    TellsSettled s a (Some e) report.how.allowed.now remarks old now →
+    TellsParts told remarks report writer later written →
+    TellsLines told s a old report writer (end_of_reading e) now later written
+ends_fault told {remarks = remarks} (error.Memory refused) tells parts = absurd tells.reads.1
+ends_fault told {remarks = remarks} (error.LineParse text index) tells parts = (remarks, tells, parts)
+ends_fault told {remarks = remarks} (error.Io e) tells parts = (remarks, tells, parts)
+ends_fault told {remarks = remarks} (error.EnvVar e) tells parts = (remarks, tells, parts)
+ends_fault told {remarks = remarks} (error.Nul key) tells parts = (remarks, tells, parts)
+
+-- a fault, before which these lines are decided, ends reading
+ends_reading : {A W : Type 0} (told : W → SinkTold) {a : Ahead} {s t : LinesState} {old now : Checker A}
+    {report later : FileReport A} {writer written : W} {front remarks : List Remark} (e : Error A) →
+    AreTold report.how.allowed.now (map (settled (declared_of now.declared)) front) remarks →
+    TellsParts told remarks report writer later written → (k : CheckedTo a s t front old now) →
+    IsMemory e ⊎ ReadsLines old.dialect s a (Some e) (lines_of k.rows) →
+    TellsLines told s a old report writer (end_of_reading e) now later written
+ends_reading told {now = now} e are parts k (inl memory) =
+    ends_memory told now e memory (tells_first are k) parts
+ends_reading told {front = front} e are parts k (inr reads) =
+    ends_fault told e (record {
+      rows = k.rows;
+      reads = reads;
+      are_rows = k.are_rows;
+      front = front;
+      are = are;
+      comes = k.comes.comes;
+    }) parts
+
+-- a final fault that is given back ends reading; or memory was refused
+pub checked_before : {A W : Type 0} (told : W → SinkTold) {s : LinesState} {old now new : Checker A}
+    {report later : FileReport A} {writer written : W} {p m : SplitterState}
+    {outcome : Result (Unit {0}) (Error A)} (e : Error A) →
+    CheckedSoFar told s p.lines old report writer now later written → Answers p (Some outcome) m →
     IsMemory e ⊎ ((outcome ≡ Err e) × (m.lines.stage ≡ Failed) × (new ≡ now)) →
-    WhereFew s (λ a. ChecksRead s a (Err e) old new)
-checked_before e came answers (inl refused) a opened told few = inl refused
-checked_before {s = s} {old = old} {m = m} e came answers (inr (is, failed, same)) a opened told few =
-    let k = came.told a opened told few in
-    rw same (elim (rw is at (next_outcome (k.unmarks.moves.is_left, told.1) k.read answers)) [
+    WhereFew s (λ a. TellsLines told s a old report writer (end_of_reading e) new later written)
+checked_before told {new = new} e came answers (inl refused) a opened is_told few =
+    ends_memory told new e refused (tells_first came.are (came.read a opened is_told few)) came.parts
+checked_before told {s = s} {old = old} {m = m} e came answers (inr (is, failed, same)) a opened is_told few =
+    let k = came.read a opened is_told few in
+    rw same (elim (rw is at (next_outcome (k.unmarks.moves.is_left, is_told.1) k.read answers)) [
       | inl (count, takes, counts, inl is_open) ↦ cc
       | inl (count, takes, counts, inr (ended, nothing)) ↦ cc
       | inr (stage, final) ↦
           let number = k.start.lines_taken + 1 in
           let decides = final_marked (λ bytes. DecidesNumbered old.dialect number bytes (lines_of k.rows)) e
           m.lines.input k.unmarks (read_final k.read e m.lines.input final) in
-          check_ends a s m.lines.input e (rw k.unmarks.taken at decides) k.checks
+          ends_reading told e came.are came.parts k
+          (reads_end old.dialect (lines_of k.rows) a s m.lines.input e (rw k.unmarks.taken at decides))
     ])
 
+-- with one more line a checker has come to what follows
+line_read_at : {A : Type 0} {a : Ahead} {s : LinesState} {front : List Remark} {old now new : Checker A}
+    {p m : SplitterState} (outcome : Result (Unit {0}) (Error A)) → Answers p (Some outcome) m →
+    ChecksOutcome m outcome now new → (k : CheckedTo a s p.lines front old now) → IsTold s.input.left a →
+    FewLines s a → CheckedTo a s m.lines front old new
+line_read_at {a = a} {old = old} {now} {new} {p} {m} outcome answers checks k is_told few =
+    line_read m.lines few k
+    (line_checked old.dialect (ahead_of k.read.left a.fault) p.lines now new m outcome k.comes.dialect
+    (next_outcome (k.unmarks.moves.is_left, is_told.1) k.read answers) checks)
+
+-- what was told, and what is told behind it, is told by the names that are declared now
+told_both : {A W : Type 0} {told : W → SinkTold} {s t : LinesState} {old now new : Checker A}
+    {report later : FileReport A} {writer written : W} {more remarks : List Remark}
+    (came : CheckedSoFar told s t old report writer now later written) →
+    AreTold report.how.allowed.now (map (settled (declared_of new.declared)) more) remarks →
+    Extends (declared_of now.declared) (declared_of new.declared) →
+    AreTold report.how.allowed.now (map (settled (declared_of new.declared)) (came.front ++ more))
+    (came.remarks ++ remarks)
+told_both {now = now} {new = new} {report = report} {more = more} {remarks = remarks} came second extends =
+    let before = declared_of now.declared in
+    let after = declared_of new.declared in
+    let stays = all_stay before after came.front extends came.settled_front in
+    rw (map-append) (told-append report.how.allowed.now (map (settled after) came.front) (map (settled after) more)
+    came.remarks remarks (rw (← stays) at came.are) second)
+
+-- what is told up to some place of what is kept is told of a front of what is found in the first lines
+tells_front_of : {A : Type 0} {a : Ahead} {s t : LinesState} {allowed : List Kind} {front remarks : List Remark}
+    {old new : Checker A} (more later : List Remark) → (so_far new).remarks ≡ more ++ later →
+    AreTold allowed (map (settled (declared_of new.declared)) (front ++ more)) remarks →
+    CheckedTo a s t front old new → TellsFirst s a allowed remarks old
+tells_front_of {front = front} {old = old} {new = new} more later left are k =
+    let all = led_by old k.rows in
+    let declared : all.declared ≡ declared_of new.declared = ap (λ (s : SoFar). s.declared) (sym k.comes.comes) in
+    let remarks : all.remarks ≡ (front ++ more) ++ later =
+    ap (λ (s : SoFar). s.remarks) (sym k.comes.comes) ∙ ap (λ t. front ++ t) left
+    ∙ sym (append_assoc front more later) in record {
+      rows = k.rows;
+      reads = (k.read.count, rw k.unmarks.taken at k.read.begins.are);
+      are_rows = k.are_rows;
+      front = map (settled all.declared) (front ++ more);
+      later = map (settled all.declared) later;
+      cut = ap (map (settled all.declared)) remarks ∙ map-append;
+      are = rw declared are;
+    }
+
+-- the same, where the rest is kept
+tells_front : {A : Type 0} {a : Ahead} {s t : LinesState} {allowed : List Kind} {front remarks : List Remark}
+    {old new end : Checker A} (more : List Remark) → (so_far new).remarks ≡ more ++ (so_far end).remarks →
+    AreTold allowed (map (settled (declared_of new.declared)) (front ++ more)) remarks →
+    CheckedTo a s t front old new → TellsFirst s a allowed remarks old
+tells_front {end = end} more left are k = tells_front_of more (so_far end).remarks left are k
+
+-- a stop while what was kept is told: a part can't be written, or memory was refused
+pub checked_stop : {A W : Type 0} (told : W → SinkTold) {s : LinesState} {old now new end : Checker A}
+    {report later last : FileReport A} {writer written at : W} {p m : SplitterState}
+    (outcome : Result (Unit {0}) (Error A)) (stop : Stop A) →
+    CheckedSoFar told s p.lines old report writer now later written → Answers p (Some outcome) m →
+    ChecksOutcome m outcome now new → TellsKept AreSettled told new later written (Err stop) end last at →
+    WhereFew s (λ a. TellsAll told s a old report writer (Err stop) end last at)
+checked_stop told outcome (stop.Read e) came answers checks tells = absurd tells
+checked_stop told {now = now} {new = new} {report = report} {m = m} outcome (stop.Write e) came answers checks
+    (more, remarks, tells, cannot) a opened is_told few =
+    let all = told_both came (rw came.parts.how at tells.are) (outcome_extends m outcome now new checks) in
+    let k = line_read_at outcome answers checks (came.read a opened is_told few) is_told few in (
+      came.remarks ++ remarks,
+      tells_front more tells.left all k,
+      cannot-append told came.parts cannot,
+    )
+checked_stop told {now = now} {new = new} {m = m} outcome (stop.Memory refused) came answers checks
+    (more, later, remarks, left, are, parts) a opened is_told few =
+    let all = told_both came (rw came.parts.how at are) (outcome_extends m outcome now new checks) in
+    let k = line_read_at outcome answers checks (came.read a opened is_told few) is_told few in (
+      came.remarks ++ remarks,
+      tells_front_of more later left all k,
+      tells-append told came.parts parts,
+    )
+
 -- a fault before a byte order mark is decided ends a check of nothing
-pub checked_mark : {A : Type 0} (a : Ahead) (s m : LinesState) (old : Checker A) (e : Error A) →
-    DropsMark a s.input (Err e) m.input → ChecksRead s a (Err e) old old
-checked_mark a s m old e drops =
-    check_ends a s m.input e (final_weaker a s.input m.input (λ bytes. begins_mark bytes ≡ true)
-    (DecidedBefore old.dialect s.lines_taken []) e
+pub checked_mark : {A W : Type 0} (told : W → SinkTold) (a : Ahead) (s m : LinesState) (old : Checker A)
+    (report : FileReport A) (writer : W) (e : Error A) → DropsMark a s.input (Err e) m.input →
+    TellsLines told s a old report writer (end_of_reading e) old report writer
+checked_mark told a s m old report writer e drops =
+    let none = told_none (λ remark. Unit {0}) told old report writer in
+    let decides = reads_end old.dialect [] a s m.input e (final_weaker a s.input m.input
+    (λ bytes. begins_mark bytes ≡ true) (DecidedBefore old.dialect s.lines_taken []) e
     (λ bytes begins. record {
       count = 0;
       are = refl;
       rest = mark_incomplete bytes begins;
       decided = mark_decides old.dialect bytes begins;
-    }) drops)
-    (checks_none old)
-
--- where a checker of which nothing was read comes to, and what it then read of the lines that were handed over
-pub record IsRead {A : Type 0} (setting : Setting) (s : LinesState) (a : Ahead) (fault : Option (Error A))
-    (checker : Checker A) : Type 0 where
-  pub all : SoFar
-  pub has : HasFindings setting s a fault all
-  pub found : so_far checker ≡ all
+    }) drops) in
+    elim decides [
+      | inl memory ↦ ends_memory told old e memory (record {
+        rows = [];
+        reads = (0, refl);
+        are_rows = tt;
+        front = [];
+        later = settled_all (so_far old);
+        cut = refl;
+        are = refl;
+      }) none.parts
+      | inr reads ↦ ends_fault told e (record {
+        rows = [];
+        reads = reads;
+        are_rows = tt;
+        front = [];
+        are = refl;
+        comes = refl;
+      }) none.parts
+    ]
 
 -- what is found in rows is the same from the same place on
 same_rows : {a b : Setting} {s t : SoFar} (rows : List Row) → a ≡ b → s ≡ t → with_rows a s rows ≡ with_rows b t rows
 same_rows rows a s = rw (a, s) refl
 
--- a checker of which nothing was read has the findings of what it then reads of the lines that were handed over
-pub is_read : {A : Type 0} {env : Env} {dialect given : Dialect} {tells : Bool} {s t : LinesState}
-    {fault is : Option (Error A)} {old : Checker A} (new : Checker A) → IsNew env given tells old → given ≡ dialect →
-    t ≡ s → WhereFew t (λ a. ChecksUpTo t a fault old new) → fault ≡ is →
-    WhereFew s (λ a. IsRead (file_setting (names_in env.names) dialect tells) s a is new)
-is_read {env = env} {dialect} {given} {tells} {s} {t} {fault} {is} {old} new made in_dialect same told fault_is a opened
-    is_told few =
-    let (rows, reads, checks) = (rw same at told) a opened is_told few in
-    let setting : setting_of old false ≡ file_setting (names_in env.names) dialect tells =
+-- a new checker is led by rows to what is found in them
+pub led_new : {A : Type 0} {env : Env} {dialect given : Dialect} {tells : Bool} {checker : Checker A}
+    (rows : List Row) → IsNew env given tells checker → given ≡ dialect →
+    led_by checker rows ≡ with_rows (file_setting (names_in env.names) dialect tells) nothing_yet rows
+led_new {checker = checker} rows made in_dialect =
+    let setting : setting_of checker false ≡ file_setting _ _ _ =
     rw (made.environment, made.in_dialect, in_dialect, made.tells) refl in
-    let dialects : old.dialect ≡ dialect = made.in_dialect ∙ in_dialect in record {
-      all = with_rows (file_setting (names_in env.names) dialect tells) nothing_yet rows;
-      has = (rows, rw (dialects, fault_is) at reads, rw dialects at checks.are_rows, refl);
-      found = checks.comes.comes ∙ same_rows rows setting made.nothing;
-    }
+    same_rows rows setting made.nothing
 
 -- a checker that stays as it was new has found nothing
 pub nothing_found : {A : Type 0} {env : Env} {dialect : Dialect} {tells : Bool} {old new : Checker A} →
     IsNew env dialect tells old → new ≡ old → so_far new ≡ nothing_yet
 nothing_found made same = ap so_far same ∙ made.nothing
-
--- a check that stops because an allocation failed writes nothing
-pub memory_writes_nothing : {A W : Type 0} (told : W → SinkTold) (how : Reporting) (file : List ℕ) (names : Known)
-    (s : IterState) (a : Ahead) (old : W) (result : Result (Checked A) (Stop A)) → IsErrAnd result IsMemoryStop →
-    Reports {A = A} told how file names s a old result old
-memory_writes_nothing told how file names s a old (Ok checked) stops = absurd stops
-memory_writes_nothing told how file names s a old (Err (stop.Read e)) stops = absurd stops
-memory_writes_nothing told how file names s a old (Err (stop.Write e)) stops = absurd stops
-memory_writes_nothing told how file names s a old (Err (stop.Memory refused)) stops = refl

@@ -10,7 +10,12 @@ mod Lacking
 mod NamesAmong
 mod NumberedLines
 mod Parts
-mod Reported
+mod ReportParts
 mod RequiredNames
+mod Settled
+mod Told
+mod ToldFronts
+mod ToldOne
 mod Untold
 mod Wholes
+mod WrittenParts

@@ -1,22 +1,19 @@
 -- What a check of a file writes and returns.
-use Rattle.std.specs.Prelude.{ℕ, ◌≡◌, ◌+◌, ◌<◌, ◌^◌, ◌||◌, Bool, false, List, length, Option, Some}
+use Rattle.std.specs.Prelude.{ℕ, ◌≡◌, ◌+◌, ◌++◌, ◌<◌, ◌^◌, ◌||◌, Bool, false, List, length, Option, Some}
 use Rattle.std.specs.Prelude.{None, Result, Ok, Err}
 use Rattle.std.specs.HashMap.{get_by_text}
 use Rattle.std.specs.List.{list_any}
 use Rattle.dotenvy_base.specs.Environment.{Texts}
 use Rattle.dotenvy_base.specs.Errors.{IsIoOf}
-use Rattle.dotenvy_base.specs.Output.{Sends, most_writes}
 use Rattle.dotenvy_base.specs.Source.{Ahead, SinkTold}
 use Rattle.dotenvy_base.specs.declared.errors.Error.{Error}
-use Rattle.dotenvy_findings.specs.Comments.{Allow}
-use Rattle.dotenvy_findings.specs.declared.bytes.BadByte.{BadByte}
 use Rattle.dotenvy_findings.specs.declared.finding.Finding.{Finding}
 use Rattle.dotenvy_findings.specs.Readings.{Known}
 use Rattle.dotenvy_format.specs.declared.dialect.Dialect.{Dialect}
 use Rattle.dotenvy_format.specs.Marks.{without_mark}
 use Rattle.dotenvy_lines.specs.Input.{InputState, IsReadFault}
 use Rattle.dotenvy_lines.specs.Lines.{LinesState, whole_lines}
-use Rattle.dotenvy_lines.specs.Numbered.{FileLine, HasNumbered, DecidesNumbered}
+use Rattle.dotenvy_lines.specs.Numbered.{FileLine, AreNumbered, HasNumbered, DecidesNumbered}
 use Rattle.dotenvy_items.specs.Iter.{IterState}
 use Rattle.dotenvy_items.specs.LoadStops.{unmarked}
 use Rattle.std.specs.FinMap as fin
@@ -28,8 +25,9 @@ use Rattle.dotenvy_checker.specs.declared.report.Found.{Found}
 use Rattle.dotenvy_checker.specs.declared.report.Reporting.{Reporting}
 use Rattle.dotenvy_findings.specs.declared.kind.Kind.{Kind}
 use Rattle.dotenvy_checker.specs.Findings.{Declared, Remark, Row, Setting, SoFar, is_error}
-use Rattle.dotenvy_checker.specs.Findings.{is_denied, is_warning, lines_of, nothing_yet, placed}
-use Rattle.dotenvy_checker.specs.Findings.{reported, shown, with_rows, AreRows}
+use Rattle.dotenvy_checker.specs.Findings.{is_denied, is_warning, lines_of, nothing_yet}
+use Rattle.dotenvy_checker.specs.Findings.{settled_all, shown, with_rows, AreRows, AreTold}
+use Rattle.dotenvy_checker.specs.Parts.{SendsParts, SendsSome}
 use Rattle.dotenvy_checker.specs.Report.{report}
 
 -- the names that an environment has, by their bytes
@@ -97,40 +95,59 @@ both one other = record {
   denied = one.denied || other.denied;
 }
 
--- the report of what is told is sent to a sink, with this result; each line that is no text has the
--- place of a byte that is none
-abbrev pub SendsReport : {A W : Type 0} → (W → SinkTold) → Reporting → List ℕ → List Remark → W →
-    Result (Unit {0}) (Error A) → W → Type 0
-SendsReport told how file remarks old result new =
-    (bad : List BadByte)
-    × Sends told most_writes old new (report how.format how.is_first file (placed bad remarks))
-    result
-
 -- the result of a check says what is told, and which names the file declares
 pub record Tells {A : Type 0} (how : Reporting) (told : List Remark) (all : SoFar)
     (checked : Checked A) : Type 0 where
   pub found : checked.found ≡ found_in how.denied.now (shown told)
   pub declares : declared_of checked.declared ≡ all.declared
 
--- the report of what is found in what is read of a, but for what comments allow, is sent to a sink,
--- and the result is: what is told of all of it, and the names; the fault of reading; or that of
--- writing
+-- these are the first lines that are read of a, from s on
+abbrev pub ReadsFirst : Dialect → LinesState → Ahead → List FileLine → Type 0
+ReadsFirst dialect s a lines =
+    (count : ℕ)
+    × AreNumbered dialect (s.lines_taken + 1) (whole_lines (unmarked a)) count lines
+
+-- this is found in the first lines that are read of a, from s on
+abbrev pub HasFirstFindings : Setting → LinesState → Ahead → SoFar → Type 0
+HasFirstFindings setting s a all =
+    (rows : List Row) × ReadsFirst setting.dialect s a (lines_of rows)
+    × AreRows setting.dialect rows × (all ≡ with_rows setting nothing_yet rows)
+
+-- all that is found is told so, and its report is sent to a sink in parts
+abbrev pub ReportsAll : (A : Type 0) {W : Type 0} → (W → SinkTold) → Reporting → List ℕ → SoFar →
+    List Remark → W → W → Type 0
+ReportsAll A told how file all remarks old new =
+    AreTold how.allowed.now (settled_all all) remarks
+    × SendsParts {A = A} told old (report how.format how.is_first file remarks) (Ok tt) new
+
+-- a first part of what is found is told so, and parts of its report are sent to a sink, with this
+-- result
+abbrev pub ReportsSome : {A W : Type 0} → (W → SinkTold) → Reporting → List ℕ → SoFar → W →
+    Result (Unit {0}) (Error A) → W → Type 0
+ReportsSome told how file all old answer new =
+    (front later : List Remark) × (remarks : List Remark) × (settled_all all ≡ front ++ later)
+    × AreTold how.allowed.now front remarks
+    × SendsSome told old (report how.format how.is_first file remarks) answer new
+
+-- the report of what is found in what is read of a, but for what is allowed, is sent to a sink in
+-- parts while it is read. The result is what is told of all of it, and the names; or the fault of
+-- reading, before which all is told; or that of writing, or a failed allocation, before which a part
+-- is told of what is found in the first lines
 abbrev pub Reports : {A W : Type 0} → (W → SinkTold) → Reporting → List ℕ → Known → IterState →
     Ahead → W → Result (Checked A) (Stop A) → W → Type 0
 Reports {A = A} told how file names s a old (Ok checked) new =
     (all : SoFar) × HasFindings {A = A} (file_setting names s.dialect how.text) s.lines a None all
-    × ((comments : List Allow) × Tells how (reported how.allowed.now comments all) all checked
-    × SendsReport {A = A} told how file (reported how.allowed.now comments all) old (Ok tt) new)
+    × ((remarks : List Remark) × Tells how remarks all checked
+    × ReportsAll A told how file all remarks old new)
 Reports {A = A} told how file names s a old (Err (Read e)) new =
     (all : SoFar) × HasFindings (file_setting names s.dialect how.text) s.lines a (Some e) all
-    × ((comments : List Allow)
-    × SendsReport {A = A} told how file (reported how.allowed.now comments all) old (Ok tt) new)
-Reports {A = A} told how file names s a old (Err (Write e)) new =
-    (fault : Option (Error A)) × (all : SoFar)
-    × HasFindings (file_setting names s.dialect how.text) s.lines a fault all
-    × ((comments : List Allow)
-    × SendsReport told how file (reported how.allowed.now comments all) old (Err e) new)
-Reports told how file names s a old (Err (Memory refused)) new = new ≡ old
+    × ((remarks : List Remark) × ReportsAll A told how file all remarks old new)
+Reports told how file names s a old (Err (Write e)) new =
+    (all : SoFar) × HasFirstFindings (file_setting names s.dialect how.text) s.lines a all
+    × ReportsSome told how file all old (Err e) new
+Reports {A = A} told how file names s a old (Err (Memory refused)) new =
+    (all : SoFar) × HasFirstFindings (file_setting names s.dialect how.text) s.lines a all
+    × ReportsSome {A = A} told how file all old (Ok tt) new
 
 -- the check stops because an allocation failed
 abbrev pub IsMemoryStop : {A : Type 0} → Stop A → Type 0

@@ -350,24 +350,19 @@ broken_kind kind.Utf16 = kind.Utf16
 broken_kind kind.Latin1 = kind.Latin1
 broken_kind k = kind.NotUtf8
 
--- a finding, at the next of these bytes that are no text, if it is that of a line that is none
+-- the bytes that are no text and stand on this line or behind it
+abbrev pub bad_from : ℕ → List BadByte → List BadByte
+bad_from line [] = []
+bad_from line (bad ∷ others) =
+    if nat_lt bad.place.line line then bad_from line others else bad ∷ others
+
+-- a finding, at the first of these bytes that are no text, if it is that of a line that is none, and
+-- the byte is on that line
 abbrev pub placed_one : List BadByte → Finding → Finding
 placed_one [] finding = finding
 placed_one (bad ∷ others) finding =
-    if is_broken finding.kind
+    if is_broken finding.kind && bad.place.line == finding.place.line
     then record finding { kind = broken_kind bad.hint; place = bad.place } else finding
-
--- the bytes that are no text behind a finding
-abbrev pub bad_left : List BadByte → Finding → List BadByte
-bad_left [] finding = []
-bad_left (bad ∷ others) finding = if is_broken finding.kind then others else bad ∷ others
-
--- what is told, with each line that is no text at its first byte that is none
-abbrev pub placed : List BadByte → List Remark → List Remark
-placed bad [] = []
-placed bad (remark ∷ remarks) =
-    record remark { finding = placed_one bad remark.finding }
-    ∷ placed (bad_left bad remark.finding) remarks
 
 -- a finding is an error: a fault, and no guess
 abbrev pub is_error : Finding → Bool
@@ -404,19 +399,24 @@ is_told allowed comments above finding =
     is_error finding
     || not (is_among finding.kind allowed || is_allowed_on above finding.kind comments)
 
--- what is told of these, where these kinds are allowed, and others by these comments
-abbrev pub told_of : List Kind → List Allow → List Remark → List Remark
-told_of allowed comments [] = []
-told_of allowed comments (remark ∷ remarks) =
-    let left = comments_from remark.above comments in
-    let others = told_of allowed left remarks in
-    if is_told allowed left remark.above remark.finding then remark ∷ others else others
+-- what is told of one of these, where these kinds are allowed, others by these comments, and these
+-- bytes are no text
+abbrev pub told_one : List Kind → List Allow → List BadByte → Remark → List Remark
+told_one allowed comments bad remark =
+    if is_told allowed comments remark.above remark.finding
+    then record remark { finding = placed_one bad remark.finding } ∷ [] else []
 
--- what is reported of all that was read of a file, where these kinds are allowed, and others by these
--- comments
-abbrev pub reported : List Kind → List Allow → SoFar → List Remark
-reported allowed comments so_far =
-    told_of allowed comments (map (settled so_far.declared) so_far.remarks)
+-- this is told of these, where these kinds are allowed, by what was seen in the file's bytes up to
+-- then: comments that allow kinds, and bytes that are no text
+abbrev pub AreTold : List Kind → List Remark → List Remark → Type 0
+AreTold allowed [] told = told ≡ []
+AreTold allowed (remark ∷ remarks) told =
+    (comments : List Allow) × (bad : List BadByte) × (others : List Remark)
+    × AreTold allowed remarks others × (told ≡ told_one allowed comments bad remark ++ others)
+
+-- all that was found in what was read of a file, where all names that it declares are known
+abbrev pub settled_all : SoFar → List Remark
+settled_all so_far = map (settled so_far.declared) so_far.remarks
 
 -- the findings that are told
 abbrev pub shown : List Remark → List Finding

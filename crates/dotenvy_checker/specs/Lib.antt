@@ -1,5 +1,6 @@
 pub mod Findings
 pub mod Report
+pub mod Parts
 pub mod Checks
 pub mod Words
 pub mod Described

@@ -1,2 +1,4 @@
 pub mod CheckedFiles
 pub mod CheckedLines
+pub mod ToldLines
+pub mod WatchedReads

@@ -8,12 +8,11 @@ ghost use Rattle.dotenvy_checker.specs.Findings.{nothing_yet};
 
 pub use crate::declared::Declared;
 use crate::failure::Stop;
+use crate::file_report::FileReport;
 use crate::lines::Checker;
-use crate::report::report_of;
 pub use crate::report::{Found, Reporting};
 pub use crate::watched::Watched;
 use dotenvy::{Environment, Iter, Sink, Source};
-use dotenvy_base::output::{MOST_WRITES, write_all};
 use dotenvy_items::iter::into_lines;
 use dotenvy_items::meaning::Names;
 use std::alloc::Allocator;
@@ -46,10 +45,9 @@ pub struct Checked<A: Allocator> {
 /// load says of the line, which holds its text or its value.
 ///
 /// Over a reader whose bytes are specified: after `Ok` the end was reached, and the report of all findings that are not
-/// allowed was written, in at most 2^32 writes, and nothing else. After `Stop::Read` it is the report of the findings
-/// that the bytes before the fault decide; after `Stop::Write` a first part of the report; after `Stop::Memory` nothing
-/// was written. An error is never allowed. A comment that allows kinds is a line without a declaration and without a
-/// fault.
+/// allowed was written, in parts, each in at most 2^32 writes, and nothing else. After `Stop::Read` it is the report of
+/// the findings that the bytes before the fault decide; after `Stop::Write` or `Stop::Memory` a first part of the
+/// report. An error is never allowed. A comment that allows kinds is a line without a declaration and without a fault.
 ///
 /// ```
 /// let file = Iter::new(alloc, Watched::new(alloc, Bytes::new(b"A=1\nB=two words\nC=$X\n"))?)?;
@@ -76,19 +74,17 @@ pub fn check<R: Source + Drop, W: Sink, A: Allocator + Clone>(
         env,
         remembered: &remembered,
     };
+    let mut report = FileReport::new(alloc.clone()?, name, *how)?;
     let mut checker = Checker::new(alloc, names, dialect, how.text)?;
-    let fault = checker.check_all(&mut lines)?;
-    let seen = lines.into_reader().finish()?;
-    let (report, found) = report_of(name, &checker, &seen, *how)?;
-    how.is_first = how.is_first && report.is_empty();
-    if let Err(unwritten) = write_all(writer, report.as_bytes(), MOST_WRITES) {
+    let read = checker.check_all(&mut lines, &mut report, writer);
+    how.is_first = report.how.is_first;
+    if let Err(Stop::Write(unwritten)) = read {
         return Err(Stop::Write(unwritten));
     }
-    match fault {
-        None => Ok(Checked {
-            found,
-            declared: checker.declared,
-        }),
-        Some(fault) => Err(Stop::Read(fault)),
-    }
+    report.write(writer)?;
+    read?;
+    Ok(Checked {
+        found: report.found,
+        declared: checker.declared,
+    })
 }

@@ -14,11 +14,11 @@ use std::fmt;
 #[derive(Drop)]
 #[derive_where(Debug)]
 pub enum Stop<A: Allocator = Global> {
-    /// The file could not be read to its end. What was found before is printed.
+    /// The file could not be read to its end. All that was found before is printed.
     Read(Error<A>),
-    /// The report could not be written.
+    /// The report could not be written. The rest of the file is not read.
     Write(Error<A>),
-    /// An allocation failed, and nothing of this file is printed.
+    /// An allocation failed. What was told before is printed.
     Memory(AllocError),
 }
 

@@ -6,6 +6,7 @@ pub mod check;
 mod command;
 mod declared;
 pub mod failure;
+mod file_report;
 pub mod folder;
 mod help;
 pub mod laws;

@@ -1,5 +1,5 @@
-//! Reads the lines of a file, and keeps what is found on each. After a fault that is a quote, physical lines are read
-//! one by one, as guesses.
+//! Reads the lines of a file, and keeps what is found on each until no later line changes it. Then it is told. After a
+//! fault that is a quote, physical lines are read one by one, as guesses.
 
 ghost use Rattle.std.specs.Prelude.{◌≡◌, ◌≢◌, ◌⊎◌, ◌∷◌, ◌<◌, ◌+◌, [], ℕ, Err, None, Ok, false, true, IfErr, IfOk, OnOk, encode_utf8_all, length, map, string_bytes};
 ghost use Rattle.std.specs.Str.{chars};
@@ -12,12 +12,17 @@ ghost use Rattle.dotenvy_format.specs.inside.Walk.{kept_before};
 ghost use Rattle.dotenvy_findings.specs.Readings.{marks_of};
 ghost use Rattle.dotenvy_lines.specs.declared.lines.Stage.TheVariants.{Open, Failed};
 ghost use Rattle.dotenvy_checker.specs.Findings.{begins_at, cut, declaration_remarks, fault_remarks, found, guessed, is_passed, leaves_open, logical_text, open_behind, said_of, told_remark, with_key};
-ghost use Rattle.dotenvy_checker.specs.inside.CheckedLines.{declared_of, failed_as, left_len, logical_of, pieces, setting_at, ChecksGuess, ChecksGuesses, ChecksOutcome, ChecksPart, ChecksRead, ChecksUpTo, ChecksWhole, GuessIs, IsNew, KeepsMore, WhereFew};
+ghost use Rattle.dotenvy_checker.specs.inside.CheckedLines.{declared_of, failed_as, left_len, logical_of, pieces, setting_at, so_far, ChecksGuess, ChecksGuesses, ChecksOutcome, ChecksPart, ChecksWhole, GuessIs, IsNew, KeepsMore, WhereFew};
+ghost use Rattle.dotenvy_checker.specs.inside.ToldLines.{end_of_reading, AreSettled, KeepsNone, KeepsTold, TellsAll, TellsKept, TellsLines};
 
 use crate::declared::{Declared, KnownNames};
+use crate::failure::Stop;
+use crate::file_report::FileReport;
+use crate::report::{is_unknown, resolved};
+use crate::watched::{Seen, Watched};
 use dotenvy_base::environment::Environment;
 use dotenvy_base::errors::{Error, Result};
-use dotenvy_base::source::Source;
+use dotenvy_base::source::{Sink, Source};
 use dotenvy_findings::characters::begins_declaration;
 use dotenvy_findings::finding::{Finding, LineFault};
 use dotenvy_findings::kind::Kind;
@@ -32,6 +37,7 @@ use dotenvy_items::parse::scan_line;
 use dotenvy_lines::lines::Splitter;
 use dotenvy_reports::one_line::one_line;
 use std::alloc::{AllocError, Allocator};
+use std::collections::VecDeque;
 
 /// Something that is found, the name that has no value there, if that is found, what a load says of the line, if that
 /// is told, and the number of the line above it, if that may be a comment, or 0.
@@ -107,7 +113,7 @@ impl<'t> Part<'t> {
     }
 }
 
-/// The names that have a value, and what was found so far.
+/// The names that have a value, and what was found so far and is not told yet.
 #[derive(Drop)]
 pub(crate) struct Checker<'a, A: Allocator> {
     // The names of the environment, and no others: what they stand for isn't asked.
@@ -120,7 +126,7 @@ pub(crate) struct Checker<'a, A: Allocator> {
     // The number of the last line, if it may be a comment, or 0.
     above: u64,
     pub(crate) alloc: A,
-    pub(crate) pending: Vec<Pending<A>, A>,
+    pub(crate) pending: VecDeque<Pending<A>, A>,
 }
 
 // The place at which a line with this number begins.
@@ -186,6 +192,16 @@ fn guess_of(text: &str) -> Option<Part<'_>>
     }
 }
 
+// The fault that ended reading; or that an allocation failed.
+fn end_of_reading<A: Allocator>(fault: Error<A>) -> std::result::Result<Option<Error<A>>, Stop<A>>
+    ensures { result ≡ end_of_reading fault }
+{
+    match fault {
+        Error::Memory(refused) => Err(Stop::Memory(refused)),
+        fault => Ok(Some(fault)),
+    }
+}
+
 impl<'a, A: Allocator + Clone> Checker<'a, A> {
     /// A checker of a file of which nothing was read.
     pub(crate) fn new(
@@ -202,37 +218,98 @@ impl<'a, A: Allocator + Clone> Checker<'a, A> {
             dialect,
             tells_text,
             above: 0,
-            pending: Vec::new(alloc.clone()?),
+            pending: VecDeque::new(alloc.clone()?),
             alloc,
         })
     }
 
-    /// Reads all lines. Returns the fault that ended reading, if one did; the error says that an allocation failed.
-    pub(crate) fn check_all<R: Source>(
+    /// Reads all lines, tells what is found in them, and writes parts of what is told. The error is the fault that ended
+    /// reading, before which all that was found is told; or it says that a part could not be written, or that an
+    /// allocation failed.
+    pub(crate) fn check_all<R: Source, W: Sink>(
         &mut self,
-        lines: &mut Splitter<R, A>,
-    ) -> std::result::Result<Option<Error<A>>, AllocError>
-        ensures told { WhereFew lines.old.lines (λ a. IfOk result
-            (λ fault. ChecksUpTo lines.old.lines a fault self.old self.new)) }
-        ensures shut { lines.old.lines.stage ≢ Open →
-            (result ≡ Ok None) × (self.new ≡ self.old) }
+        lines: &mut Splitter<Watched<R, A>, A>,
+        report: &mut FileReport<'_, A>,
+        writer: &mut W,
+    ) -> std::result::Result<(), Stop<A>>
+        ensures told { WhereFew lines.old.lines
+            (λ a. TellsAll W.told lines.old.lines a self.old report.old writer.old result self.new
+            report.new writer.new) }
+        ensures shut { lines.old.lines.stage ≢ Open → (so_far self.old).remarks ≡ [] →
+            OnOk result (KeepsTold report.old report.new
+            × (declared_of self.new.declared ≡ declared_of self.old.declared)) }
     {
-        match self.check_lines(lines) {
-            Ok(()) => Ok(None),
-            Err(Error::Memory(refused)) => Err(refused),
-            Err(fault) => Ok(Some(fault)),
+        let ended = self.check_lines(lines, report, writer)?;
+        self.tell_rest(lines.reader().seen()?, report, writer)?;
+        match ended {
+            None => Ok(()),
+            Some(fault) => Err(Stop::Read(fault)),
         }
     }
 
-    // Reads all lines. The error is the fault that ended reading, or `Memory`.
-    fn check_lines<R: Source>(&mut self, lines: &mut Splitter<R, A>) -> Result<(), A>
+    // Reads all lines, and tells what is found in them as soon as no later line can change it. Returns the fault that
+    // ended reading, if one did.
+    fn check_lines<R: Source, W: Sink>(
+        &mut self,
+        lines: &mut Splitter<Watched<R, A>, A>,
+        report: &mut FileReport<'_, A>,
+        writer: &mut W,
+    ) -> std::result::Result<Option<Error<A>>, Stop<A>>
         ensures told { WhereFew lines.old.lines
-            (λ a. ChecksRead lines.old.lines a result self.old self.new) }
-        ensures shut { lines.old.lines.stage ≢ Open → (result ≡ Ok tt) × (self.new ≡ self.old) }
+            (λ a. TellsLines W.told lines.old.lines a self.old report.old writer.old result self.new
+            report.new writer.new) }
+        ensures shut { lines.old.lines.stage ≢ Open →
+            (result ≡ Ok None) × (self.new ≡ self.old) × (report.new ≡ report.old) }
     {
-        lines.drop_mark()?;
+        if let Err(fault) = lines.drop_mark() {
+            return end_of_reading(fault);
+        }
         'lines: while let Some(outcome) = lines.advance() {
-            self.check_outcome(lines, outcome)?;
+            if let Err(fault) = self.check_outcome(lines, outcome) {
+                return end_of_reading(fault);
+            }
+            self.tell_settled(lines.reader().seen()?, report, writer)?;
+        }
+        Ok(None)
+    }
+
+    // Tells what was found, up to the first finding that a later line may change.
+    fn tell_settled<W: Sink>(
+        &mut self,
+        seen: &Seen<A>,
+        report: &mut FileReport<'_, A>,
+        writer: &mut W,
+    ) -> std::result::Result<(), Stop<A>>
+        ensures { TellsKept AreSettled W.told self.old report.old writer.old result self.new
+            report.new writer.new }
+    {
+        'findings: while let Some(first) = self.pending.front() {
+            let finding = resolved(&self.declared, first);
+            if is_unknown(finding.kind) {
+                return Ok(());
+            }
+            report.tell(first, finding, seen)?;
+            self.pending.pop_front();
+            report.write_part(writer)?;
+        }
+        Ok(())
+    }
+
+    // Tells what was found and is not told yet.
+    fn tell_rest<W: Sink>(
+        &mut self,
+        seen: &Seen<A>,
+        report: &mut FileReport<'_, A>,
+        writer: &mut W,
+    ) -> std::result::Result<(), Stop<A>>
+        ensures told { TellsKept KeepsNone W.told self.old report.old writer.old result self.new
+            report.new writer.new }
+        ensures none { (so_far self.old).remarks ≡ [] → OnOk result (report.new ≡ report.old) }
+    {
+        'findings: while let Some(first) = self.pending.pop_front() {
+            let finding = resolved(&self.declared, &first);
+            report.tell(&first, finding, seen)?;
+            report.write_part(writer)?;
         }
         Ok(())
     }
@@ -390,7 +467,7 @@ impl<'a, A: Allocator + Clone> Checker<'a, A> {
     {
         'marks: for mark in marks {
             let Mark { kind, place, name } = mark;
-            self.pending.push(Pending {
+            self.pending.push_back(Pending {
                 finding: line.finding(kind, place, 0),
                 name,
                 said: String::new(self.alloc.clone()?),
@@ -425,7 +502,7 @@ impl<'a, A: Allocator + Clone> Checker<'a, A> {
             (fault_remarks (setting_at self.old line.is_guess) fault (string_bytes said))
             (declared_of self.old.declared) 0 self.old self.new) }
     {
-        self.pending.push(Pending {
+        self.pending.push_back(Pending {
             finding: line.finding(fault.kind, fault.place, 0),
             name: String::new(self.alloc.clone()?),
             said,
@@ -446,7 +523,7 @@ impl<'a, A: Allocator + Clone> Checker<'a, A> {
             (found (setting_at self.old line.is_guess) told.0 told.1 other ∷ [])
             (declared_of self.old.declared) self.old.above self.old self.new) }
     {
-        self.pending.push(Pending {
+        self.pending.push_back(Pending {
             finding: line.finding(told.0, told.1, other),
             name: String::new(self.alloc.clone()?),
             said: String::new(self.alloc.clone()?),

@@ -1,23 +1,21 @@
-//! The report of a file: a line for each finding.
+//! How a file is reported: what is told of it once names that a later line declares are known, and in which form.
 
-ghost use Rattle.std.specs.Prelude.{◌≡◌, ◌||◌, ◌&&◌, ◌++◌, [], if◌then◌else◌, IfOk, OnOk, map, string_bytes};
-ghost use Rattle.dotenvy_checker.specs.Checks.{both, found_in, found_of};
-ghost use Rattle.dotenvy_checker.specs.Findings.{bad_left, comments_from, is_allowed_on, is_among, is_told, placed, placed_one, reported, resolved, shown};
+ghost use Rattle.std.specs.Prelude.{◌≡◌, ◌||◌, ◌&&◌, ◌++◌, [], if◌then◌else◌, OnOk, map, string_bytes};
+ghost use Rattle.dotenvy_checker.specs.Checks.{both, found_of};
+ghost use Rattle.dotenvy_checker.specs.Findings.{comments_from, is_allowed_on, is_among, is_told, is_unknown, resolved};
 ghost use Rattle.dotenvy_findings.specs.Comments.{allow_of};
-ghost use Rattle.dotenvy_checker.specs.Report.{report, said_line, said_text};
+ghost use Rattle.dotenvy_checker.specs.Report.{said_line, said_text};
 ghost use Rattle.dotenvy_reports.specs.Formats.{separator};
-ghost use Rattle.dotenvy_checker.specs.inside.CheckedLines.{allow_comments, bad_bytes, declared_of, remark_of, so_far};
+ghost use Rattle.dotenvy_checker.specs.inside.CheckedLines.{declared_of, remark_of};
 
 use crate::declared::Declared;
-use crate::lines::{Checker, Pending};
-use crate::watched::Seen;
+use crate::lines::Pending;
 use dotenvy::Error;
-use dotenvy_findings::bytes::BadByte;
 use dotenvy_findings::comments::AllowComment;
 use dotenvy_findings::finding::Finding;
 use dotenvy_findings::kind::Kind;
 use dotenvy_reports::format::Format;
-use dotenvy_reports::reports::{push_finding, push_unread};
+use dotenvy_reports::reports::push_unread;
 use std::alloc::{AllocError, Allocator};
 
 /// How a file is reported.
@@ -97,8 +95,8 @@ impl Found {
         self.faults || self.denied || is_strict && self.warnings
     }
 
-    // What a finding is, where warnings of these kinds are denied. A guess is neither a fault nor a warning.
-    fn of(finding: Finding, denied: &[Kind]) -> Found
+    /// What a finding is, where warnings of these kinds are denied. A guess is neither a fault nor a warning.
+    pub(crate) fn of(finding: Finding, denied: &[Kind]) -> Found
         ensures { result ≡ found_of denied.now finding }
     {
         let is_fault = finding.kind.is_fault();
@@ -111,8 +109,11 @@ impl Found {
     }
 }
 
-// The comments that stand on this line or behind it.
-fn comments_from<A: Allocator>(line: u64, comments: &[AllowComment<A>]) -> &[AllowComment<A>]
+/// The comments that stand on this line or behind it.
+pub(crate) fn comments_from<A: Allocator>(
+    line: u64,
+    comments: &[AllowComment<A>],
+) -> &[AllowComment<A>]
     ensures { map allow_of result.now ≡ comments_from line (map allow_of comments.now) }
 {
     let mut rest = comments;
@@ -135,9 +136,9 @@ fn is_allowed_on<A: Allocator>(line: u64, kind: Kind, comments: &[AllowComment<A
     }
 }
 
-// Whether a finding is told, above whose line this one is: it is an error, or of no kind that is allowed, and the
-// comment on the line above, if that is the first of these, does not allow it.
-fn is_told<A: Allocator>(
+/// Whether a finding is told, above whose line this one is: it is an error, or of no kind that is allowed, and the
+/// comment on the line above, if that is the first of these, does not allow it.
+pub(crate) fn is_told<A: Allocator>(
     finding: Finding,
     above: u64,
     allowed: &[Kind],
@@ -149,8 +150,8 @@ fn is_told<A: Allocator>(
         || !(is_among(finding.kind, allowed) || is_allowed_on(above, finding.kind, comments))
 }
 
-// Appends what separates two findings, unless this is the first.
-fn push_separator<A: Allocator>(
+/// Appends what separates two findings, unless this is the first.
+pub(crate) fn push_separator<A: Allocator>(
     text: &mut String<A>,
     format: Format,
     is_first: bool,
@@ -164,8 +165,8 @@ fn push_separator<A: Allocator>(
     text.push_str(format.separator())
 }
 
-// Appends what a load says of a line, if that is told and the form is text.
-fn push_said<A: Allocator>(
+/// Appends what a load says of a line, if that is told and the form is text.
+pub(crate) fn push_said<A: Allocator>(
     text: &mut String<A>,
     format: Format,
     said: &str,
@@ -191,12 +192,19 @@ fn push_said_line<A: Allocator>(text: &mut String<A>, said: &str) -> Result<(), 
     text.push('\n')
 }
 
-// What is found, where these names are declared in the whole file.
-fn resolved<A: Allocator>(declared: &Declared<A>, pending: &Pending<A>) -> Finding
+/// Whether a name that has no value is found, and no other thing.
+pub(crate) fn is_unknown(kind: Kind) -> bool
+    ensures { result ≡ is_unknown kind }
+{
+    matches!(kind, Kind::UnknownName | Kind::UnknownBracedName)
+}
+
+/// What is found, where these names are declared.
+pub(crate) fn resolved<A: Allocator>(declared: &Declared<A>, pending: &Pending<A>) -> Finding
     ensures { result ≡ resolved (declared_of declared.now) (remark_of pending.now) }
 {
     let finding = pending.finding;
-    if !matches!(finding.kind, Kind::UnknownName | Kind::UnknownBracedName) {
+    if !is_unknown(finding.kind) {
         return finding;
     }
     match declared.first_line(pending.name.as_str()) {
@@ -207,68 +215,6 @@ fn resolved<A: Allocator>(declared: &Declared<A>, pending: &Pending<A>) -> Findi
         },
         None => finding,
     }
-}
-
-// A finding, at the next of these bytes that are no text, if it is that of a line that is none; and the bytes behind.
-fn placed(finding: Finding, bad: &[BadByte]) -> (Finding, &[BadByte])
-    ensures { (result.0 ≡ placed_one bad.now finding)
-        × (result.1.now ≡ bad_left bad.now finding) }
-{
-    match (finding.kind, bad.split_first()) {
-        (Kind::NotUtf8, Some((first, others))) => {
-            let kind = match first.hint {
-                Kind::Utf16 => Kind::Utf16,
-                Kind::Latin1 => Kind::Latin1,
-                _ => Kind::NotUtf8,
-            };
-            let placed = Finding {
-                kind,
-                place: first.place,
-                ..finding
-            };
-            (placed, others)
-        }
-        _ => (finding, bad),
-    }
-}
-
-/// What is reported of what was found in the file with this name, in whose bytes this was seen, and what it comes to.
-pub(crate) fn report_of<A: Allocator + Clone>(
-    file: &str,
-    checker: &Checker<'_, A>,
-    seen: &Seen<A>,
-    how: Reporting<'_>,
-) -> Result<(String<A>, Found), AllocError>
-    ensures text { IfOk result (λ given. string_bytes given.0
-        ≡ report how.entry.format how.entry.is_first file.now
-        (placed (bad_bytes seen.now)
-        (reported how.entry.allowed.now (allow_comments seen.now) (so_far checker.now)))) }
-    ensures found { IfOk result (λ given. given.1
-        ≡ found_in how.entry.denied.now
-        (shown (reported how.entry.allowed.now (allow_comments seen.now) (so_far checker.now)))) }
-{
-    let mut text = String::new(checker.alloc.clone()?);
-    let mut found = Found::NOTHING;
-    let mut is_first = how.is_first;
-    let mut rest = checker.pending.as_slice();
-    let mut bad = seen.bad.found();
-    let mut comments = seen.comments.found();
-    'findings: while let Some((first, after)) = rest.split_first() {
-        let finding = resolved(&checker.declared, first);
-        rest = after;
-        comments = comments_from(first.above, comments);
-        if !is_told(finding, first.above, how.allowed, comments) {
-            continue 'findings;
-        }
-        let (placed, others) = placed(finding, bad);
-        push_separator(&mut text, how.format, is_first)?;
-        push_finding(&mut text, how.format, file, placed)?;
-        push_said(&mut text, how.format, first.said.as_str())?;
-        found = found.and(Found::of(finding, how.denied));
-        is_first = false;
-        bad = others;
-    }
-    Ok((text, found))
 }
 
 /// What is reported of a file that could not be opened or read: its name, and the error.

@@ -1,10 +1,11 @@
 //! A source that is watched for bytes that are no text, and for comments that allow kinds of findings.
 
-ghost use Rattle.std.specs.Prelude.{◌≡◌, ◌≤◌, None, IfOk, OnOk, length, take};
+ghost use Rattle.std.specs.Prelude.{◌≡◌, ◌≢◌, ◌≤◌, None, IfOk, OnErr, OnOk, length};
 ghost use Rattle.dotenvy_base.specs.Calls.{TellsCall, call_of};
 ghost use Rattle.dotenvy_base.specs.Source.{ReadsAhead};
 ghost use Rattle.dotenvy_findings.specs.Bytes as no_text;
 ghost use Rattle.dotenvy_findings.specs.Comments as allowing;
+ghost use Rattle.dotenvy_checker.specs.inside.WatchedReads.{allowing_given, allowing_read, no_text_given, no_text_read};
 
 use dotenvy::Source;
 use dotenvy_findings::bytes::BadBytes;
@@ -12,7 +13,7 @@ use dotenvy_findings::comments::AllowComments;
 use std::alloc::{AllocError, Allocator};
 use std::io;
 
-/// What was seen in the bytes of a file.
+/// What was seen in the bytes of a file that were read so far.
 #[derive(Drop)]
 pub(crate) struct Seen<A: Allocator> {
     /// The bytes that are no text.
@@ -57,6 +58,20 @@ impl<A: Allocator + Clone> Seen<A> {
         self.bad.finish()?;
         self.comments.finish()
     }
+
+    // Watches what a read gave: bytes, or the end of the file, unless nothing was asked for.
+    fn read(&mut self, bytes: &[u8], asks_nothing: bool) -> Result<(), AllocError>
+        ensures bad { OnOk result (no_text.watch_of self.new.bad
+            ≡ no_text_given (no_text.watch_of self.old.bad) asks_nothing bytes.now) }
+        ensures comments { OnOk result (allowing.watch_of self.new.comments
+            ≡ allowing_given (allowing.watch_of self.old.comments) asks_nothing bytes.now) }
+    {
+        if bytes.is_empty() && !asks_nothing {
+            self.finish()
+        } else {
+            self.watch(bytes)
+        }
+    }
 }
 
 impl<R: Source, A: Allocator + Clone> Watched<R, A> {
@@ -77,21 +92,15 @@ impl<R: Source, A: Allocator + Clone> Watched<R, A> {
         })
     }
 
-    /// What was seen in all that was read.
-    pub(crate) fn finish(self) -> Result<Seen<A>, AllocError>
-    where
-        R: Drop,
+    /// What was seen in all that was read. The error says that memory for it was refused.
+    pub(crate) fn seen(&self) -> Result<&Seen<A>, AllocError>
+        ensures ok { IfOk result (λ seen. (self.now.refused ≡ None) × (seen.now ≡ self.now.seen)) }
+        ensures err { OnErr result (self.now.refused ≢ None) }
     {
-        let Watched {
-            inner: _,
-            mut seen,
-            refused,
-        } = self;
-        if let Some(refused) = refused {
-            return Err(refused);
+        match self.refused {
+            Some(refused) => Err(refused),
+            None => Ok(&self.seen),
         }
-        seen.finish()?;
-        Ok(seen)
     }
 }
 
@@ -106,17 +115,17 @@ impl<R: Source, A: Allocator + Clone> Source for Watched<R, A> {
             (call_of (length buf.old) result) }
         ensures same { (R.told self.new.inner).references ≡ (R.told self.old.inner).references }
 
-        // What is read is watched, unless memory was refused.
+        // What is read is watched, and so is the end of the file, unless memory was refused.
         ensures bad { IfOk result (λ n. self.new.refused ≡ None →
             no_text.watch_of self.new.seen.bad
-            ≡ no_text.watched (no_text.watch_of self.old.seen.bad) (take n buf.new)) }
+            ≡ no_text_read (no_text.watch_of self.old.seen.bad) n buf.new) }
         ensures comments { IfOk result (λ n. self.new.refused ≡ None →
             allowing.watch_of self.new.seen.comments
-            ≡ allowing.watched (allowing.watch_of self.old.seen.comments) (take n buf.new)) }
+            ≡ allowing_read (allowing.watch_of self.old.seen.comments) n buf.new) }
     {
         let n = self.inner.read_some(buf)?;
         if let Some(bytes) = buf.get(..n) {
-            if let Err(refused) = self.seen.watch(bytes) {
+            if let Err(refused) = self.seen.read(bytes, buf.is_empty()) {
                 self.refused = Some(refused);
             }
         }

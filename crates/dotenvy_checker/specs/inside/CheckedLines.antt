@@ -1,12 +1,11 @@
 -- What the code finds on lines, and what it then knows.
-use Rattle.std.specs.Prelude.{ℕ, ◌≡◌, ◌≢◌, ◌⊎◌, Bool, true, false, List, [], ◌++◌, map, Option, Some, None}
+use Rattle.std.specs.Prelude.{ℕ, ◌≡◌, ◌≢◌, Bool, true, false, List, [], ◌++◌, map, Option, Some, None}
 use Rattle.std.specs.Prelude.{Result, Ok, Err, string_bytes, length, ◌+◌}
 use denote.Ref.{Bor}
 use Rattle.std.specs.Str.{chars}
 use Rattle.dotenvy_base.specs.declared.errors.Error.{Error}
 use Rattle.dotenvy_base.specs.declared.errors.Error.TheVariants as error
 use Rattle.dotenvy_base.specs.Environment.{Env}
-use Rattle.dotenvy_base.specs.Errors.{IsMemory}
 use Rattle.dotenvy_base.specs.Source.{Ahead}
 use Rattle.dotenvy_format.specs.declared.dialect.Dialect.{Dialect}
 use Rattle.dotenvy_format.specs.Characters.{byte_len}
@@ -28,11 +27,11 @@ use Rattle.dotenvy_checker.specs.declared.lines.Part.{Part}
 use Rattle.dotenvy_checker.specs.declared.lines.Part.TheVariants.{Text, Open}
 use Rattle.dotenvy_checker.specs.declared.lines.Pending.{Pending}
 use Rattle.dotenvy_checker.specs.declared.watched.Seen.{Seen}
-use Rattle.dotenvy_checker.specs.Findings.{Declared, Remark, Row, Setting, SoFar, behind, cut, has_value}
-use Rattle.dotenvy_checker.specs.Findings.{lines_of, under}
-use Rattle.dotenvy_checker.specs.Findings.{logical_text, nothing_yet, with_lines, with_logical, with_rows}
-use Rattle.dotenvy_checker.specs.Findings.{AreGuesses, AreRows, GuessesFrom, IsGuess}
-use Rattle.dotenvy_checker.specs.Checks.{names_in, FewLines, ReadsLines}
+use Rattle.dotenvy_checker.specs.Findings.{Declared, Remark, Setting, SoFar, behind, cut, has_value}
+use Rattle.dotenvy_checker.specs.Findings.{under}
+use Rattle.dotenvy_checker.specs.Findings.{logical_text, nothing_yet, with_lines, with_logical}
+use Rattle.dotenvy_checker.specs.Findings.{AreGuesses, GuessesFrom, IsGuess}
+use Rattle.dotenvy_checker.specs.Checks.{names_in, FewLines}
 pub use Rattle.dotenvy_checker.specs.Checks.{declared_of}
 
 -- the names that have a value
@@ -179,24 +178,6 @@ ChecksOutcome lines (Ok done) old new =
 ChecksOutcome lines (Err e) old new =
     (lines.lines.stage ≢ Failed)
     × ChecksWhole (last_lines lines.lines).0 (last_lines lines.lines).1 (failed_as e) old new
-
--- these rows are checked
-pub record ChecksRows {A : Type 0} (rows : List Row) (old new : Checker A) : Type 0 where
-  pub are_rows : AreRows old.dialect rows
-  pub comes : ComesTo (with_rows (setting_of old false) (so_far old) rows) old new
-
--- the lines that are read of a, from s on, up to this fault or the end, are checked
-abbrev pub ChecksUpTo : {A : Type 0} → LinesState → Ahead → Option (Error A) → Checker A →
-    Checker A → Type 0
-ChecksUpTo s a fault old new =
-    (rows : List Row) × ReadsLines old.dialect s a fault (lines_of rows)
-    × ChecksRows rows old new
-
--- the lines that are read of a, from s on, are checked; or an allocation failed
-abbrev pub ChecksRead : {A : Type 0} → LinesState → Ahead → Result (Unit {0}) (Error A) →
-    Checker A → Checker A → Type 0
-ChecksRead s a (Ok done) old new = ChecksUpTo s a None old new
-ChecksRead s a (Err e) old new = IsMemory e ⊎ ChecksUpTo s a (Some e) old new
 
 -- P holds of what is told to be left of open lines, if their numbers fit 64 bits
 abbrev pub WhereFew : LinesState → (Ahead → Type 0) → Type 0
