@@ -532,6 +532,31 @@ check_outputs() {
     check 'standard error is full' 2 '' ''
 }
 
+# Calls the program on standard input with so many kilobytes of memory.
+call_bounded() (
+    ulimit -v "$1"
+    exec "$program" - 2>"$room/errors"
+)
+
+# Lines that each have a finding are printed while they are read, and none of them is held.
+check_sizes() {
+    local lines=2000000 twice='warning: this name is declared already, and the first value counts (line 1)'
+    status=0
+    (yes A=1 || true) | head -n "$lines" | call_bounded 20000 | tail -n 1 >"$room/output" || status=$?
+    check "$lines lines with a finding, in 20 MB" 0 "<stdin>:$lines:1: $twice [declared-twice]$nl" ''
+    # The input has no end: the program does, when the reader of its report goes.
+    status=0
+    (yes A=1 || true) | (timeout 60 "$program" - 2>"$room/errors" || true) | sed -n '1000{p;q}' >"$room/output" || status=$?
+    check 'a report of an input without an end' 0 "<stdin>:1001:1: $twice [declared-twice]$nl" \
+        "$(failure 'Broken pipe (os error 32)')$nl"
+    # One line, however long, has one finding of a kind.
+    { printf 'A='; head -c 1600000 /dev/zero | tr '\0' '$'; echo; } >dollars.env
+    call dollars.env
+    check 'a line of 1600000 dollars' 0 \
+        "dollars.env:1:3: warning: a dollar without a name gives nothing; write \\$ [lone-dollar]$nl" ''
+    rm dollars.env
+}
+
 check_statuses
 check_words
 check_counts
@@ -546,5 +571,6 @@ check_files
 check_streams
 check_search
 check_outputs
+check_sizes
 
 tell_sums
