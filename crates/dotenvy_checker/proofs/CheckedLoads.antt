@@ -4,6 +4,7 @@ use Rattle.std.proofs.Common.{arith, map, sym, true, ◌&&◌, ◌==◌, ◌||�
 use Rattle.std.proofs.lemmas.Bool.{cases_Bool}
 use Rattle.dotenvy_base.specs.declared.errors.Error.{Error}
 use Rattle.std.specs.List.{list_any}
+use Rattle.dotenvy_findings.specs.Comments.{Allow}
 use Rattle.dotenvy_findings.specs.declared.bytes.BadByte.{BadByte}
 use Rattle.dotenvy_findings.specs.declared.finding.Finding.{Finding}
 use Rattle.dotenvy_findings.specs.declared.kind.Kind.{Kind}
@@ -20,7 +21,8 @@ use Rattle.dotenvy_items.specs.Meaning.{values_of, recalled_of}
 use Rattle.dotenvy_items.proofs.WholeLoads.{load_takes_all, override_takes_all}
 use Rattle.dotenvy_checker.specs.declared.report.Found.{Found}
 use Rattle.dotenvy_checker.specs.Checks.{file_setting}
-use Rattle.dotenvy_checker.specs.Findings.{AreTold, Declared, Remark, Row, Setting, SoFar, broken_kind, findings}
+use Rattle.dotenvy_checker.specs.Findings.{AreTold, Declared, Remark, Row, Setting, SoFar, broken_kind}
+use Rattle.dotenvy_checker.specs.Findings.{comments_from, findings}
 use Rattle.dotenvy_checker.specs.Findings.{findings_of, is_allowed_on, is_among, is_broken, is_error, lines_of}
 use Rattle.dotenvy_checker.specs.Findings.{placed_one, resolved, settled, settled_all, shown}
 use Rattle.dotenvy_checker.specs.Laws.{CheckedFilesLoad, LoadsChecked, LoadsIfNoError}
@@ -57,17 +59,18 @@ placed_error (bad ∷ others) finding =
     ]
 
 -- what is told has an error exactly where what is found has one
-errors_told : (allowed : List Kind) (remarks told : List Remark) → AreTold allowed remarks told →
-    list_any is_error (shown told) ≡ list_any is_error (shown remarks)
-errors_told allowed [] told is = rw is refl
-errors_told allowed (remark ∷ remarks) told (comments, bad, others, are, is) =
+errors_told : (allowed : List Kind) (comments : List Allow) (remarks told : List Remark) →
+    AreTold allowed comments remarks told → list_any is_error (shown told) ≡ list_any is_error (shown remarks)
+errors_told allowed comments [] told is = rw is refl
+errors_told allowed comments (remark ∷ remarks) told (bad, others, are, is) =
     let finding = remark.finding in
-    let later = errors_told allowed remarks others are in
+    let left = comments_from remark.above comments in
+    let later = errors_told allowed left remarks others are in
     let same = placed_error bad finding in
     elim (cases_Bool (is_error finding)) [
       | inl error ↦ rw (is, error, same, error) refl
       | inr passes ↦
-          elim (cases_Bool (is_among finding.kind allowed || is_allowed_on remark.above finding.kind comments)) [
+          elim (cases_Bool (is_among finding.kind allowed || is_allowed_on remark.above finding.kind left)) [
             | inl hidden ↦ rw (is, passes, hidden) later
             | inr other ↦ rw (is, passes, other, same, passes) later
           ]
@@ -80,10 +83,11 @@ settled_shown declared [] = refl
 settled_shown declared (remark ∷ remarks) = rw (settled_shown declared remarks) refl
 
 -- what is told of all that is found has an error exactly where that has one
-errors_reported : (allowed : List Kind) (all : SoFar) (told : List Remark) → AreTold allowed (settled_all all) told →
+errors_reported : (allowed : List Kind) (comments : List Allow) (all : SoFar) (told : List Remark) →
+    AreTold allowed comments (settled_all all) told →
     list_any is_error (shown told) ≡ list_any is_error (findings_of all)
-errors_reported allowed all told are =
-    errors_told allowed (settled_all all) told are
+errors_reported allowed comments all told are =
+    errors_told allowed comments (settled_all all) told are
     ∙ ap (list_any is_error) (settled_shown all.declared all.remarks)
 
 -- a rule loads the lines of a file exactly where no error is found
@@ -95,7 +99,7 @@ StopsAtErrors rule =
 -- a rule that loads all that is left, and entries exactly where no error is found, loads what was checked
 loads_checked : {A W : Type 0} (rule : Rule) → LoadsAllLeft rule A → StopsAtErrors rule → LoadsChecked rule A W
 loads_checked {A = A} rule takes_all if_no_error sink a outcome answer k =
-    let (all, (rows, (no_fault, has), are_rows, is_all), (remarks, tells, (are_told, sends))) = k.reports in
+    let (all, (rows, (no_fault, has), are_rows, is_all), (remarks, tells, (comments, are_told, sends))) = k.reports in
     let setting = file_setting k.names k.checked.dialect k.how.text in
     let number = k.checked.lines.lines_taken + 1 in
     let entries = entries_of (lines_of rows) in
@@ -108,7 +112,7 @@ loads_checked {A = A} rule takes_all if_no_error sink a outcome answer k =
     if_no_error setting number (without_mark a.bytes) rows refl has (values_of k.old) (recalled_of k.loaded.remembered)
     in
     let errors : outcome.found.faults ≡ list_any is_error (findings setting rows) =
-    ap (λ (found : Found). found.faults) tells.found ∙ errors_reported k.how.allowed.now all remarks are_told
+    ap (λ (found : Found). found.faults) tells.found ∙ errors_reported k.how.allowed.now comments all remarks are_told
     ∙ ap (λ (all : SoFar). list_any is_error (findings_of all)) is_all in (
       λ none. (loaded.answer, loads.1 (sym errors ∙ none), said),
       λ ok. errors ∙ loads.0 (ok_said loaded.answer answer said ok),

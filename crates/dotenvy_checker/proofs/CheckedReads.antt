@@ -1,12 +1,14 @@
 -- The lines that a checker reads, one after another, and how its reading ends.
-use Rattle.std.proofs.Common.{◌≡◌, ◌≢◌, ℕ, ◌+◌, ◌-◌, ◌<◌, ◌≤◌, ◌⊎◌, inl, inr, List, [], ◌∷◌, ◌++◌, length, Option, Some, None}
-use Rattle.std.proofs.Common.{Result, Ok, Err, refl, sym, ap, ◌∙◌, string_bytes, Bool, true, false, arith, map}
-use Rattle.std.specs.Prelude.{◌^◌}
+use Rattle.std.proofs.Common.{◌≡◌, ◌≢◌, ℕ, ◌+◌, ◌-◌, ◌<◌, ◌≤◌, ◌⊎◌, inl, inr, List, [], ◌∷◌, ◌++◌, length, Option}
+use Rattle.std.proofs.Common.{Some, None, Result, Ok, Err, refl, sym, ap, ◌∙◌, string_bytes, Bool, true, false, arith}
+use Rattle.std.proofs.Common.{map}
+use Rattle.std.specs.Prelude.{◌^◌, IsErrAnd}
 use Rattle.std.specs.List.{AllByRecursion}
 use Rattle.std.specs.Str.{chars}
+use Rattle.std.specs.declared.alloc.AllocError.{AllocError}
 use Rattle.std.specs.declared.io.ErrorKind.TheVariants.{InvalidData}
 use Rattle.std.proofs.Math.Nat.{lt_of_not-le}
-use Rattle.std.proofs.lemmas.List.{append_assoc, drop_all, length-drop, map-append}
+use Rattle.std.proofs.lemmas.List.{append-nil, append_assoc, drop_all, length-drop, map-append}
 use Rattle.std.proofs.lemmas.Str.{chars-nil}
 use Rattle.dotenvy_base.specs.declared.errors.Error.{Error}
 use Rattle.dotenvy_base.specs.declared.errors.Error.TheVariants as error
@@ -31,6 +33,7 @@ use Rattle.dotenvy_lines.proofs.DroppedMarks.{Unmarks, unmarks, mark_decides, ma
 use Rattle.dotenvy_lines.proofs.LineEntries.{no_lines}
 use Rattle.dotenvy_lines.proofs.LinesRead.{Read, TakesLine, Answers, file_line, read_none, read_more}
 use Rattle.dotenvy_lines.proofs.LinesRead.{next_outcome, read_end, read_final}
+use Rattle.dotenvy_findings.specs.Comments.{Allow}
 use Rattle.dotenvy_findings.specs.declared.kind.Kind.{Kind}
 use Rattle.dotenvy_items.specs.LoadStops.{unmarked}
 use Rattle.dotenvy_items.proofs.NextItems.{goes_on_lines}
@@ -38,19 +41,21 @@ use Rattle.dotenvy_checker.specs.declared.file_report.FileReport.{FileReport}
 use Rattle.dotenvy_checker.specs.declared.lines.Checker.{Checker}
 use Rattle.dotenvy_checker.specs.declared.failure.Stop.{Stop}
 use Rattle.dotenvy_checker.specs.declared.failure.Stop.TheVariants as stop
-use Rattle.dotenvy_checker.specs.Checks.{file_setting, names_in, FewLines, ReadsLines}
-use Rattle.dotenvy_checker.specs.Findings.{Remark, Row, Setting, SoFar, behind, last_of, lines_of, logical_text}
-use Rattle.dotenvy_checker.specs.Findings.{nothing_yet, settled, settled_all, with_lines, with_logical, with_rows}
-use Rattle.dotenvy_checker.specs.Findings.{AreRows, AreTold, GuessesFrom}
+use Rattle.dotenvy_checker.specs.Checks.{file_setting, names_in, FewLines, IsMemoryStop, ReadsFirst, ReadsLines}
+use Rattle.dotenvy_checker.specs.Findings.{Declared, Remark, Row, Setting, SoFar, behind, last_of, lines_of}
+use Rattle.dotenvy_checker.specs.Findings.{logical_text, nothing_yet, settled, settled_all, with_lines, with_logical}
+use Rattle.dotenvy_checker.specs.Findings.{with_rows}
+use Rattle.dotenvy_checker.specs.Findings.{AreRows, GuessesFrom}
 use Rattle.dotenvy_checker.specs.inside.CheckedLines.{declared_of, failed_as, setting_of, so_far, ChecksOutcome}
 use Rattle.dotenvy_checker.specs.inside.CheckedLines.{ComesTo, IsNew, WhereFew}
-use Rattle.dotenvy_checker.specs.inside.ToldLines.{end_of_reading, led_by, AreSettled, IsSettled, TellsAll, TellsFirst}
-use Rattle.dotenvy_checker.specs.inside.ToldLines.{TellsFront, TellsKept, TellsLines, TellsParts, TellsSettled}
+use Rattle.dotenvy_checker.specs.inside.ToldLines.{end_of_reading, last_above, led_by, AreToldInTurn, IsAny, IsSettled}
+use Rattle.dotenvy_checker.specs.inside.ToldLines.{KeepsAny, KeepsNone, TellsAll, TellsFirst, TellsFront, TellsKept}
+use Rattle.dotenvy_checker.specs.inside.ToldLines.{TellsLines, TellsParts, TellsRows, TellsSettled, TellsSome}
 use Rattle.dotenvy_checker.proofs.KeptLines.{with_rows-append}
-use Rattle.dotenvy_checker.proofs.Settled.{all_settled, all_stay, behind_front, entries_extend, lines_extend}
-use Rattle.dotenvy_checker.proofs.Settled.{row_behind, Extends}
+use Rattle.dotenvy_checker.proofs.Settled.{all_known, all_settled, all_stay, behind_front, entries_extend}
+use Rattle.dotenvy_checker.proofs.Settled.{lines_extend, row_behind, Extends}
 use Rattle.dotenvy_checker.proofs.Told.{cannot-append, tells-append, told-append}
-use Rattle.dotenvy_checker.proofs.ToldFronts.{all-append, told_none}
+use Rattle.dotenvy_checker.proofs.ToldFronts.{all-append, tells_nothing}
 
 -- what the checker kept, behind what was told of it, is what is found in these rows; nothing else changes
 pub record ComesBehind {A : Type 0} (front : List Remark) (rows : List Row) (old new : Checker A) : Type 0 where
@@ -74,7 +79,8 @@ pub record CheckedSoFar {A W : Type 0} (told : W → SinkTold) (s t : LinesState
     (report : FileReport A) (writer : W) (now : Checker A) (later : FileReport A) (written : W) : Type 0 where
   pub front : List Remark
   pub remarks : List Remark
-  pub are : AreTold report.how.allowed.now (map (settled (declared_of now.declared)) front) remarks
+  pub are : AreToldInTurn report.how.allowed.now (last_above report) (map (settled (declared_of now.declared)) front)
+      remarks (last_above later)
   pub settled_front : AllByRecursion (IsSettled (declared_of now.declared)) front
   pub parts : TellsParts told remarks report writer later written
   pub read : WhereFew s (λ a. CheckedTo a s t front old now)
@@ -91,12 +97,12 @@ pub checked_none : {A W : Type 0} (told : W → SinkTold) (s t : LinesState) (ol
     WhereOpen s (λ a. DropsMark {A = A} a s.input (Ok tt) t.input) →
     CheckedSoFar told s t old report writer old report writer
 checked_none {A = A} told s t old report writer stage taken drops =
-    let none = told_none (λ remark. Unit {0}) told old report writer in record {
+    record {
       front = [];
       remarks = [];
-      are = refl;
+      are = (refl, refl);
       settled_front = tt;
-      parts = none.parts;
+      parts = tells_nothing told report writer;
       read = λ a opened is_told few.
           let dropped = unmarks A (stage opened ∙ opened) taken (drops a opened is_told) in record {
             start = t;
@@ -221,8 +227,9 @@ settings : {A : Type 0} {front : List Remark} {rows : List Row} {old new : Check
 settings is_guess k = rw (k.names, k.dialect, k.tells) refl
 
 -- what is told of what is kept stands behind what was told
-told_on : {A : Type 0} {a : Ahead} {s t : LinesState} {allowed : List Kind} {front more remarks : List Remark}
-    {old now new : Checker A} → TellsFront allowed more remarks now new → CheckedTo a s t front old now →
+told_on : {A : Type 0} {a : Ahead} {s t : LinesState} {allowed : List Kind} {start end : Allow}
+    {front more remarks : List Remark} {old now new : Checker A} → TellsFront allowed start end more remarks now new →
+    CheckedTo a s t front old now →
     CheckedTo a s t (front ++ more) old new
 told_on {front = front} {more} {new = new} tells k = record {
   start = k.start;
@@ -296,34 +303,62 @@ outcome_extends m (Ok done) now new (entries, guesses, gives, guessed, comes) =
 outcome_extends m (Err e) now new (not_failed, (entries, guesses, gives, guessed, comes)) =
     whole_extends (last_lines m.lines).0 (last_lines m.lines).1 (failed_as e) entries guesses comes
 
+-- with one more line a checker has come to what follows
+line_read_at : {A : Type 0} {a : Ahead} {s : LinesState} {front : List Remark} {old now new : Checker A}
+    {p m : SplitterState} (outcome : Result (Unit {0}) (Error A)) → Answers p (Some outcome) m →
+    ChecksOutcome m outcome now new → (k : CheckedTo a s p.lines front old now) → IsTold s.input.left a →
+    FewLines s a → CheckedTo a s m.lines front old new
+line_read_at {a = a} {old = old} {now} {new} {p} {m} outcome answers checks k is_told few =
+    line_read m.lines few k
+    (line_checked old.dialect (ahead_of k.read.left a.fault) p.lines now new m outcome k.comes.dialect
+    (next_outcome (k.unmarks.moves.is_left, is_told.1) k.read answers) checks)
+
+-- what was told, and what is told behind it, is told by the names that are declared now
+told_both : {A W : Type 0} {told : W → SinkTold} {s t : LinesState} {old now : Checker A}
+    {report later : FileReport A} {writer written : W} (new : Checker A) (more remarks : List Remark) (end : Allow)
+    (came : CheckedSoFar told s t old report writer now later written) →
+    AreToldInTurn later.how.allowed.now (last_above later) (map (settled (declared_of new.declared)) more) remarks end →
+    Extends (declared_of now.declared) (declared_of new.declared) →
+    AreToldInTurn report.how.allowed.now (last_above report)
+    (map (settled (declared_of new.declared)) (came.front ++ more)) (came.remarks ++ remarks) end
+told_both {now = now} {report = report} {later = later} new more remarks end came second extends =
+    let before = declared_of now.declared in
+    let after = declared_of new.declared in
+    let stays = all_stay before after came.front extends came.settled_front in
+    rw (map-append) (told-append report.how.allowed.now (last_above report) (last_above later) end
+    (map (settled after) came.front) (map (settled after) more) came.remarks remarks (rw (← stays) at came.are)
+    (rw (came.parts.how) at second))
+
+-- so is all of it settled
+settled_both : {A W : Type 0} {told : W → SinkTold} {s t : LinesState} {old now : Checker A}
+    {report later : FileReport A} {writer written : W} (new : Checker A) (more : List Remark)
+    (came : CheckedSoFar told s t old report writer now later written) →
+    Extends (declared_of now.declared) (declared_of new.declared) →
+    AllByRecursion (IsSettled (declared_of new.declared)) more →
+    AllByRecursion (IsSettled (declared_of new.declared)) (came.front ++ more)
+settled_both {now = now} new more came extends settled_more =
+    let before = declared_of now.declared in
+    let after = declared_of new.declared in
+    all-append (IsSettled after) came.front more (all_settled before after came.front extends came.settled_front)
+    settled_more
+
 -- one more line leads a checker on, and what is then told of what it kept is told behind what was told
 pub checked_more : {A W : Type 0} (told : W → SinkTold) {s : LinesState} {old now new end : Checker A}
     {report later last : FileReport A} {writer written at : W} {p m : SplitterState}
     (outcome : Result (Unit {0}) (Error A)) → CheckedSoFar told s p.lines old report writer now later written →
     Answers p (Some outcome) m → ChecksOutcome m outcome now new →
-    TellsKept AreSettled told new later written (Ok tt) end last at →
+    TellsKept (IsSettled (declared_of new.declared)) KeepsAny told new later written (Ok tt) end last at →
     CheckedSoFar told s m.lines old report writer end last at
-checked_more told {s} {old} {now} {new} {end} {report} {later} {last} {writer} {written} {at} {p} {m} outcome came answers
-    checks (more, remarks, tells, parts, settled_more) =
-    let extends = outcome_extends m outcome now new checks in
-    let before = declared_of now.declared in
-    let after = declared_of new.declared in
-    let own = AreTold report.how.allowed.now in
-    let stays = all_stay before after came.front extends came.settled_front in
-    let first = rw (← stays) at came.are in
-    let second = rw (came.parts.how) at tells.are in record {
+checked_more told {now = now} {new = new} {last = last} {m = m} outcome came answers checks
+    (more, remarks, tells, settled_more, parts, kept) =
+    let extends = outcome_extends m outcome now new checks in record {
       front = came.front ++ more;
       remarks = came.remarks ++ remarks;
-      are = rw (tells.declared, map-append) (told-append report.how.allowed.now (map (settled after) came.front)
-          (map (settled after) more) came.remarks remarks first second);
-      settled_front = rw tells.declared (all-append (IsSettled after) came.front more
-          (all_settled before after came.front extends came.settled_front) settled_more);
+      are = rw tells.declared (told_both new more remarks (last_above last) came tells.are extends);
+      settled_front = rw tells.declared (settled_both new more came extends settled_more);
       parts = tells-append told came.parts parts;
       read = λ a opened is_told few.
-          let k = came.read a opened is_told few in
-          told_on tells (line_read m.lines few k
-          (line_checked old.dialect (ahead_of k.read.left a.fault) p.lines now new m outcome k.comes.dialect
-          (next_outcome (k.unmarks.moves.is_left, is_told.1) k.read answers) checks));
+          told_on tells (line_read_at outcome answers checks (came.read a opened is_told few) is_told few);
     }
 
 -- where nothing is left, all lines were read
@@ -367,27 +402,53 @@ reads_end : {A : Type 0} (dialect : Dialect) (lines : List FileLine) (a : Ahead)
 reads_end dialect lines a s m e (inl memory) = inl memory
 reads_end dialect lines a s m e (inr io) = inr (m, io)
 
--- what was told is told of a front of what is found in the first lines
-tells_first : {A : Type 0} {a : Ahead} {s t : LinesState} {allowed : List Kind} {front remarks : List Remark}
-    {old now : Checker A} → AreTold allowed (map (settled (declared_of now.declared)) front) remarks →
-    CheckedTo a s t front old now → TellsFirst s a allowed remarks old
-tells_first {front = front} {old = old} {now = now} are k =
+-- these are the first lines that are read
+reads_first : {A : Type 0} {a : Ahead} {s t : LinesState} {front : List Remark} {old now : Checker A}
+    (k : CheckedTo a s t front old now) → ReadsFirst old.dialect s a (lines_of k.rows)
+reads_first k = (k.read.count, rw k.unmarks.taken at k.read.begins.are)
+
+-- what was told of a settled front of what was kept is told of the first findings
+tells_first : {A : Type 0} {a : Ahead} {s t : LinesState} {allowed : List Kind} {start : Allow}
+    {remarks : List Remark} {old now : Checker A} (front more later : List Remark) (end : Allow) →
+    (so_far now).remarks ≡ more ++ later →
+    AreToldInTurn allowed start (map (settled (declared_of now.declared)) (front ++ more)) remarks end →
+    AllByRecursion (IsSettled (declared_of now.declared)) (front ++ more) → CheckedTo a s t front old now →
+    TellsFirst s a allowed start remarks old
+tells_first {old = old} {now = now} front more later end left are settled_front k =
     let all = led_by old k.rows in
-    let declared : all.declared ≡ declared_of now.declared = ap (λ (s : SoFar). s.declared) (sym k.comes.comes) in
-    record {
+    let names = declared_of now.declared in
+    let declared : all.declared ≡ names = ap (λ (s : SoFar). s.declared) (sym k.comes.comes) in
+    let remarks : all.remarks ≡ (front ++ more) ++ later =
+    ap (λ (s : SoFar). s.remarks) (sym k.comes.comes) ∙ ap (λ (t : List Remark). front ++ t) left
+    ∙ sym (append_assoc front more later) in record {
       rows = k.rows;
-      reads = (k.read.count, rw k.unmarks.taken at k.read.begins.are);
       are_rows = k.are_rows;
-      front = map (settled all.declared) front;
-      later = map (settled all.declared) (so_far now).remarks;
-      cut = ap (λ (s : SoFar). map (settled all.declared) s.remarks) (sym k.comes.comes) ∙ map-append;
-      are = rw declared are;
+      front = map (settled names) (front ++ more);
+      later = map (settled names) later;
+      cut = ap (λ (d : Declared). map (settled d) all.remarks) declared
+          ∙ ap (λ (t : List Remark). map (settled names) t) remarks ∙ map-append;
+      final = inl (reads_first k, all_known names (front ++ more) settled_front);
+      end = end;
+      are = are;
     }
+
+-- the same of what was told so far
+tells_so_far : {A W : Type 0} {told : W → SinkTold} {a : Ahead} {s t : LinesState} {old now : Checker A}
+    {report later : FileReport A} {writer written : W}
+    (came : CheckedSoFar told s t old report writer now later written) → CheckedTo a s t came.front old now →
+    TellsFirst s a report.how.allowed.now (last_above report) came.remarks old
+tells_so_far {now = now} {later = later} came k =
+    let names = declared_of now.declared in
+    let all = append-nil came.front in
+    let are : AreToldInTurn _ _ (map (settled names) (came.front ++ [])) came.remarks (last_above later) =
+    rw all came.are in
+    let settled_front : AllByRecursion (IsSettled names) (came.front ++ []) = rw all came.settled_front in
+    tells_first came.front [] (so_far now).remarks (last_above later) refl are settled_front k
 
 -- reading ends where memory is refused, with what was told
 ends_memory : {A W : Type 0} (told : W → SinkTold) {a : Ahead} {s : LinesState} {old : Checker A}
     {report later : FileReport A} {writer written : W} {remarks : List Remark} (new : Checker A) (e : Error A) →
-    IsMemory e → TellsFirst s a report.how.allowed.now remarks old →
+    IsMemory e → TellsFirst s a report.how.allowed.now (last_above report) remarks old →
     TellsParts told remarks report writer later written →
     TellsLines told s a old report writer (end_of_reading e) new later written
 ends_memory told {remarks = remarks} new (error.Memory refused) is first parts = (remarks, first, parts)
@@ -396,7 +457,7 @@ ends_memory told new e is first parts = absurd is
 -- reading ends with a fault of the reader, with what was told
 ends_fault : {A W : Type 0} (told : W → SinkTold) {a : Ahead} {s : LinesState} {old now : Checker A}
     {report later : FileReport A} {writer written : W} {remarks : List Remark} (e : Error A) →
-    TellsSettled s a (Some e) report.how.allowed.now remarks old now →
+    TellsSettled s a (Some e) report.how.allowed.now (last_above report) (last_above later) remarks old now →
     TellsParts told remarks report writer later written →
     TellsLines told s a old report writer (end_of_reading e) now later written
 ends_fault told {remarks = remarks} (error.Memory refused) tells parts = absurd tells.reads.1
@@ -407,22 +468,19 @@ ends_fault told {remarks = remarks} (error.Nul key) tells parts = (remarks, tell
 
 -- a fault, before which these lines are decided, ends reading
 ends_reading : {A W : Type 0} (told : W → SinkTold) {a : Ahead} {s t : LinesState} {old now : Checker A}
-    {report later : FileReport A} {writer written : W} {front remarks : List Remark} (e : Error A) →
-    AreTold report.how.allowed.now (map (settled (declared_of now.declared)) front) remarks →
-    TellsParts told remarks report writer later written → (k : CheckedTo a s t front old now) →
+    {report later : FileReport A} {writer written : W} (e : Error A)
+    (came : CheckedSoFar told s t old report writer now later written) → (k : CheckedTo a s t came.front old now) →
     IsMemory e ⊎ ReadsLines old.dialect s a (Some e) (lines_of k.rows) →
     TellsLines told s a old report writer (end_of_reading e) now later written
-ends_reading told {now = now} e are parts k (inl memory) =
-    ends_memory told now e memory (tells_first are k) parts
-ends_reading told {front = front} e are parts k (inr reads) =
-    ends_fault told e (record {
-      rows = k.rows;
-      reads = reads;
-      are_rows = k.are_rows;
-      front = front;
-      are = are;
-      comes = k.comes.comes;
-    }) parts
+ends_reading told {now = now} e came k (inl memory) = ends_memory told now e memory (tells_so_far came k) came.parts
+ends_reading told e came k (inr reads) = ends_fault told e (record {
+  rows = k.rows;
+  reads = reads;
+  are_rows = k.are_rows;
+  front = came.front;
+  are = came.are;
+  comes = k.comes.comes;
+}) came.parts
 
 -- a final fault that is given back ends reading; or memory was refused
 pub checked_before : {A W : Type 0} (told : W → SinkTold) {s : LinesState} {old now new : Checker A}
@@ -432,7 +490,7 @@ pub checked_before : {A W : Type 0} (told : W → SinkTold) {s : LinesState} {ol
     IsMemory e ⊎ ((outcome ≡ Err e) × (m.lines.stage ≡ Failed) × (new ≡ now)) →
     WhereFew s (λ a. TellsLines told s a old report writer (end_of_reading e) new later written)
 checked_before told {new = new} e came answers (inl refused) a opened is_told few =
-    ends_memory told new e refused (tells_first came.are (came.read a opened is_told few)) came.parts
+    ends_memory told new e refused (tells_so_far came (came.read a opened is_told few)) came.parts
 checked_before told {s = s} {old = old} {m = m} e came answers (inr (is, failed, same)) a opened is_told few =
     let k = came.read a opened is_told few in
     rw same (elim (rw is at (next_outcome (k.unmarks.moves.is_left, is_told.1) k.read answers)) [
@@ -442,93 +500,84 @@ checked_before told {s = s} {old = old} {m = m} e came answers (inr (is, failed,
           let number = k.start.lines_taken + 1 in
           let decides = final_marked (λ bytes. DecidesNumbered old.dialect number bytes (lines_of k.rows)) e
           m.lines.input k.unmarks (read_final k.read e m.lines.input final) in
-          ends_reading told e came.are came.parts k
+          ends_reading told e came k
           (reads_end old.dialect (lines_of k.rows) a s m.lines.input e (rw k.unmarks.taken at decides))
     ])
 
--- with one more line a checker has come to what follows
-line_read_at : {A : Type 0} {a : Ahead} {s : LinesState} {front : List Remark} {old now new : Checker A}
-    {p m : SplitterState} (outcome : Result (Unit {0}) (Error A)) → Answers p (Some outcome) m →
-    ChecksOutcome m outcome now new → (k : CheckedTo a s p.lines front old now) → IsTold s.input.left a →
-    FewLines s a → CheckedTo a s m.lines front old new
-line_read_at {a = a} {old = old} {now} {new} {p} {m} outcome answers checks k is_told few =
-    line_read m.lines few k
-    (line_checked old.dialect (ahead_of k.read.left a.fault) p.lines now new m outcome k.comes.dialect
-    (next_outcome (k.unmarks.moves.is_left, is_told.1) k.read answers) checks)
-
--- what was told, and what is told behind it, is told by the names that are declared now
-told_both : {A W : Type 0} {told : W → SinkTold} {s t : LinesState} {old now new : Checker A}
-    {report later : FileReport A} {writer written : W} {more remarks : List Remark}
-    (came : CheckedSoFar told s t old report writer now later written) →
-    AreTold report.how.allowed.now (map (settled (declared_of new.declared)) more) remarks →
-    Extends (declared_of now.declared) (declared_of new.declared) →
-    AreTold report.how.allowed.now (map (settled (declared_of new.declared)) (came.front ++ more))
-    (came.remarks ++ remarks)
-told_both {now = now} {new = new} {report = report} {more = more} {remarks = remarks} came second extends =
-    let before = declared_of now.declared in
-    let after = declared_of new.declared in
-    let stays = all_stay before after came.front extends came.settled_front in
-    rw (map-append) (told-append report.how.allowed.now (map (settled after) came.front) (map (settled after) more)
-    came.remarks remarks (rw (← stays) at came.are) second)
-
--- what is told up to some place of what is kept is told of a front of what is found in the first lines
-tells_front_of : {A : Type 0} {a : Ahead} {s t : LinesState} {allowed : List Kind} {front remarks : List Remark}
-    {old new : Checker A} (more later : List Remark) → (so_far new).remarks ≡ more ++ later →
-    AreTold allowed (map (settled (declared_of new.declared)) (front ++ more)) remarks →
-    CheckedTo a s t front old new → TellsFirst s a allowed remarks old
-tells_front_of {front = front} {old = old} {new = new} more later left are k =
-    let all = led_by old k.rows in
-    let declared : all.declared ≡ declared_of new.declared = ap (λ (s : SoFar). s.declared) (sym k.comes.comes) in
-    let remarks : all.remarks ≡ (front ++ more) ++ later =
-    ap (λ (s : SoFar). s.remarks) (sym k.comes.comes) ∙ ap (λ t. front ++ t) left
-    ∙ sym (append_assoc front more later) in record {
-      rows = k.rows;
-      reads = (k.read.count, rw k.unmarks.taken at k.read.begins.are);
-      are_rows = k.are_rows;
-      front = map (settled all.declared) (front ++ more);
-      later = map (settled all.declared) later;
-      cut = ap (map (settled all.declared)) remarks ∙ map-append;
-      are = rw declared are;
-    }
-
--- the same, where the rest is kept
-tells_front : {A : Type 0} {a : Ahead} {s t : LinesState} {allowed : List Kind} {front remarks : List Remark}
-    {old new end : Checker A} (more : List Remark) → (so_far new).remarks ≡ more ++ (so_far end).remarks →
-    AreTold allowed (map (settled (declared_of new.declared)) (front ++ more)) remarks →
-    CheckedTo a s t front old new → TellsFirst s a allowed remarks old
-tells_front {end = end} more left are k = tells_front_of more (so_far end).remarks left are k
+-- what was told up to some place of what a line left is told of the first findings
+tells_line : {A W : Type 0} {told : W → SinkTold} {a : Ahead} {s : LinesState} {old now new : Checker A}
+    {report later : FileReport A} {writer written : W} {p m : SplitterState} {remarks : List Remark}
+    (outcome : Result (Unit {0}) (Error A)) (came : CheckedSoFar told s p.lines old report writer now later written) →
+    Answers p (Some outcome) m → ChecksOutcome m outcome now new →
+    TellsSome (IsSettled (declared_of new.declared)) later.how.allowed.now (last_above later) remarks new →
+    CheckedTo a s p.lines came.front old now → IsTold s.input.left a → FewLines s a →
+    TellsFirst s a report.how.allowed.now (last_above report) (came.remarks ++ remarks) old
+tells_line {now = now} {new = new} {m = m} {remarks = remarks} outcome came answers checks k to is_told few =
+    let extends = outcome_extends m outcome now new checks in
+    tells_first came.front k.front k.later k.end k.left (told_both new k.front remarks k.end came k.are extends)
+    (settled_both new k.front came extends k.passed) (line_read_at outcome answers checks to is_told few)
 
 -- a stop while what was kept is told: a part can't be written, or memory was refused
-pub checked_stop : {A W : Type 0} (told : W → SinkTold) {s : LinesState} {old now new end : Checker A}
-    {report later last : FileReport A} {writer written at : W} {p m : SplitterState}
-    (outcome : Result (Unit {0}) (Error A)) (stop : Stop A) →
+pub checked_stop : {A W : Type 0} (told : W → SinkTold) {s : LinesState} {old now : Checker A}
+    {report later : FileReport A} {writer written : W} {p m : SplitterState} (new end : Checker A)
+    (last : FileReport A) (at : W) (outcome : Result (Unit {0}) (Error A)) (ending : Stop A) →
     CheckedSoFar told s p.lines old report writer now later written → Answers p (Some outcome) m →
-    ChecksOutcome m outcome now new → TellsKept AreSettled told new later written (Err stop) end last at →
-    WhereFew s (λ a. TellsAll told s a old report writer (Err stop) end last at)
-checked_stop told outcome (stop.Read e) came answers checks tells = absurd tells
-checked_stop told {now = now} {new = new} {report = report} {m = m} outcome (stop.Write e) came answers checks
-    (more, remarks, tells, cannot) a opened is_told few =
-    let all = told_both came (rw came.parts.how at tells.are) (outcome_extends m outcome now new checks) in
-    let k = line_read_at outcome answers checks (came.read a opened is_told few) is_told few in (
+    ChecksOutcome m outcome now new →
+    TellsKept (IsSettled (declared_of new.declared)) KeepsAny told new later written (Err ending) end last at →
+    WhereFew s (λ a. TellsAll told s a old report writer (Err ending) end last at)
+checked_stop told new end last at outcome (stop.Read e) came answers checks tells = absurd tells
+checked_stop told new end last at outcome (stop.Write e) came answers checks (remarks, tells, cannot) a opened is_told
+    few = (
       came.remarks ++ remarks,
-      tells_front more tells.left all k,
+      tells_line outcome came answers checks tells (came.read a opened is_told few) is_told few,
       cannot-append told came.parts cannot,
     )
-checked_stop told {now = now} {new = new} {m = m} outcome (stop.Memory refused) came answers checks
-    (more, later, remarks, left, are, parts) a opened is_told few =
-    let all = told_both came (rw came.parts.how at are) (outcome_extends m outcome now new checks) in
-    let k = line_read_at outcome answers checks (came.read a opened is_told few) is_told few in (
+checked_stop told new end last at outcome (stop.Memory refused) came answers checks (remarks, tells, parts) a opened
+    is_told few = (
       came.remarks ++ remarks,
-      tells_front_of more later left all k,
+      tells_line outcome came answers checks tells (came.read a opened is_told few) is_told few,
       tells-append told came.parts parts,
     )
+
+-- memory for what was seen was refused, where a line was checked and nothing of it is told yet
+pub checked_unseen : {A W : Type 0} (told : W → SinkTold) {s : LinesState} {old now : Checker A}
+    {report later : FileReport A} {writer written : W} {p m : SplitterState} (new : Checker A)
+    (outcome : Result (Unit {0}) (Error A)) (refused : AllocError) →
+    CheckedSoFar told s p.lines old report writer now later written → Answers p (Some outcome) m →
+    ChecksOutcome m outcome now new →
+    WhereFew s (λ a. TellsAll told s a old report writer (Err (stop.Memory refused)) new later written)
+checked_unseen told {later = later} new outcome refused came answers checks a opened is_told few = (
+  came.remarks ++ [],
+  tells_line outcome came answers checks (record {
+    front = [];
+    later = (so_far new).remarks;
+    end = last_above later;
+    left = refl;
+    passed = tt;
+    are = (refl, refl);
+  }) (came.read a opened is_told few) is_told few,
+  rw (append-nil came.remarks) came.parts,
+)
+
+-- the same of a result that says that memory was refused
+pub unseen_told : {A W : Type 0} (told : W → SinkTold) {s : LinesState} {old now : Checker A}
+    {report later : FileReport A} {writer written : W} {p m : SplitterState} (new : Checker A)
+    (outcome : Result (Unit {0}) (Error A)) (result : Result (Option (Error A)) (Stop A)) →
+    IsErrAnd result IsMemoryStop → CheckedSoFar told s p.lines old report writer now later written →
+    Answers p (Some outcome) m → ChecksOutcome m outcome now new →
+    WhereFew s (λ a. TellsLines told s a old report writer result new later written)
+unseen_told told new outcome (Ok fault) stops came answers checks = absurd stops
+unseen_told told new outcome (Err (stop.Read e)) stops came answers checks = absurd stops
+unseen_told told new outcome (Err (stop.Write e)) stops came answers checks = absurd stops
+unseen_told told new outcome (Err (stop.Memory refused)) stops came answers checks =
+    checked_unseen told new outcome refused came answers checks
 
 -- a fault before a byte order mark is decided ends a check of nothing
 pub checked_mark : {A W : Type 0} (told : W → SinkTold) (a : Ahead) (s m : LinesState) (old : Checker A)
     (report : FileReport A) (writer : W) (e : Error A) → DropsMark a s.input (Err e) m.input →
     TellsLines told s a old report writer (end_of_reading e) old report writer
 checked_mark told a s m old report writer e drops =
-    let none = told_none (λ remark. Unit {0}) told old report writer in
+    let nothing = tells_nothing told report writer in
     let decides = reads_end old.dialect [] a s m.input e (final_weaker a s.input m.input
     (λ bytes. begins_mark bytes ≡ true) (DecidedBefore old.dialect s.lines_taken []) e
     (λ bytes begins. record {
@@ -540,22 +589,122 @@ checked_mark told a s m old report writer e drops =
     elim decides [
       | inl memory ↦ ends_memory told old e memory (record {
         rows = [];
-        reads = (0, refl);
         are_rows = tt;
         front = [];
         later = settled_all (so_far old);
         cut = refl;
-        are = refl;
-      }) none.parts
+        final = inl ((0, refl), tt);
+        end = last_above report;
+        are = (refl, refl);
+      }) nothing
       | inr reads ↦ ends_fault told e (record {
         rows = [];
         reads = reads;
         are_rows = tt;
         front = [];
-        are = refl;
+        are = (refl, refl);
         comes = refl;
-      }) none.parts
+      }) nothing
     ]
+
+-- what was told of rows that are all that is read, and up to some place of the rest, is told of the first findings
+rest_first : {A : Type 0} {a : Ahead} {s : LinesState} {fault : Option (Error A)} {allowed : List Kind}
+    {start middle : Allow} {remarks others : List Remark} {old now : Checker A} →
+    TellsSettled s a fault allowed start middle remarks old now → TellsSome IsAny allowed middle others now →
+    TellsFirst s a allowed start (remarks ++ others) old
+rest_first {fault = fault} {allowed = allowed} {start} {middle} {remarks} {others} {old} {now} h k =
+    let all = led_by old h.rows in
+    let names = declared_of now.declared in
+    let declared : all.declared ≡ names = ap (λ (s : SoFar). s.declared) (sym h.comes) in
+    let found : all.remarks ≡ (h.front ++ k.front) ++ k.later =
+    ap (λ (s : SoFar). s.remarks) (sym h.comes) ∙ ap (λ (t : List Remark). h.front ++ t) k.left
+    ∙ sym (append_assoc h.front k.front k.later) in record {
+      rows = h.rows;
+      are_rows = h.are_rows;
+      front = map (settled names) (h.front ++ k.front);
+      later = map (settled names) k.later;
+      cut = ap (λ (d : Declared). map (settled d) all.remarks) declared
+          ∙ ap (λ (t : List Remark). map (settled names) t) found ∙ map-append;
+      final = inr (fault, h.reads);
+      end = k.end;
+      are = rw map-append (told-append allowed start middle k.end (map (settled names) h.front)
+          (map (settled names) k.front) remarks others h.are k.are);
+    }
+
+-- what was told of rows that are all that is read, and all of the rest, is told of all that is found
+rest_rows : {A : Type 0} {a : Ahead} {s : LinesState} {fault : Option (Error A)} {allowed : List Kind}
+    {start middle end : Allow} {front remarks others : List Remark} {old now new : Checker A} →
+    TellsSettled s a fault allowed start middle remarks old now → TellsFront allowed middle end front others now new →
+    (so_far new).remarks ≡ [] → TellsRows s a fault allowed start (remarks ++ others) old new
+rest_rows {allowed = allowed} {start} {middle} {end} {front} {remarks} {others} {old} {now} {new} h k none =
+    let all = led_by old h.rows in
+    let names = declared_of now.declared in
+    let declared : all.declared ≡ names = ap (λ (s : SoFar). s.declared) (sym h.comes) in
+    let found : all.remarks ≡ h.front ++ front =
+    ap (λ (s : SoFar). s.remarks) (sym h.comes)
+    ∙ ap (λ (t : List Remark). h.front ++ t) (k.left ∙ ap (λ (t : List Remark). front ++ t) none ∙ append-nil front) in
+    let is : settled_all all ≡ map (settled names) h.front ++ map (settled names) front =
+    ap (λ (d : Declared). map (settled d) all.remarks) declared
+    ∙ ap (λ (t : List Remark). map (settled names) t) found ∙ map-append in record {
+      rows = h.rows;
+      reads = h.reads;
+      are_rows = h.are_rows;
+      end = end;
+      are = rw is (told-append allowed start middle end (map (settled names) h.front) (map (settled names) front)
+          remarks others h.are k.are);
+      declared = k.declared ∙ sym declared;
+    }
+
+-- the result of a check whose reading ended like this
+abbrev pub end_result : {A : Type 0} → Option (Error A) → Result (Unit {0}) (Stop A)
+end_result None = Ok tt
+end_result (Some fault) = Err (stop.Read fault)
+
+-- all lines were read and checked, and what was left is told
+pub checked_rest : {A W : Type 0} (told : W → SinkTold) {s : LinesState} {a : Ahead} {old now new : Checker A}
+    {report later last : FileReport A} {writer written end : W} (fault : Option (Error A)) →
+    TellsLines told s a old report writer (Ok fault) now later written →
+    TellsKept IsAny KeepsNone told now later written (Ok tt) new last end →
+    TellsAll told s a old report writer (end_result fault) new last end
+checked_rest told None (remarks, h, parts) (front, others, k, any, more, none) =
+    (remarks ++ others, rest_rows h (rw parts.how at k) none, tells-append told parts more)
+checked_rest told (Some fault) (remarks, h, parts) (front, others, k, any, more, none) =
+    (remarks ++ others, rest_rows h (rw parts.how at k) none, tells-append told parts more)
+
+-- all lines were read and checked, and of what was left some is told
+pub checked_rest_stop : {A W : Type 0} (told : W → SinkTold) {s : LinesState} {a : Ahead} {old now : Checker A}
+    {report later : FileReport A} {writer written : W} (new : Checker A) (last : FileReport A) (end : W)
+    (fault : Option (Error A)) (ending : Stop A) →
+    TellsLines told s a old report writer (Ok fault) now later written →
+    TellsKept IsAny KeepsNone told now later written (Err ending) new last end →
+    TellsAll told s a old report writer (Err ending) new last end
+checked_rest_stop told new last end fault (stop.Read e) lines kept = absurd kept
+checked_rest_stop told new last end fault (stop.Write e) (remarks, h, parts) (others, k, cannot) =
+    (remarks ++ others, rest_first h (rw parts.how at k), cannot-append told parts cannot)
+checked_rest_stop told new last end fault (stop.Memory refused) (remarks, h, parts) (others, k, more) =
+    (remarks ++ others, rest_first h (rw parts.how at k), tells-append told parts more)
+
+-- all lines were read and checked, and memory for what was seen was refused
+pub checked_rest_unseen : {A W : Type 0} (told : W → SinkTold) {s : LinesState} {a : Ahead} {old now : Checker A}
+    {report later : FileReport A} {writer written : W} (fault : Option (Error A))
+    (result : Result (Unit {0}) (Stop A)) → IsErrAnd result IsMemoryStop →
+    TellsLines told s a old report writer (Ok fault) now later written →
+    TellsAll told s a old report writer result now later written
+checked_rest_unseen told fault (Ok done) stops lines = absurd stops
+checked_rest_unseen told fault (Err (stop.Read e)) stops lines = absurd stops
+checked_rest_unseen told fault (Err (stop.Write e)) stops lines = absurd stops
+checked_rest_unseen told {now = now} {later = later} fault (Err (stop.Memory refused)) stops (remarks, h, parts) = (
+  remarks ++ [],
+  rest_first h (record {
+    front = [];
+    later = (so_far now).remarks;
+    end = last_above later;
+    left = refl;
+    passed = tt;
+    are = (refl, refl);
+  }),
+  rw (append-nil remarks) parts,
+)
 
 -- what is found in rows is the same from the same place on
 same_rows : {a b : Setting} {s t : SoFar} (rows : List Row) → a ≡ b → s ≡ t → with_rows a s rows ≡ with_rows b t rows

@@ -9,6 +9,7 @@ mod KeptLines
 mod Lacking
 mod NamesAmong
 mod NumberedLines
+mod OneList
 mod Parts
 mod ReportParts
 mod RequiredNames

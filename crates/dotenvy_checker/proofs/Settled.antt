@@ -1,4 +1,4 @@
--- What is settled of what was found stays as it is, whatever is declared later; and what was told stands before the rest.
+-- What is settled of what was found stays as it is, whatever is declared later; what was told stands before the rest.
 use Rattle.std.proofs.Common.{◌≡◌, ℕ, Bool, true, false, List, [], ◌∷◌, ◌++◌, ◌∙◌, map, refl, sym, ap, inl, inr}
 use Rattle.std.proofs.Common.{Option, Some, None, arith}
 use Rattle.std.specs.Prelude.{encode_utf8_all}
@@ -9,6 +9,7 @@ use Rattle.dotenvy_format.specs.Entries.{Entry, Declares, Fails}
 use Rattle.dotenvy_format.specs.LogicalLine.{Logical}
 use Rattle.dotenvy_findings.specs.declared.finding.Finding.{Finding}
 use Rattle.dotenvy_lines.specs.Numbered.{FileLine}
+use Rattle.dotenvy_checker.specs.Checks.{IsKnown}
 use Rattle.dotenvy_checker.specs.Findings.{Declared, Remark, Row, Setting, SoFar, declared_by, is_unknown, last_of}
 use Rattle.dotenvy_checker.specs.Findings.{logical_remarks, resolved, settled, under, with_key, with_later, with_line}
 use Rattle.dotenvy_checker.specs.Findings.{with_lines, with_logical}
@@ -62,7 +63,8 @@ settled_stays names others remark extends is =
     ]
 
 -- so is all that is settled
-pub all_stay : (names others : Declared) (front : List Remark) → Extends names others → AllByRecursion (IsSettled names) front →
+pub all_stay : (names others : Declared) (front : List Remark) → Extends names others →
+    AllByRecursion (IsSettled names) front →
     map (settled others) front ≡ map (settled names) front
 all_stay names others [] extends all = refl
 all_stay names others (remark ∷ front) extends (is, all) =
@@ -80,6 +82,12 @@ pub all_settled : (names others : Declared) (front : List Remark) → Extends na
 all_settled names others [] extends all = tt
 all_settled names others (remark ∷ front) extends (is, all) =
     (still_settled names others remark extends is, all_settled names others front extends all)
+
+-- what is settled is no name without a value
+pub all_known : (names : Declared) (front : List Remark) → AllByRecursion (IsSettled names) front →
+    AllByRecursion IsKnown (map (settled names) front)
+all_known names [] all = tt
+all_known names (remark ∷ front) (is, all) = (is, all_known names front all)
 
 -- what was found, behind what was told
 abbrev pub behind_front : List Remark → SoFar → SoFar

@@ -2,12 +2,13 @@
 use Rattle.std.proofs.Common.{◌≡◌, ℕ, Bool, true, false, List, [], ◌∷◌, ◌++◌, ◌∙◌, map, refl, sym, ap, inl, inr}
 use Rattle.std.proofs.Common.{Result, Ok, Err, string_bytes}
 use Rattle.std.specs.Prelude.{◌||◌, if◌then◌else◌}
-use Rattle.std.specs.List.{concat, list_any}
+use Rattle.std.specs.List.{concat, list_any, AllByRecursion}
 use Rattle.std.proofs.Math.Bool.{or_assoc}
 use Rattle.std.proofs.lemmas.List.{append-nil, append_assoc, map-append}
 use Rattle.std.proofs.lemmas.List.Folds.{concat-append, list_any-append}
 use Rattle.dotenvy_base.specs.declared.errors.Error.{Error}
 use Rattle.dotenvy_base.specs.Source.{SinkTold}
+use Rattle.dotenvy_findings.specs.Comments.{Allow}
 use Rattle.dotenvy_findings.specs.declared.finding.Finding.{Finding}
 use Rattle.dotenvy_findings.specs.declared.kind.Kind.{Kind}
 use Rattle.dotenvy_reports.specs.declared.format.Format.{Format}
@@ -16,10 +17,11 @@ use Rattle.dotenvy_checker.specs.declared.file_report.FileReport.{FileReport}
 use Rattle.dotenvy_checker.specs.declared.report.Found.{Found}
 use Rattle.dotenvy_checker.specs.declared.report.Reporting.{Reporting}
 use Rattle.dotenvy_checker.specs.Checks.{both, found_in}
-use Rattle.dotenvy_checker.specs.Findings.{Remark, is_denied, is_error, is_warning, shown, AreTold}
-use Rattle.dotenvy_checker.specs.Parts.{SendsEach}
+use Rattle.dotenvy_checker.specs.Findings.{Remark, is_denied, is_error, is_warning, shown}
+use Rattle.dotenvy_checker.specs.Parts.{AreParts, SendsEach}
 use Rattle.dotenvy_checker.specs.Report.{remark_text, report}
-use Rattle.dotenvy_checker.specs.inside.ToldLines.{behind_told, is_first_behind, CannotWrite, TellsMore, TellsParts}
+use Rattle.dotenvy_checker.specs.inside.ToldLines.{is_first_behind, next_above, AreToldInTurn, CannotWrite, IsLong}
+use Rattle.dotenvy_checker.specs.inside.ToldLines.{TellsMore, TellsParts}
 
 -- texts joined in another order of steps
 joined : (a b c d : List ℕ) → a ++ (b ++ (c ++ d)) ≡ (a ++ (b ++ c)) ++ d
@@ -54,14 +56,15 @@ first-append [] ys is_first = refl
 first-append (x ∷ xs) ys is_first = behind_not_first ys
 
 -- what is told of both is told of one after the other
-pub told-append : (allowed : List Kind) (xs ys told more : List Remark) → AreTold allowed xs told →
-    AreTold allowed ys more → AreTold allowed (xs ++ ys) (told ++ more)
-told-append allowed [] ys told more is are = rw is are
-told-append allowed (x ∷ xs) ys told more (comments, bad, others, front, is) are = (
-  comments,
+pub told-append : (allowed : List Kind) (start middle end : Allow) (xs ys told more : List Remark) →
+    AreToldInTurn allowed start xs told middle → AreToldInTurn allowed middle ys more end →
+    AreToldInTurn allowed start (xs ++ ys) (told ++ more) end
+told-append allowed start middle end [] ys told more (is, same) are = rw is (rw same at are)
+told-append allowed start middle end (x ∷ xs) ys told more (seen, bad, others, front, is) are = (
+  seen,
   bad,
   others ++ more,
-  told-append allowed xs ys others more front are,
+  told-append allowed (next_above x.above seen start) middle end xs ys others more front are,
   rw is (append_assoc _ others more),
 )
 
@@ -84,7 +87,7 @@ found-append denied old xs ys =
     λ i. record { faults = faults i; warnings = warnings i; denied = denies i }
 
 -- parts that are sent, and then others, are all sent one after another
-sends-append : {A W : Type 0} (told : W → SinkTold) (old middle new : W) (parts later : List (List ℕ))
+pub sends-append : {A W : Type 0} (told : W → SinkTold) (old middle new : W) (parts later : List (List ℕ))
     (answer : Result (Unit {0}) (Error A)) → SendsEach {A = A} told old parts (Ok tt) middle →
     SendsEach told middle later answer new → SendsEach told old (parts ++ later) answer new
 sends-append told old middle new [] later answer (done, same) sends = rw same at sends
@@ -92,17 +95,40 @@ sends-append told old middle new (part ∷ parts) later answer (inl (fails, none
 sends-append told old middle new (part ∷ parts) later answer (inr (next, own, rest)) sends =
     inr (next, own, sends-append told next middle new parts later answer rest sends)
 
+-- long parts, and then parts of which the last may be short, are such parts
+pub parts-append : (long parts : List (List ℕ)) → AllByRecursion IsLong long → AreParts parts →
+    AreParts (long ++ parts)
+parts-append [] parts all are = are
+parts-append (part ∷ long) parts (is, all) are = (inr is, parts-append long parts all are)
+
+-- long parts, and then others, are all long
+long-append : (xs ys : List (List ℕ)) → AllByRecursion IsLong xs → AllByRecursion IsLong ys →
+    AllByRecursion IsLong (xs ++ ys)
+long-append [] ys all long = long
+long-append (x ∷ xs) ys (is, all) long = (is, long-append xs ys all long)
+
 -- what is told is told, where nothing is written
-pub tells_unwritten : {A W : Type 0} (told : W → SinkTold) {remarks : List Remark} {old new : FileReport A} (writer : W) →
-    TellsMore remarks old new → TellsParts told remarks old writer new writer
+pub tells_unwritten : {A W : Type 0} (told : W → SinkTold) {remarks : List Remark} {old new : FileReport A}
+    (writer : W) → TellsMore remarks old new → TellsParts told remarks old writer new writer
 tells_unwritten told writer k = record {
   file = k.file;
   how = k.how;
   found = k.found;
   parts = [];
+  long = tt;
   cut = sym k.text;
   sends = (refl, refl);
 }
+
+-- a text that is cut into parts and a rest, which is cut with what follows, is cut with it
+cut-append : (text own other : List ℕ) (parts later : List (List ℕ)) (left rest : List ℕ) →
+    text ++ own ≡ concat parts ++ left → left ++ other ≡ concat later ++ rest →
+    text ++ (own ++ other) ≡ concat (parts ++ later) ++ rest
+cut-append text own other parts later left rest cut again =
+    sym (append_assoc text own other) ∙ ap (λ (t : List ℕ). t ++ other) cut
+    ∙ append_assoc (concat parts) left other ∙ ap (λ (t : List ℕ). concat parts ++ t) again
+    ∙ sym (append_assoc (concat parts) (concat later) rest)
+    ∙ ap (λ (t : List ℕ). t ++ rest) (sym (concat-append parts later))
 
 -- what is told, and then more, is all told, and its parts are written
 pub tells-append : {A W : Type 0} (told : W → SinkTold) {xs ys : List Remark} {a b c : FileReport A} {u v w : W} →
@@ -112,11 +138,12 @@ tells-append told {xs} {ys} {a} {b} {c} {u} {v} {w} h k = record {
   how = rw (k.how, h.how, ← first-append xs ys a.how.is_first) refl;
   found = rw (k.found, h.found, h.how) (found-append a.how.denied.now a.found xs ys);
   parts = h.parts ++ k.parts;
+  long = long-append h.parts k.parts h.long k.long;
   cut =
-      rw (report-append a.how.format a.how.is_first a.file.now xs ys, concat-append h.parts k.parts)
-      (sym (append_assoc (string_bytes a.text) _ _) ∙ ap (λ t. t ++ _) h.cut ∙ append_assoc (concat h.parts) _ _
-      ∙ ap (λ t. concat h.parts ++ t) (rw (h.how, h.file) at k.cut)
-      ∙ sym (append_assoc (concat h.parts) (concat k.parts) (string_bytes c.text)));
+      rw (report-append a.how.format a.how.is_first a.file.now xs ys) (cut-append (string_bytes a.text)
+      (report a.how.format a.how.is_first a.file.now xs)
+      (report a.how.format (is_first_behind xs a.how.is_first) a.file.now ys) h.parts k.parts (string_bytes b.text)
+      (string_bytes c.text) h.cut (rw (h.how, h.file) at k.cut));
   sends = sends-append told u v w h.parts k.parts (Ok tt) h.sends k.sends;
 }
 
@@ -126,11 +153,12 @@ pub cannot-append : {A W : Type 0} (told : W → SinkTold) {xs ys : List Remark}
     CannotWrite told (xs ++ ys) a u error w
 cannot-append told {xs} {ys} {a} {b} {u} {v} {w} {error} h k = record {
   parts = h.parts ++ k.parts;
-  rest = k.rest;
+  are = parts-append h.parts k.parts h.long k.are;
   cut =
-      rw (report-append a.how.format a.how.is_first a.file.now xs ys, concat-append h.parts k.parts)
-      (sym (append_assoc (string_bytes a.text) _ _) ∙ ap (λ t. t ++ _) h.cut ∙ append_assoc (concat h.parts) _ _
-      ∙ ap (λ t. concat h.parts ++ t) (rw (h.how, h.file) at k.cut)
-      ∙ sym (append_assoc (concat h.parts) (concat k.parts) k.rest));
+      rw (report-append a.how.format a.how.is_first a.file.now xs ys) (cut-append (string_bytes a.text)
+      (report a.how.format a.how.is_first a.file.now xs)
+      (report a.how.format (is_first_behind xs a.how.is_first) a.file.now ys) h.parts k.parts (string_bytes b.text) []
+      h.cut ((rw (h.how, h.file) at k.cut) ∙ sym (append-nil (concat k.parts)))
+      ∙ append-nil (concat (h.parts ++ k.parts)));
   sends = sends-append told u v w h.parts k.parts (Err error) h.sends k.sends;
 }

@@ -1,12 +1,13 @@
 -- What a check of a file writes and returns.
-use Rattle.std.specs.Prelude.{ℕ, ◌≡◌, ◌+◌, ◌++◌, ◌<◌, ◌^◌, ◌||◌, Bool, false, List, length, Option, Some}
-use Rattle.std.specs.Prelude.{None, Result, Ok, Err}
+use Rattle.std.specs.Prelude.{ℕ, ◌≡◌, ◌+◌, ◌++◌, ◌<◌, ◌^◌, ◌⊎◌, ◌||◌, Bool, false, List, length, Option}
+use Rattle.std.specs.Prelude.{Some, None, Result, Ok, Err}
 use Rattle.std.specs.HashMap.{get_by_text}
-use Rattle.std.specs.List.{list_any}
+use Rattle.std.specs.List.{list_any, AllByRecursion}
 use Rattle.dotenvy_base.specs.Environment.{Texts}
 use Rattle.dotenvy_base.specs.Errors.{IsIoOf}
 use Rattle.dotenvy_base.specs.Source.{Ahead, SinkTold}
 use Rattle.dotenvy_base.specs.declared.errors.Error.{Error}
+use Rattle.dotenvy_findings.specs.Comments.{Allow}
 use Rattle.dotenvy_findings.specs.declared.finding.Finding.{Finding}
 use Rattle.dotenvy_findings.specs.Readings.{Known}
 use Rattle.dotenvy_format.specs.declared.dialect.Dialect.{Dialect}
@@ -25,9 +26,9 @@ use Rattle.dotenvy_checker.specs.declared.report.Found.{Found}
 use Rattle.dotenvy_checker.specs.declared.report.Reporting.{Reporting}
 use Rattle.dotenvy_findings.specs.declared.kind.Kind.{Kind}
 use Rattle.dotenvy_checker.specs.Findings.{Declared, Remark, Row, Setting, SoFar, is_error}
-use Rattle.dotenvy_checker.specs.Findings.{is_denied, is_warning, lines_of, nothing_yet}
+use Rattle.dotenvy_checker.specs.Findings.{is_denied, is_unknown, is_warning, lines_of, nothing_yet}
 use Rattle.dotenvy_checker.specs.Findings.{settled_all, shown, with_rows, AreRows, AreTold}
-use Rattle.dotenvy_checker.specs.Parts.{SendsParts, SendsSome}
+use Rattle.dotenvy_checker.specs.Parts.{SendsParts}
 use Rattle.dotenvy_checker.specs.Report.{report}
 
 -- the names that an environment has, by their bytes
@@ -107,47 +108,58 @@ ReadsFirst dialect s a lines =
     (count : ℕ)
     × AreNumbered dialect (s.lines_taken + 1) (whole_lines (unmarked a)) count lines
 
--- this is found in the first lines that are read of a, from s on
-abbrev pub HasFirstFindings : Setting → LinesState → Ahead → SoFar → Type 0
-HasFirstFindings setting s a all =
-    (rows : List Row) × ReadsFirst setting.dialect s a (lines_of rows)
-    × AreRows setting.dialect rows × (all ≡ with_rows setting nothing_yet rows)
+-- a finding is no name without a value, which a later line could declare
+abbrev pub IsKnown : Remark → Type 0
+IsKnown remark = is_unknown remark.finding.kind ≡ false
 
--- all that is found is told so, and its report is sent to a sink in parts
-abbrev pub ReportsAll : (A : Type 0) {W : Type 0} → (W → SinkTold) → Reporting → List ℕ → SoFar →
-    List Remark → W → W → Type 0
-ReportsAll A told how file all remarks old new =
-    AreTold how.allowed.now (settled_all all) remarks
-    × SendsParts {A = A} told old (report how.format how.is_first file remarks) (Ok tt) new
+-- these findings of rows stay as they are, whatever else is read of a from s on: none waits for a
+-- later line, or the rows are all that is read
+abbrev pub AreFinal : (A : Type 0) → Dialect → LinesState → Ahead → List Row → List Remark → Type 0
+AreFinal A dialect s a rows front =
+    (ReadsFirst dialect s a (lines_of rows) × AllByRecursion IsKnown front)
+    ⊎ ((fault : Option (Error A)) × ReadsLines dialect s a fault (lines_of rows))
 
--- a first part of what is found is told so, and parts of its report are sent to a sink, with this
+-- these are the first findings of what is read of a from s on
+abbrev pub FindsFirst : (A : Type 0) → Setting → LinesState → Ahead → List Remark → Type 0
+FindsFirst A setting s a front =
+    (rows : List Row) × (later : List Remark) × AreRows setting.dialect rows
+    × (settled_all (with_rows setting nothing_yet rows) ≡ front ++ later)
+    × AreFinal A setting.dialect s a rows front
+
+-- this is told of what is found, for which one list of comments decides what is allowed, and its
+-- report is sent to a sink in parts, with this result
+abbrev pub ReportsFound : {A W : Type 0} → (W → SinkTold) → Reporting → List ℕ → List Remark →
+    List Remark → W → Result (Unit {0}) (Error A) → W → Type 0
+ReportsFound told how file found remarks old answer new =
+    (comments : List Allow) × AreTold how.allowed.now comments found remarks
+    × SendsParts told old (report how.format how.is_first file remarks) answer new
+
+-- the report of the first findings, but for what is allowed, is sent to a sink in parts, with this
 -- result
-abbrev pub ReportsSome : {A W : Type 0} → (W → SinkTold) → Reporting → List ℕ → SoFar → W →
-    Result (Unit {0}) (Error A) → W → Type 0
-ReportsSome told how file all old answer new =
-    (front later : List Remark) × (remarks : List Remark) × (settled_all all ≡ front ++ later)
-    × AreTold how.allowed.now front remarks
-    × SendsSome told old (report how.format how.is_first file remarks) answer new
+abbrev pub ReportsFirst : (A : Type 0) {W : Type 0} → (W → SinkTold) → Reporting → List ℕ →
+    Setting → LinesState → Ahead → W → Result (Unit {0}) (Error A) → W → Type 0
+ReportsFirst A told how file setting s a old answer new =
+    (front remarks : List Remark) × FindsFirst A setting s a front
+    × ReportsFound told how file front remarks old answer new
 
 -- the report of what is found in what is read of a, but for what is allowed, is sent to a sink in
 -- parts while it is read. The result is what is told of all of it, and the names; or the fault of
--- reading, before which all is told; or that of writing, or a failed allocation, before which a part
--- is told of what is found in the first lines
+-- reading, before which all is told; or that of writing, or a failed allocation, before which the
+-- first findings are told
 abbrev pub Reports : {A W : Type 0} → (W → SinkTold) → Reporting → List ℕ → Known → IterState →
     Ahead → W → Result (Checked A) (Stop A) → W → Type 0
 Reports {A = A} told how file names s a old (Ok checked) new =
     (all : SoFar) × HasFindings {A = A} (file_setting names s.dialect how.text) s.lines a None all
     × ((remarks : List Remark) × Tells how remarks all checked
-    × ReportsAll A told how file all remarks old new)
+    × ReportsFound {A = A} told how file (settled_all all) remarks old (Ok tt) new)
 Reports {A = A} told how file names s a old (Err (Read e)) new =
     (all : SoFar) × HasFindings (file_setting names s.dialect how.text) s.lines a (Some e) all
-    × ((remarks : List Remark) × ReportsAll A told how file all remarks old new)
-Reports told how file names s a old (Err (Write e)) new =
-    (all : SoFar) × HasFirstFindings (file_setting names s.dialect how.text) s.lines a all
-    × ReportsSome told how file all old (Err e) new
+    × ((remarks : List Remark)
+    × ReportsFound {A = A} told how file (settled_all all) remarks old (Ok tt) new)
+Reports {A = A} told how file names s a old (Err (Write e)) new =
+    ReportsFirst A told how file (file_setting names s.dialect how.text) s.lines a old (Err e) new
 Reports {A = A} told how file names s a old (Err (Memory refused)) new =
-    (all : SoFar) × HasFirstFindings (file_setting names s.dialect how.text) s.lines a all
-    × ReportsSome {A = A} told how file all old (Ok tt) new
+    ReportsFirst A told how file (file_setting names s.dialect how.text) s.lines a old (Ok tt) new
 
 -- the check stops because an allocation failed
 abbrev pub IsMemoryStop : {A : Type 0} → Stop A → Type 0

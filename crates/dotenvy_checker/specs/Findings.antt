@@ -356,8 +356,8 @@ bad_from line [] = []
 bad_from line (bad ∷ others) =
     if nat_lt bad.place.line line then bad_from line others else bad ∷ others
 
--- a finding, at the first of these bytes that are no text, if it is that of a line that is none, and
--- the byte is on that line
+-- a finding, at the first of these bytes that are no text, if it is that of a line that is none,
+-- and the byte is on that line
 abbrev pub placed_one : List BadByte → Finding → Finding
 placed_one [] finding = finding
 placed_one (bad ∷ others) finding =
@@ -406,13 +406,15 @@ told_one allowed comments bad remark =
     if is_told allowed comments remark.above remark.finding
     then record remark { finding = placed_one bad remark.finding } ∷ [] else []
 
--- this is told of these, where these kinds are allowed, by what was seen in the file's bytes up to
--- then: comments that allow kinds, and bytes that are no text
-abbrev pub AreTold : List Kind → List Remark → List Remark → Type 0
-AreTold allowed [] told = told ≡ []
-AreTold allowed (remark ∷ remarks) told =
-    (comments : List Allow) × (bad : List BadByte) × (others : List Remark)
-    × AreTold allowed remarks others × (told ≡ told_one allowed comments bad remark ++ others)
+-- this is told of these, where these kinds are allowed, and others by these comments; a line that
+-- is no text may be told at a byte of it
+abbrev pub AreTold : List Kind → List Allow → List Remark → List Remark → Type 0
+AreTold allowed comments [] told = told ≡ []
+AreTold allowed comments (remark ∷ remarks) told =
+    (bad : List BadByte) × (others : List Remark)
+    × AreTold allowed (comments_from remark.above comments) remarks others
+    × (told
+    ≡ told_one allowed (comments_from remark.above comments) bad remark ++ others)
 
 -- all that was found in what was read of a file, where all names that it declares are known
 abbrev pub settled_all : SoFar → List Remark

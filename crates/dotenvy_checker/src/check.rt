@@ -45,9 +45,11 @@ pub struct Checked<A: Allocator> {
 /// load says of the line, which holds its text or its value.
 ///
 /// Over a reader whose bytes are specified: after `Ok` the end was reached, and the report of all findings that are not
-/// allowed was written, in parts, each in at most 2^32 writes, and nothing else. After `Stop::Read` it is the report of
-/// the findings that the bytes before the fault decide; after `Stop::Write` or `Stop::Memory` a first part of the
-/// report. An error is never allowed. A comment that allows kinds is a line without a declaration and without a fault.
+/// allowed was written, and nothing else: in parts of which each is written in at most 2^32 writes, and each but the
+/// last has at least 65,536 bytes. After `Stop::Read` it is the report of the findings that the bytes before the fault
+/// decide. After `Stop::Memory` it is that of the first findings, which no later line changes; after `Stop::Write` only
+/// a first piece of the last part of it was written. An error is never allowed. A comment that allows kinds is a line
+/// without a declaration and without a fault.
 ///
 /// ```
 /// let file = Iter::new(alloc, Watched::new(alloc, Bytes::new(b"A=1\nB=two words\nC=$X\n"))?)?;
@@ -78,11 +80,7 @@ pub fn check<R: Source + Drop, W: Sink, A: Allocator + Clone>(
     let mut checker = Checker::new(alloc, names, dialect, how.text)?;
     let read = checker.check_all(&mut lines, &mut report, writer);
     how.is_first = report.how.is_first;
-    if let Err(Stop::Write(unwritten)) = read {
-        return Err(Stop::Write(unwritten));
-    }
-    report.write(writer)?;
-    read?;
+    report.end(read, writer)?;
     Ok(Checked {
         found: report.found,
         declared: checker.declared,

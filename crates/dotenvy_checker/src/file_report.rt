@@ -1,19 +1,19 @@
 //! The report of a file, which is written in parts as the file is read.
 
-ghost use Rattle.std.specs.Prelude.{◌≡◌, ℕ, [], IfOk, OnErr, OnOk, drop, map, string_bytes};
-ghost use Rattle.dotenvy_findings.specs.Comments.{allow_of};
-ghost use Rattle.dotenvy_checker.specs.Findings.{bad_from, comments_from, placed_one, told_one};
-ghost use Rattle.dotenvy_checker.specs.inside.CheckedLines.{allow_comments, bad_bytes, remark_of};
-ghost use Rattle.dotenvy_checker.specs.inside.ToldLines.{one_text, IsUntold, KeepsTold, PushesOne, TellsMore, WritesPart};
+ghost use Rattle.std.specs.Prelude.{◌≡◌, [], IfOk, OnErr, OnOk, string_bytes};
+ghost use Rattle.dotenvy_base.specs.Output.{Sends, most_writes};
+ghost use Rattle.dotenvy_checker.specs.Findings.{placed_one};
+ghost use Rattle.dotenvy_checker.specs.inside.CheckedLines.{remark_of};
+ghost use Rattle.dotenvy_checker.specs.inside.ToldLines.{is_unwritten, one_text, EndsReport, IsUntold, KeepsTold, PushesOne, TellsOne, WritesPart};
 
 use crate::failure::Stop;
 use crate::lines::Pending;
-use crate::report::{Found, Reporting, comments_from, is_told, push_said, push_separator};
+use crate::lookup::Lookup;
+use crate::report::{Found, Reporting, is_told, push_said, push_separator};
 use crate::watched::Seen;
-use dotenvy::Sink;
+use dotenvy::{Error, Sink};
 use dotenvy_base::output::{MOST_WRITES, write_all};
 use dotenvy_findings::bytes::BadByte;
-use dotenvy_findings::comments::AllowComment;
 use dotenvy_findings::finding::Finding;
 use dotenvy_findings::kind::Kind;
 use dotenvy_reports::reports::push_finding;
@@ -21,20 +21,6 @@ use std::alloc::{AllocError, Allocator};
 
 // A report is written as soon as so many bytes of it are there that are not written yet.
 const PART_LEN: usize = 65_536;
-
-// The bytes that are no text and stand on this line or behind it.
-fn bad_from(line: u64, bad: &[BadByte]) -> &[BadByte]
-    ensures { result.now ≡ bad_from line bad.now }
-{
-    let mut rest = bad;
-    'bytes: while let Some((first, after)) = rest.split_first() {
-        if first.place.line >= line {
-            return rest;
-        }
-        rest = after;
-    }
-    rest
-}
 
 // A finding, at the first of these bytes that are no text, if it is that of a line that is none, and the byte is on that
 // line.
@@ -58,6 +44,13 @@ fn placed(finding: Finding, bad: &[BadByte]) -> Finding
     }
 }
 
+// Whether reading ended since a part of the report could not be written.
+fn is_unwritten<A: Allocator>(read: &Result<(), Stop<A>>) -> bool
+    ensures { result ≡ is_unwritten read.now }
+{
+    matches!(read, Err(Stop::Write(_)))
+}
+
 /// The report of a file that is being checked, as far as it is not written yet, and what was told so far.
 #[derive(Drop)]
 pub(crate) struct FileReport<'a, A: Allocator> {
@@ -68,12 +61,10 @@ pub(crate) struct FileReport<'a, A: Allocator> {
     /// What was told so far comes to this.
     pub(crate) found: Found,
     // What is not written yet.
-    pub(crate) text: String<A>,
+    text: String<A>,
     // The finding that was printed last.
     one: String<A>,
-    // How many of the bytes that are no text, and of the comments, are before the lines of which something was told.
-    bad_before: usize,
-    comments_before: usize,
+    lookup: Lookup<A>,
 }
 
 impl<'a, A: Allocator + Clone> FileReport<'a, A> {
@@ -90,33 +81,9 @@ impl<'a, A: Allocator + Clone> FileReport<'a, A> {
             how,
             found: Found::NOTHING,
             text: String::new(alloc.clone()?),
-            one: String::new(alloc),
-            bad_before: 0,
-            comments_before: 0,
+            one: String::new(alloc.clone()?),
+            lookup: Lookup::new(alloc),
         })
-    }
-
-    // The comments on this line and behind it, of those that were seen.
-    fn comments_at<'s>(&mut self, line: u64, seen: &'s Seen<A>) -> &'s [AllowComment<A>]
-        ensures comments { (n : ℕ)
-            × (map allow_of result.now ≡ comments_from line (drop n (allow_comments seen.now))) }
-        ensures same { KeepsTold self.old self.new }
-    {
-        let found = seen.comments.found();
-        let comments = comments_from(line, found.get(self.comments_before..).unwrap_or(&[]));
-        self.comments_before = found.len().saturating_sub(comments.len());
-        comments
-    }
-
-    // The bytes that are no text on this line and behind it, of those that were seen.
-    fn bad_at<'s>(&mut self, line: u64, seen: &'s Seen<A>) -> &'s [BadByte]
-        ensures bad { (n : ℕ) × (result.now ≡ bad_from line (drop n (bad_bytes seen.now))) }
-        ensures same { KeepsTold self.old self.new }
-    {
-        let found = seen.bad.found();
-        let bad = bad_from(line, found.get(self.bad_before..).unwrap_or(&[]));
-        self.bad_before = found.len().saturating_sub(bad.len());
-        bad
     }
 
     /// Tells this finding, which settles what was pending, unless it is allowed. What was seen in the bytes of the file
@@ -127,18 +94,16 @@ impl<'a, A: Allocator + Clone> FileReport<'a, A> {
         finding: Finding,
         seen: &Seen<A>,
     ) -> Result<(), AllocError>
-        ensures told { OnOk result ((n m : ℕ)
-            × TellsMore (told_one self.old.how.allowed.now
-            (comments_from pending.now.above (drop n (allow_comments seen.now)))
-            (bad_from finding.place.line (drop m (bad_bytes seen.now)))
-            (record (remark_of pending.now) { finding = finding })) self.old self.new) }
+        ensures told { OnOk result
+            (TellsOne (record (remark_of pending.now) { finding = finding }) seen.now self.old
+            self.new) }
         ensures refused { OnErr result (KeepsTold self.old self.new) }
     {
-        let comments = self.comments_at(pending.above, seen);
-        if !is_told(finding, pending.above, self.how.allowed, comments) {
+        self.lookup.move_below(pending.above, seen)?;
+        if !is_told(finding, pending.above, self.how.allowed, &self.lookup.above) {
             return Ok(());
         }
-        let placed = placed(finding, self.bad_at(finding.place.line, seen));
+        let placed = placed(finding, self.lookup.bad_at(finding.place.line, seen));
         self.push(placed, pending.said.as_str())?;
         self.found = self.found.and(Found::of(placed, self.how.denied));
         Ok(())
@@ -159,7 +124,7 @@ impl<'a, A: Allocator + Clone> FileReport<'a, A> {
     fn print(&mut self, finding: Finding, said: &str) -> Result<(), AllocError>
         ensures one { OnOk result (string_bytes self.new.one
             ≡ one_text self.old.how self.old.file.now finding said.now) }
-        ensures same { KeepsTold self.old self.new }
+        ensures same { self.new ≡ record self.old { one = self.new.one } }
     {
         self.one.clear();
         push_separator(&mut self.one, self.how.format, self.how.is_first)?;
@@ -169,21 +134,46 @@ impl<'a, A: Allocator + Clone> FileReport<'a, A> {
 
     /// Writes what is not written yet, if it is long enough for a part.
     pub(crate) fn write_part<W: Sink>(&mut self, writer: &mut W) -> Result<(), Stop<A>>
-        ensures { WritesPart W.told self.old writer.old result self.new writer.new }
+        ensures part { WritesPart W.told self.old writer.old result self.new writer.new }
+        ensures same { self.new ≡ record self.old { text = self.new.text } }
     {
         if self.text.len() < PART_LEN {
             return Ok(());
         }
-        self.write(writer)
+        match self.write(writer) {
+            Ok(()) => Ok(()),
+            Err(unwritten) => Err(Stop::Write(unwritten)),
+        }
     }
 
-    /// Writes what is not written yet.
-    pub(crate) fn write<W: Sink>(&mut self, writer: &mut W) -> Result<(), Stop<A>>
-        ensures part { WritesPart W.told self.old writer.old result self.new writer.new }
-        ensures whole { OnOk result (string_bytes self.new.text ≡ []) }
+    /// Writes what is not written yet, unless a part could not be written: this says how reading ended, which is
+    /// returned.
+    pub(crate) fn end<W: Sink>(
+        &mut self,
+        read: Result<(), Stop<A>>,
+        writer: &mut W,
+    ) -> Result<(), Stop<A>>
+        ensures ends { EndsReport W.told self.old writer.old read result writer.new }
+        ensures same { self.new ≡ record self.old { text = self.new.text } }
+    {
+        if is_unwritten(&read) {
+            return read;
+        }
+        match self.write(writer) {
+            Ok(()) => read,
+            Err(unwritten) => Err(Stop::Write(unwritten)),
+        }
+    }
+
+    // Writes what is not written yet.
+    fn write<W: Sink>(&mut self, writer: &mut W) -> Result<(), Error<A>>
+        ensures sends { Sends W.told most_writes writer.old writer.new
+            (string_bytes self.old.text) result }
+        ensures empty { OnOk result (string_bytes self.new.text ≡ []) }
+        ensures same { self.new ≡ record self.old { text = self.new.text } }
     {
         if let Err(unwritten) = write_all(writer, self.text.as_bytes(), MOST_WRITES) {
-            return Err(Stop::Write(unwritten));
+            return Err(unwritten);
         }
         self.text.clear();
         Ok(())

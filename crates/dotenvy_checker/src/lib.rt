@@ -11,6 +11,7 @@ pub mod folder;
 mod help;
 pub mod laws;
 mod lines;
+mod lookup;
 pub mod mistake;
 pub mod options;
 mod report;

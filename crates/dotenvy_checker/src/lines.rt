@@ -13,7 +13,7 @@ ghost use Rattle.dotenvy_findings.specs.Readings.{marks_of};
 ghost use Rattle.dotenvy_lines.specs.declared.lines.Stage.TheVariants.{Open, Failed};
 ghost use Rattle.dotenvy_checker.specs.Findings.{begins_at, cut, declaration_remarks, fault_remarks, found, guessed, is_passed, leaves_open, logical_text, open_behind, said_of, told_remark, with_key};
 ghost use Rattle.dotenvy_checker.specs.inside.CheckedLines.{declared_of, failed_as, left_len, logical_of, pieces, setting_at, so_far, ChecksGuess, ChecksGuesses, ChecksOutcome, ChecksPart, ChecksWhole, GuessIs, IsNew, KeepsMore, WhereFew};
-ghost use Rattle.dotenvy_checker.specs.inside.ToldLines.{end_of_reading, AreSettled, KeepsNone, KeepsTold, TellsAll, TellsKept, TellsLines};
+ghost use Rattle.dotenvy_checker.specs.inside.ToldLines.{end_of_reading, IsAny, IsSettled, KeepsAny, KeepsNone, KeepsTold, TellsAll, TellsKept, TellsLines};
 
 use crate::declared::{Declared, KnownNames};
 use crate::failure::Stop;
@@ -280,8 +280,8 @@ impl<'a, A: Allocator + Clone> Checker<'a, A> {
         report: &mut FileReport<'_, A>,
         writer: &mut W,
     ) -> std::result::Result<(), Stop<A>>
-        ensures { TellsKept AreSettled W.told self.old report.old writer.old result self.new
-            report.new writer.new }
+        ensures { TellsKept (IsSettled (declared_of self.old.declared)) KeepsAny W.told self.old
+            report.old writer.old result self.new report.new writer.new }
     {
         'findings: while let Some(first) = self.pending.front() {
             let finding = resolved(&self.declared, first);
@@ -302,8 +302,8 @@ impl<'a, A: Allocator + Clone> Checker<'a, A> {
         report: &mut FileReport<'_, A>,
         writer: &mut W,
     ) -> std::result::Result<(), Stop<A>>
-        ensures told { TellsKept KeepsNone W.told self.old report.old writer.old result self.new
-            report.new writer.new }
+        ensures told { TellsKept IsAny KeepsNone W.told self.old report.old writer.old result
+            self.new report.new writer.new }
         ensures none { (so_far self.old).remarks ≡ [] → OnOk result (report.new ≡ report.old) }
     {
         'findings: while let Some(first) = self.pending.pop_front() {

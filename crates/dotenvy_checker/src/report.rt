@@ -1,12 +1,13 @@
 //! How a file is reported: what is told of it once names that a later line declares are known, and in which form.
 
-ghost use Rattle.std.specs.Prelude.{◌≡◌, ◌||◌, ◌&&◌, ◌++◌, [], if◌then◌else◌, OnOk, map, string_bytes};
+ghost use Rattle.std.specs.Prelude.{◌≡◌, ◌||◌, ◌&&◌, ◌++◌, ◌∷◌, [], if◌then◌else◌, OnOk, map, string_bytes};
 ghost use Rattle.dotenvy_checker.specs.Checks.{both, found_of};
 ghost use Rattle.dotenvy_checker.specs.Findings.{comments_from, is_allowed_on, is_among, is_told, is_unknown, resolved};
 ghost use Rattle.dotenvy_findings.specs.Comments.{allow_of};
 ghost use Rattle.dotenvy_checker.specs.Report.{said_line, said_text};
 ghost use Rattle.dotenvy_reports.specs.Formats.{separator};
 ghost use Rattle.dotenvy_checker.specs.inside.CheckedLines.{declared_of, remark_of};
+ghost use Rattle.dotenvy_checker.specs.inside.ToldLines.{above_of};
 
 use crate::declared::Declared;
 use crate::lines::Pending;
@@ -126,28 +127,32 @@ pub(crate) fn comments_from<A: Allocator>(
     rest
 }
 
-// Whether the first of these comments stands on this line, and allows the kind.
-fn is_allowed_on<A: Allocator>(line: u64, kind: Kind, comments: &[AllowComment<A>]) -> bool
-    ensures { result ≡ is_allowed_on line kind (map allow_of comments.now) }
+/// A line that stands above findings, or 0, and the kinds that a comment on it allows.
+#[derive(Drop)]
+pub(crate) struct LineAbove<A: Allocator> {
+    pub(crate) line: u64,
+    pub(crate) kinds: Vec<Kind, A>,
+}
+
+// Whether the last line above a finding is this one, and a comment on it allows the kind.
+fn is_allowed_on<A: Allocator>(line: u64, kind: Kind, last: &LineAbove<A>) -> bool
+    ensures { result ≡ is_allowed_on line kind (above_of last.now ∷ []) }
 {
-    match comments.split_first() {
-        Some((first, _)) => first.line == line && is_among(kind, first.kinds.as_slice()),
-        None => false,
-    }
+    last.line == line && is_among(kind, last.kinds.as_slice())
 }
 
 /// Whether a finding is told, above whose line this one is: it is an error, or of no kind that is allowed, and the
-/// comment on the line above, if that is the first of these, does not allow it.
+/// comment on the line above, if that is the last one above a finding, does not allow it.
 pub(crate) fn is_told<A: Allocator>(
     finding: Finding,
     above: u64,
     allowed: &[Kind],
-    comments: &[AllowComment<A>],
+    last: &LineAbove<A>,
 ) -> bool
-    ensures { result ≡ is_told allowed.now (map allow_of comments.now) above finding }
+    ensures { result ≡ is_told allowed.now (above_of last.now ∷ []) above finding }
 {
     finding.kind.is_fault() && !finding.is_guess
-        || !(is_among(finding.kind, allowed) || is_allowed_on(above, finding.kind, comments))
+        || !(is_among(finding.kind, allowed) || is_allowed_on(above, finding.kind, last))
 }
 
 /// Appends what separates two findings, unless this is the first.

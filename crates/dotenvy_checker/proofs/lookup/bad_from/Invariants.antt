@@ -1,6 +1,6 @@
 use Rattle.std.proofs.Common.{◌≡◌, length}
 use Rattle.dotenvy_checker.specs.Findings.{bad_from}
-use Rattle.dotenvy_checker.proofs.file_report.bad_from.Given as goal
+use Rattle.dotenvy_checker.proofs.lookup.bad_from.Given as goal
 
 -- what is left decides the result
 abbrev pub invariant-bytes : goal.invariant-bytes

@@ -1,0 +1,37 @@
+use Rattle.std.proofs.Common.{◌∙◌, ap, refl, sym}
+use Rattle.std.proofs.lemmas.Result.{err_from_is_err_and}
+use Rattle.dotenvy_checker.specs.Checks.{names_in}
+use Rattle.dotenvy_checker.proofs.ReportParts.{memory_tells_nothing, reports_end}
+use Rattle.dotenvy_checker.proofs.check.check.Goals as goal
+
+pub returns-in_err-alloc-clause-reports : goal.returns-in_err-alloc-clause-reports
+returns-in_err-alloc-clause-reports g c = λ opened a tells few.
+    memory_tells_nothing g.W.Sink.told c.args.how.now c.args.name.now (names_in c.args.env.now.names) c.args.file a
+    c.args.writer.now c.from_residual-in_err-alloc.result c.from_residual-in_err-alloc.ensures.1
+
+pub returns-in_err-report-clause-reports : goal.returns-in_err-report-clause-reports
+returns-in_err-report-clause-reports g c = λ opened a tells few.
+    memory_tells_nothing g.W.Sink.told c.args.how.now c.args.name.now (names_in c.args.env.now.names) c.args.file a
+    c.args.writer.now c.from_residual-in_err-report.result c.from_residual-in_err-report.ensures.1
+
+pub returns-in_err-checker-clause-reports : goal.returns-in_err-checker-clause-reports
+returns-in_err-checker-clause-reports g c = λ opened a tells few.
+    memory_tells_nothing g.W.Sink.told c.args.how.now c.args.name.now (names_in c.args.env.now.names) c.args.file a
+    c.args.writer.now c.from_residual-in_err-checker.result c.from_residual-in_err-checker.ensures.1
+
+pub returns-in_err-end-clause-reports : goal.returns-in_err-end-clause-reports
+returns-in_err-end-clause-reports g c = λ opened a tells few.
+    let lines = c.into_lines-lines.ensures in
+    let p = err_from_is_err_and c.from_residual-in_err-end.result c.from_residual-in_err-end.ensures.1 in
+    let checked = record { found = c.end.new.self.found; declared = c.check_all-read.new.self.declared } in
+    rw (p.1, p.2) (reports_end g.W.Sink.told c.args.file checked c.check_all-read.result c.end.result
+    c.in_ok-checker.ensures lines.dialect c.in_ok-report.ensures
+    ((rw lines.lines at c.check_all-read.ensures.told) a opened tells few) c.end.ensures.ends refl refl)
+
+pub returns-clause-reports : goal.returns-clause-reports
+returns-clause-reports g c = λ opened a tells few.
+    let lines = c.into_lines-lines.ensures in
+    let checked = record { found = c.end.new.self.found; declared = c.check_all-read.new.self.declared } in
+    reports_end g.W.Sink.told c.args.file checked c.check_all-read.result c.end.result c.in_ok-checker.ensures
+    lines.dialect c.in_ok-report.ensures ((rw lines.lines at c.check_all-read.ensures.told) a opened tells few)
+    c.end.ensures.ends (ap (λ r. r.found) c.end.ensures.same) refl
