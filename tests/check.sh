@@ -532,29 +532,111 @@ check_outputs() {
     check 'standard error is full' 2 '' ''
 }
 
-# Calls the program on standard input with so many kilobytes of memory.
+# What is printed of places at which the name of line 1 is declared again.
+declared_twice() {
+    printf '%s: warning: this name is declared already, and the first value counts (line 1) [declared-twice]\n' "$@"
+}
+
+# Calls a command with so many kilobytes of memory.
 call_bounded() (
     ulimit -v "$1"
-    exec "$program" - 2>"$room/errors"
+    shift
+    exec "$@" 2>"$room/errors"
 )
 
-# Lines that each have a finding are printed while they are read, and none of them is held.
+# The findings of a file are printed while it is read, and none of them is held.
 check_sizes() {
-    local lines=2000000 twice='warning: this name is declared already, and the first value counts (line 1)'
+    local lines=2000000
     status=0
-    (yes A=1 || true) | head -n "$lines" | call_bounded 20000 | tail -n 1 >"$room/output" || status=$?
-    check "$lines lines with a finding, in 20 MB" 0 "<stdin>:$lines:1: $twice [declared-twice]$nl" ''
-    # The input has no end: the program does, when the reader of its report goes.
-    status=0
-    (yes A=1 || true) | (timeout 60 "$program" - 2>"$room/errors" || true) | sed -n '1000{p;q}' >"$room/output" || status=$?
-    check 'a report of an input without an end' 0 "<stdin>:1001:1: $twice [declared-twice]$nl" \
-        "$(failure 'Broken pipe (os error 32)')$nl"
+    (yes A=1 || :) | head -n "$lines" | call_bounded 20000 "$program" - | tail -n 1 >"$room/output" || status=$?
+    check "$lines lines with a finding, in 20 MB" 0 "$(declared_twice "<stdin>:$lines:1")$nl" ''
     # One line, however long, has one finding of a kind.
-    { printf 'A='; head -c 1600000 /dev/zero | tr '\0' '$'; echo; } >dollars.env
-    call dollars.env
-    check 'a line of 1600000 dollars' 0 \
-        "dollars.env:1:3: warning: a dollar without a name gives nothing; write \\$ [lone-dollar]$nl" ''
+    {
+        printf 'A='
+        head -c 1600000 /dev/zero | tr '\0' '$'
+        echo
+    } >dollars.env
+    gives 'a line of 1600000 dollars' 0 \
+        "dollars.env:1:3: warning: a dollar without a name gives nothing; write \\$ [lone-dollar]$nl" '' dollars.env
     rm dollars.env
+}
+
+# A report that is longer than a part of it, 64 KB, in each format.
+check_long_reports() {
+    local told='there is no = after the name; write NAME=VALUE' one
+    seq 3000 | sed 's/.*/A/' >long.env
+    gives 'a long report' 1 "$(long_report)$nl" '' long.env
+    one="::error file=long.env,line=%.0f,col=2,title=no-equals-sign::$told"
+    gives "a long report in GitHub's form" 1 "$(seq -f "$one" 3000)$nl" '' --format github long.env
+    one='{"file":"long.env","line":%.0f,"column":2,"severity":"error","kind":"no-equals-sign","message":'
+    gives 'a long report as JSON' 1 "$(seq -f "$one\"$told\"}" 3000)$nl" '' --format json long.env
+    call --format sarif long.env
+    cut_results
+    one="{\"ruleId\":\"no-equals-sign\",\"level\":\"error\",\"message\":{\"text\":\"$told\"},"
+    one+='"locations":[{"physicalLocation":{"artifactLocation":{"uri":"long.env"},'
+    one+='"region":{"startLine":%.0f,"startColumn":2}}}]}'
+    check 'a long report as SARIF' 1 "\"results\":[$(seq -s , -f "$one" 3000)]}]}$nl" ''
+}
+
+# The report of long.env.
+long_report() {
+    # shellcheck disable=SC2046 # each place is a word of its own
+    no_equals_sign $(seq -f 'long.env:%.0f:2' 3000)
+}
+
+# A name without a value waits for its declaration, and so do the findings after it: they keep their order.
+check_order() {
+    local faults
+    faults=$(seq 1000 | sed 's/.*/A/')
+    printf '%s\nB=$NOT\n%s\nNOT=1\nC=$CHECKED\n%s\nB=2\n' "$faults" "$faults" "$faults" >waiting.env
+    gives 'findings after a name that is declared later, over several parts' 1 "$(waiting_report)$nl" '' waiting.env
+}
+
+# The report of waiting.env.
+waiting_report() {
+    # shellcheck disable=SC2046 # each place is a word of its own
+    no_equals_sign $(seq -f 'waiting.env:%.0f:2' 1000)
+    echo 'waiting.env:1001:3: warning: this name is declared only later; move that line up (line 2002) [later-name]'
+    no_equals_sign $(seq -f 'waiting.env:%.0f:2' 1002 2001)
+    unknown_name waiting.env:2003:3
+    no_equals_sign $(seq -f 'waiting.env:%.0f:2' 2004 3003)
+    declared_twice waiting.env:3004:1 | sed 's/(line 1)/(line 1001)/'
+}
+
+# Calls a command whose standard input gives the bytes of a file, and then fails: it is a terminal that was closed.
+read_and_fail() {
+    python3 - "$@" <<'END'
+import os, subprocess, sys, tty
+
+reader, terminal = os.openpty()
+tty.setraw(terminal)
+with open(sys.argv[1], "rb") as file:
+    os.write(terminal, file.read())
+os.close(terminal)
+sys.exit(subprocess.run(sys.argv[2:], stdin=reader).returncode)
+END
+}
+
+# What was found before a fault of reading is printed. After one of writing nothing more is read or written.
+check_stops() {
+    local found
+    head -n 1500 long.env >cut.env
+    printf 'B=$CHECKED\nC' >>cut.env
+    found=$(long_report | head -n 1500 | sed 's/^long.env/<stdin>/')$nl$(unknown_name '<stdin>:1501:3')$nl
+    keep read_and_fail cut.env "$program" - good.env
+    check 'a read that fails' 2 "$found$(unread '<stdin>' 'Input/output error (os error 5)')$nl" ''
+    # The input has no end, so the program has to end when the reader of its report goes.
+    echo 0 >"$room/status"
+    (yes A=1 || :) | (call_bounded 200000 timeout 60 "$program" - || echo "$?" >"$room/status") |
+        head -n 1 >"$room/output"
+    status=$(cat "$room/status")
+    check 'the reader of a report goes' 2 "$(declared_twice '<stdin>:2:1')$nl" \
+        "$(failure 'Broken pipe (os error 32)')$nl"
+    # The file of the report may have 100 KB, so the second part of it can't be written.
+    status=0
+    (trap '' XFSZ && ulimit -f 100 && exec "$program" long.env absent.env >"$room/output" 2>"$room/errors") || status=$?
+    found=$(long_report)
+    check 'a report that is too long for its file' 2 "${found:0:102400}" "$(failure 'File too large (os error 27)')$nl"
 }
 
 check_statuses
@@ -572,5 +654,8 @@ check_streams
 check_search
 check_outputs
 check_sizes
+check_long_reports
+check_order
+check_stops
 
 tell_sums
