@@ -426,7 +426,7 @@ tells_first {old = old} {now = now} front more later end left are settled_front 
       front = map (settled names) (front ++ more);
       later = map (settled names) later;
       cut = ap (λ (d : Declared). map (settled d) all.remarks) declared
-          ∙ ap (λ (t : List Remark). map (settled names) t) remarks ∙ map-append;
+          ∙ ap (λ (t : List Remark). map (settled names) t) remarks ∙ map-append (settled names) (front ++ more) later;
       final = inl (reads_first k, all_known names (front ++ more) settled_front);
       end = end;
       are = are;
@@ -437,11 +437,11 @@ tells_so_far : {A W : Type 0} {told : W → SinkTold} {a : Ahead} {s t : LinesSt
     {report later : FileReport A} {writer written : W}
     (came : CheckedSoFar told s t old report writer now later written) → CheckedTo a s t came.front old now →
     TellsFirst s a report.how.allowed.now (last_above report) came.remarks old
-tells_so_far {now = now} {later = later} came k =
+tells_so_far {now = now} {report = report} {later = later} came k =
     let names = declared_of now.declared in
     let all = append-nil came.front in
-    let are : AreToldInTurn _ _ (map (settled names) (came.front ++ [])) came.remarks (last_above later) =
-    rw all came.are in
+    let are : AreToldInTurn report.how.allowed.now (last_above report) (map (settled names) (came.front ++ []))
+    came.remarks (last_above later) = rw all came.are in
     let settled_front : AllByRecursion (IsSettled names) (came.front ++ []) = rw all came.settled_front in
     tells_first came.front [] (so_far now).remarks (last_above later) refl are settled_front k
 
@@ -624,7 +624,8 @@ rest_first {fault = fault} {allowed = allowed} {start} {middle} {remarks} {other
       front = map (settled names) (h.front ++ k.front);
       later = map (settled names) k.later;
       cut = ap (λ (d : Declared). map (settled d) all.remarks) declared
-          ∙ ap (λ (t : List Remark). map (settled names) t) found ∙ map-append;
+          ∙ ap (λ (t : List Remark). map (settled names) t) found
+          ∙ map-append (settled names) (h.front ++ k.front) k.later;
       final = inr (fault, h.reads);
       end = k.end;
       are = rw map-append (told-append allowed start middle k.end (map (settled names) h.front)
@@ -645,7 +646,7 @@ rest_rows {allowed = allowed} {start} {middle} {end} {front} {remarks} {others} 
     ∙ ap (λ (t : List Remark). h.front ++ t) (k.left ∙ ap (λ (t : List Remark). front ++ t) none ∙ append-nil front) in
     let is : settled_all all ≡ map (settled names) h.front ++ map (settled names) front =
     ap (λ (d : Declared). map (settled d) all.remarks) declared
-    ∙ ap (λ (t : List Remark). map (settled names) t) found ∙ map-append in record {
+    ∙ ap (λ (t : List Remark). map (settled names) t) found ∙ map-append (settled names) h.front front in record {
       rows = h.rows;
       reads = h.reads;
       are_rows = h.are_rows;

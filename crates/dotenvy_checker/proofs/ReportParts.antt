@@ -1,6 +1,6 @@
 -- The report of a file, as the parts that were written.
 use Rattle.std.proofs.Common.{◌≡◌, ℕ, Bool, List, [], ◌∷◌, ◌++◌, ◌∙◌, ap, refl, sym, inl, inr, Option, Some, None}
-use Rattle.std.proofs.Common.{Result, Ok, Err, string_bytes}
+use Rattle.std.proofs.Common.{Result, Ok, Err, string_bytes, subst}
 use Rattle.std.specs.Prelude.{IsErrAnd}
 use Rattle.std.specs.List.{concat}
 use Rattle.std.proofs.lemmas.List.{append-nil}
@@ -73,8 +73,8 @@ reports_found : {A W : Type 0} (told : W → SinkTold) {how : Reporting} {file :
     SendsParts told before (report how.format how.is_first file remarks) answer after →
     ReportsFound told how file found remarks before answer after
 reports_found told {how = how} {old = old} found remarks end untold are sends =
-    let own : AreToldInTurn how.allowed.now (allow 0 []) found remarks end =
-    rw (untold.how_is, untold.start) at are in
+    let Told : Allow → Type 0 = λ start. AreToldInTurn how.allowed.now start found remarks end in
+    let own = subst Told untold.start (rw (untold.how_is) at are) in
     let (more, one) = one_list how.allowed.now (allow 0 []) end found remarks own in (allow 0 [] ∷ more, one, sends)
 
 -- a new checker's rows, as they are found in the file
@@ -96,7 +96,8 @@ finds_first : {A : Type 0} {env : Env} {how : Reporting} {s : IterState} {a : Ah
 finds_first is k =
     let dialect = is.made.in_dialect ∙ is.in_dialect in
     let led = led_new k.rows is.made is.in_dialect in
-    (k.rows, k.later, rw dialect at k.are_rows, ap (λ (t : SoFar). settled_all t) (sym led) ∙ k.cut, rw dialect at k.final)
+    let cut = ap (λ (t : SoFar). settled_all t) (sym led) ∙ k.cut in
+    (k.rows, k.later, rw dialect at k.are_rows, cut, rw dialect at k.final)
 
 -- all that a new checker finds is found in the file
 has_findings : {A : Type 0} {env : Env} {how : Reporting} {s : IterState} {a : Ahead} {fault : Option (Error A)}

@@ -17,6 +17,7 @@ use Rattle.dotenvy_checker.specs.declared.file_report.FileReport.{FileReport}
 use Rattle.dotenvy_checker.specs.declared.lines.Checker.{Checker}
 use Rattle.dotenvy_checker.specs.declared.lines.Pending.{Pending}
 use Rattle.dotenvy_checker.specs.declared.report.Found.{Found}
+use Rattle.dotenvy_checker.specs.declared.report.Reporting.{Reporting}
 use Rattle.dotenvy_checker.specs.declared.watched.Seen.{Seen}
 use Rattle.dotenvy_checker.specs.Checks.{both, found_in, IsMemoryStop}
 use Rattle.dotenvy_checker.specs.Findings.{Declared, Remark, bad_from, is_unknown, resolved, settled, told_one}
@@ -121,11 +122,17 @@ told_more {A = A} passes told {old} {now} {new} {report} {later} {next} {last} {
     let declared = declared_of old.declared in
     let allowed = report.how.allowed.now in
     let bad = bad_from finding.place.line (drop later.lookup.bad_before (bad_bytes seen)) in
-    let told_now = told_one later.how.allowed.now (last_above next ∷ []) bad (record remark { finding = finding }) in
+    let told_now =
+    told_one later.how.allowed.now (last_above next ∷ []) bad (record remark { finding = finding }) in
     let is_finding = found ∙ ap (λ (d : Declared). resolved d remark) k.tells.declared in
     let line : last_above last ≡ last_above next = ap (λ (r : FileReport A). last_above r) same_report in
+    let kinds : later.how.allowed.now ≡ allowed = ap (λ (h : Reporting). h.allowed.now) k.parts.how in
+    let own : Remark = record remark { finding = finding } in
     let is_told : told_now ≡ told_one allowed (last_above last ∷ []) bad (settled declared remark) =
-    rw (k.parts.how, line, is_finding) refl in record {
+    ap (λ (a : List Kind). told_one a (last_above next ∷ []) bad own) kinds
+    ∙ ap (λ (l : Allow). told_one allowed (l ∷ []) bad own) (sym line)
+    ∙ ap (λ (f : Finding). told_one allowed (last_above last ∷ []) bad (record remark { finding = f })) is_finding in
+    record {
       front = k.front ++ remark ∷ [];
       remarks = k.remarks ++ told_now;
       tells = record {
@@ -186,7 +193,7 @@ settled_one old now remark finding unknown same is test known = rw (← same, �
 pub front_popped : {X : Type 0} (items left : List X) (first : X) (popped : Option X) →
     first ≡ slice_index_or items 0 first → IsSome popped → items ≡ option_to_list popped ++ left → items ≡ first ∷ left
 front_popped items left first None is some cut = cc
-front_popped items left first (Some x) is some cut = cut ∙ ap (λ y. y ∷ left) (sym (rw cut at is))
+front_popped {X = X} items left first (Some x) is some cut = cut ∙ ap (λ (y : X). y ∷ left) (sym (rw cut at is))
 
 -- what was told is told up to a place of which P holds
 pub told_kept : {A W : Type 0} {passes : Remark → Type 0} {told : W → SinkTold} {old now : Checker A}

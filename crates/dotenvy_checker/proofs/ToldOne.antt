@@ -59,7 +59,7 @@ told_shown : {A : Type 0} {old now middle new : FileReport A} {placed : Finding}
     new ≡ record middle { found = new.found } → new.found ≡ both middle.found (found_of middle.how.denied.now placed) →
     TellsMore (told_one allowed comments bad remark) old new
 told_shown {A = A} {old = old} allowed comments bad remark lookup shows is looks pushes same counts =
-    let own = record remark { finding = placed_one bad remark.finding } in
+    let own : Remark = record remark { finding = placed_one bad remark.finding } in
     let file = ap (λ (r : FileReport A). r.file) looks in
     let how = ap (λ (r : FileReport A). r.how) looks in
     let found = ap (λ (r : FileReport A). r.found) looks in

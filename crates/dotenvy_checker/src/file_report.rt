@@ -22,8 +22,8 @@ use std::alloc::{AllocError, Allocator};
 // A report is written as soon as so many bytes of it are there that are not written yet.
 const PART_LEN: usize = 65_536;
 
-// A finding, at the first of these bytes that are no text, if it is that of a line that is none, and the byte is on that
-// line.
+// A finding, at the first of these bytes that are no text, if it is that of a line that is none, and the byte is on
+// that line.
 fn placed(finding: Finding, bad: &[BadByte]) -> Finding
     ensures { result ≡ placed_one bad.now finding }
 {

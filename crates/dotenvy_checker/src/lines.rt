@@ -223,9 +223,9 @@ impl<'a, A: Allocator + Clone> Checker<'a, A> {
         })
     }
 
-    /// Reads all lines, tells what is found in them, and writes parts of what is told. The error is the fault that ended
-    /// reading, before which all that was found is told; or it says that a part could not be written, or that an
-    /// allocation failed.
+    /// Reads all lines, tells what is found in them, and writes parts of what is told. The error is the fault that
+    /// ended reading, before which all that was found is told; or it says that a part could not be written, or that
+    /// an allocation failed.
     pub(crate) fn check_all<R: Source, W: Sink>(
         &mut self,
         lines: &mut Splitter<Watched<R, A>, A>,

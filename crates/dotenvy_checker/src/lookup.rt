@@ -15,6 +15,7 @@ use dotenvy_findings::kind::Kind;
 use std::alloc::{AllocError, Allocator};
 
 // What stands behind the first so many of these.
+#[tactic(auto, using(std::proofs::lemmas::List::drop_all))]
 fn items_after<T>(items: &[T], count: usize) -> &[T]
     ensures { result.now ≡ drop count items.now }
 {
@@ -59,7 +60,7 @@ pub(crate) struct Lookup<A: Allocator> {
     bad_before: usize,
 }
 
-impl<A: Allocator> Lookup<A> {
+impl<A: Allocator + Clone> Lookup<A> {
     /// Begins with a file.
     pub(crate) fn new(alloc: A) -> Lookup<A>
         ensures { IsAtStart result }
@@ -76,6 +77,7 @@ impl<A: Allocator> Lookup<A> {
 
     /// Moves on to what is found below this line, if it stands behind the line before: the comment on it counts, of
     /// those that were seen. What it allows is kept, so that a comment that is read later changes nothing.
+    #[tactic(auto, using(crate::proofs::OneList::next_stays, crate::proofs::OneList::next_moves))]
     pub(crate) fn move_below(&mut self, line: u64, seen: &Seen<A>) -> Result<(), AllocError>
         ensures { OnOk result (above_of self.new.above ≡ next_above line
             (drop self.old.comments_before (allow_comments seen.now)) (above_of self.old.above)) }
@@ -104,8 +106,8 @@ impl<A: Allocator> Lookup<A> {
         comments
     }
 
-    /// The bytes that are no text on this line and behind it, of those that were seen. Those before it are not looked at
-    /// again.
+    /// The bytes that are no text on this line and behind it, of those that were seen. Those before it are not looked
+    /// at again.
     pub(crate) fn bad_at<'s>(&mut self, line: u64, seen: &'s Seen<A>) -> &'s [BadByte]
         ensures bad { result.now ≡ bad_from line (drop self.old.bad_before (bad_bytes seen.now)) }
         ensures before { self.new.bad_before
