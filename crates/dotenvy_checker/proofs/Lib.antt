@@ -7,6 +7,7 @@ mod FoundFaults
 mod Guesses
 mod KeptLines
 mod Lacking
+mod Lookups
 mod NamesAmong
 mod NumberedLines
 mod OneList

@@ -1,21 +1,12 @@
 -- What is told of findings one after another is told by one list of comments.
-use Rattle.std.proofs.Common.{◌≡◌, ◌<◌, ◌≤◌, ℕ, Bool, true, false, List, [], ◌∷◌, ◌++◌, ap, refl, subst, sym, inl, inr}
+use Rattle.std.proofs.Common.{◌≡◌, ℕ, Bool, true, false, List, [], ◌∷◌, ◌++◌, ap, refl, subst, sym, inl, inr}
 use Rattle.std.specs.Prelude.{nat_lt, if◌then◌else◌}
-use Rattle.std.proofs.lemmas.Bool.{cases_Bool, le-ltb, lt-ltb}
+use Rattle.std.proofs.lemmas.Bool.{cases_Bool, le-ltb}
 use Rattle.std.proofs.Math.Nat.{le_refl}
 use Rattle.dotenvy_findings.specs.Comments.{allow, Allow}
 use Rattle.dotenvy_findings.specs.declared.kind.Kind.{Kind}
 use Rattle.dotenvy_checker.specs.Findings.{Remark, comments_from, told_one, AreTold}
-use Rattle.dotenvy_checker.specs.inside.ToldLines.{kinds_on, next_above, AreToldInTurn}
-
--- a line that isn't behind the last one above a finding changes nothing
-pub next_stays : (line : ℕ) (seen : List Allow) (last : Allow) → line ≤ last.line → last ≡ next_above line seen last
-next_stays line seen last before = rw (le-ltb last.line line before) refl
-
--- a line behind it is the next one, with what the comment on it allows
-pub next_moves : (line : ℕ) (seen : List Allow) (last : Allow) (kinds : List Kind) → last.line < line →
-    kinds ≡ kinds_on line (comments_from line seen) → allow line kinds ≡ next_above line seen last
-next_moves line seen last kinds behind is = rw (lt-ltb last.line line behind, is) refl
+use Rattle.dotenvy_checker.specs.inside.ToldLines.{next_above, AreToldInTurn}
 
 -- behind the last line above a finding the comments begin with that on the next one
 behind_last : (line : ℕ) (seen : List Allow) (last : Allow) (more : List Allow) → nat_lt last.line line ≡ true →

@@ -77,7 +77,7 @@ impl<A: Allocator + Clone> Lookup<A> {
 
     /// Moves on to what is found below this line, if it stands behind the line before: the comment on it counts, of
     /// those that were seen. What it allows is kept, so that a comment that is read later changes nothing.
-    #[tactic(auto, using(crate::proofs::OneList::next_stays, crate::proofs::OneList::next_moves))]
+    #[tactic(auto, using(crate::proofs::Lookups::next_stays, crate::proofs::Lookups::next_moves))]
     pub(crate) fn move_below(&mut self, line: u64, seen: &Seen<A>) -> Result<(), AllocError>
         ensures { OnOk result (above_of self.new.above ≡ next_above line
             (drop self.old.comments_before (allow_comments seen.now)) (above_of self.old.above)) }
@@ -93,6 +93,7 @@ impl<A: Allocator + Clone> Lookup<A> {
     }
 
     // The comments on this line and behind it, of those that were seen. Those before it are not looked at again.
+    #[tactic(auto, using(crate::proofs::Lookups::seen_comments))]
     fn comments_at<'s>(&mut self, line: u64, seen: &'s Seen<A>) -> &'s [AllowComment<A>]
         ensures comments { map allow_of result.now
             ≡ comments_from line (drop self.old.comments_before (allow_comments seen.now)) }
