@@ -49,8 +49,9 @@ use Rattle.dotenvy_checker.specs.Findings.{AreRows, GuessesFrom}
 use Rattle.dotenvy_checker.specs.inside.CheckedLines.{declared_of, failed_as, setting_of, so_far, ChecksOutcome}
 use Rattle.dotenvy_checker.specs.inside.CheckedLines.{ComesTo, IsNew, WhereFew}
 use Rattle.dotenvy_checker.specs.inside.ToldLines.{end_of_reading, last_above, led_by, AreToldInTurn, IsAny, IsSettled}
-use Rattle.dotenvy_checker.specs.inside.ToldLines.{KeepsAny, KeepsNone, TellsAll, TellsFirst, TellsFront, TellsKept}
-use Rattle.dotenvy_checker.specs.inside.ToldLines.{TellsLines, TellsParts, TellsRows, TellsSettled, TellsSome}
+use Rattle.dotenvy_checker.specs.inside.ToldLines.{KeepsAny, KeepsNone, KeepsTold, TellsAll, TellsFirst, TellsFront}
+use Rattle.dotenvy_checker.specs.inside.ToldLines.{TellsKept, TellsLines, TellsParts, TellsRows, TellsSettled}
+use Rattle.dotenvy_checker.specs.inside.ToldLines.{TellsSome}
 use Rattle.dotenvy_checker.proofs.KeptLines.{with_rows-append}
 use Rattle.dotenvy_checker.proofs.Settled.{all_known, all_settled, all_stay, behind_front, entries_extend}
 use Rattle.dotenvy_checker.proofs.Settled.{lines_extend, row_behind, Extends}
@@ -539,6 +540,18 @@ checked_stop told new end last at outcome (stop.Memory refused) came answers che
       tells-append told came.parts parts,
     )
 
+-- nothing is told of what is kept
+tells_none : {A : Type 0} (passes : Remark → Type 0) (allowed : List Kind) (last : Allow) (checker : Checker A) →
+    TellsSome passes allowed last [] checker
+tells_none passes allowed last checker = record {
+  front = [];
+  later = (so_far checker).remarks;
+  end = last;
+  left = refl;
+  passed = tt;
+  are = (refl, refl);
+}
+
 -- memory for what was seen was refused, where a line was checked and nothing of it is told yet
 pub checked_unseen : {A W : Type 0} (told : W → SinkTold) {s : LinesState} {old now : Checker A}
     {report later : FileReport A} {writer written : W} {p m : SplitterState} (new : Checker A)
@@ -548,14 +561,9 @@ pub checked_unseen : {A W : Type 0} (told : W → SinkTold) {s : LinesState} {ol
     WhereFew s (λ a. TellsAll told s a old report writer (Err (stop.Memory refused)) new later written)
 checked_unseen told {later = later} new outcome refused came answers checks a opened is_told few = (
   came.remarks ++ [],
-  tells_line outcome came answers checks (record {
-    front = [];
-    later = (so_far new).remarks;
-    end = last_above later;
-    left = refl;
-    passed = tt;
-    are = (refl, refl);
-  }) (came.read a opened is_told few) is_told few,
+  tells_line {remarks = []} outcome came answers checks
+      (tells_none (IsSettled (declared_of new.declared)) later.how.allowed.now (last_above later) new)
+      (came.read a opened is_told few) is_told few,
   rw (append-nil came.remarks) came.parts,
 )
 
@@ -694,18 +702,29 @@ pub checked_rest_unseen : {A W : Type 0} (told : W → SinkTold) {s : LinesState
 checked_rest_unseen told fault (Ok done) stops lines = absurd stops
 checked_rest_unseen told fault (Err (stop.Read e)) stops lines = absurd stops
 checked_rest_unseen told fault (Err (stop.Write e)) stops lines = absurd stops
-checked_rest_unseen told {now = now} {later = later} fault (Err (stop.Memory refused)) stops (remarks, h, parts) = (
-  remarks ++ [],
-  rest_first h (record {
-    front = [];
-    later = (so_far now).remarks;
-    end = last_above later;
-    left = refl;
-    passed = tt;
-    are = (refl, refl);
-  }),
-  rw (append-nil remarks) parts,
-)
+checked_rest_unseen told {now = now} {report = report} {later = later} fault (Err (stop.Memory refused)) stops
+    (remarks, h, parts) = (
+      remarks ++ [],
+      rest_first {others = []} h (tells_none IsAny report.how.allowed.now (last_above later) now),
+      rw (append-nil remarks) parts,
+    )
+
+-- nothing is told where a report stays as it is
+keeps_same : {A : Type 0} {old new : FileReport A} → new ≡ old → KeepsTold old new
+keeps_same {A = A} same = record {
+  file = ap (λ (r : FileReport A). r.file) same;
+  how = ap (λ (r : FileReport A). r.how) same;
+  found = ap (λ (r : FileReport A). r.found) same;
+  text = ap (λ (r : FileReport A). string_bytes r.text) same;
+}
+
+-- nothing is told, and no name is declared, where no line was read and nothing was kept
+pub shut_rest : {A W : Type 0} (told : W → SinkTold) {old now new : Checker A} {report later last : FileReport A}
+    {writer end : W} → now ≡ old → later ≡ report → last ≡ later →
+    TellsKept IsAny KeepsNone told now later writer (Ok tt) new last end →
+    KeepsTold report last × (declared_of new.declared ≡ declared_of old.declared)
+shut_rest {A = A} told checker before after (front, remarks, k, any, parts, kept) =
+    (keeps_same (after ∙ before), k.declared ∙ ap (λ (c : Checker A). declared_of c.declared) checker)
 
 -- what is found in rows is the same from the same place on
 same_rows : {a b : Setting} {s t : SoFar} (rows : List Row) → a ≡ b → s ≡ t → with_rows a s rows ≡ with_rows b t rows

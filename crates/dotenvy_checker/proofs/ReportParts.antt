@@ -1,7 +1,7 @@
 -- The report of a file, as the parts that were written.
 use Rattle.std.proofs.Common.{◌≡◌, ℕ, Bool, List, [], ◌∷◌, ◌++◌, ◌∙◌, ap, refl, sym, inl, inr, Option, Some, None}
 use Rattle.std.proofs.Common.{Result, Ok, Err, string_bytes, subst}
-use Rattle.std.specs.Prelude.{IsErrAnd}
+use Rattle.std.specs.Prelude.{IsErrAnd, OnOk}
 use Rattle.std.specs.List.{concat}
 use Rattle.std.proofs.lemmas.List.{append-nil}
 use Rattle.std.proofs.lemmas.List.Folds.{concat-append}
@@ -28,7 +28,7 @@ use Rattle.dotenvy_checker.specs.Parts.{SendsEach, SendsParts}
 use Rattle.dotenvy_checker.specs.Report.{report}
 use Rattle.dotenvy_checker.specs.inside.CheckedLines.{declared_of, IsNew}
 use Rattle.dotenvy_checker.specs.inside.ToldLines.{last_above, led_by, AreToldInTurn, CannotWrite, EndsReport, IsUntold}
-use Rattle.dotenvy_checker.specs.inside.ToldLines.{TellsAll, TellsFirst, TellsParts, TellsRows}
+use Rattle.dotenvy_checker.specs.inside.ToldLines.{KeepsTold, TellsAll, TellsFirst, TellsParts, TellsRows}
 use Rattle.dotenvy_checker.proofs.CheckedReads.{led_new}
 use Rattle.dotenvy_checker.proofs.OneList.{one_list}
 use Rattle.dotenvy_checker.proofs.Told.{parts-append, sends-append}
@@ -217,6 +217,23 @@ reports_end told {how = how} {after = after} s checked (Err (stop.Memory refused
     (remarks, k, parts) (inr (e, ends, sends)) found declares =
     let is_file = file_of how s made is in
     rw ends (reports_first told is_file untold k (parts_sent told after (Err e) parts untold sends))
+
+-- a check that read no line tells nothing, where its report is ended
+pub shut_tells : {A W : Type 0} (told : W → SinkTold) {env : Env} {given : Dialect} {how : Reporting} {file : List ℕ}
+    {file_report last : FileReport A} {old new : Checker A} {before after : W} (checked : Checked A)
+    (read : Result (Unit {0}) (Stop A)) → IsNew env given how.text old → IsUntold file how file_report →
+    OnOk read (KeepsTold file_report last × (declared_of new.declared ≡ declared_of old.declared)) →
+    EndsReport told last before read (Ok tt) after → checked.found ≡ last.found →
+    declared_of checked.declared ≡ declared_of new.declared → Tells how [] nothing_yet checked
+shut_tells told checked (Ok done) made untold (keeps, same) ends found declares = record {
+  found = found ∙ keeps.found ∙ untold.nothing;
+  declares = declares ∙ same ∙ ap (λ (s : SoFar). s.declared) made.nothing;
+}
+shut_tells told checked (Err (stop.Read e)) made untold keeps (inl (is, sends)) found declares = cc
+shut_tells told checked (Err (stop.Read e)) made untold keeps (inr (error, is, sends)) found declares = cc
+shut_tells told checked (Err (stop.Write e)) made untold keeps (is, same) found declares = cc
+shut_tells told checked (Err (stop.Memory refused)) made untold keeps (inl (is, sends)) found declares = cc
+shut_tells told checked (Err (stop.Memory refused)) made untold keeps (inr (error, is, sends)) found declares = cc
 
 -- a check that stops because an allocation failed before a line was read tells nothing
 pub memory_tells_nothing : {A W : Type 0} (told : W → SinkTold) (how : Reporting) (file : List ℕ) (names : Known)

@@ -1,5 +1,5 @@
 -- What a checker kept, told one after another.
-use Rattle.std.proofs.Common.{◌≡◌, ℕ, Bool, true, false, List, [], ◌∷◌, ◌++◌, ◌∙◌, drop, map, refl, sym, ap, subst}
+use Rattle.std.proofs.Common.{◌≡◌, ℕ, Bool, true, false, List, [], ◌∷◌, ◌++◌, ◌∙◌, drop, map, refl, sym, ap}
 use Rattle.std.proofs.Common.{Option, Some, None, Result, Ok, Err, string_bytes}
 use Rattle.std.specs.Prelude.{option_to_list, slice_index_or, IsErrAnd, IsSome}
 use Rattle.std.specs.List.{concat, AllByRecursion}
@@ -154,14 +154,15 @@ told_more {A = A} passes told {old} {now} {new} {report} {later} {next} {last} {
 pub told_some : {A W : Type 0} {passes : Remark → Type 0} {told : W → SinkTold} {old now : Checker A}
     {report later : FileReport A} {writer written : W} (k : ToldSoFar passes told old report writer now later written) →
     TellsSome passes report.how.allowed.now (last_above report) k.remarks old
-told_some {now = now} {later = later} k = record {
-  front = k.front;
-  later = (so_far now).remarks;
-  end = last_above later;
-  left = k.tells.left;
-  passed = k.passed;
-  are = k.tells.are;
-}
+told_some {now = now} {later = later} k =
+    let last = last_above later in record {
+      front = k.front;
+      later = (so_far now).remarks;
+      end = last;
+      left = k.tells.left;
+      passed = k.passed;
+      are = k.tells.are;
+    }
 
 -- what was told, of which the last part can't be written
 pub stops_writing : {A W : Type 0} {passes : Remark → Type 0} (told : W → SinkTold) {old now : Checker A}

@@ -10,12 +10,14 @@ use Rattle.dotenvy_findings.specs.declared.kind.Kind.{Kind}
 use Rattle.dotenvy_checker.specs.declared.file_report.FileReport.{FileReport}
 use Rattle.dotenvy_checker.specs.declared.lookup.Lookup.{Lookup}
 use Rattle.dotenvy_checker.specs.declared.report.Found.{Found}
+use Rattle.dotenvy_checker.specs.declared.report.LineAbove.{LineAbove}
 use Rattle.dotenvy_checker.specs.declared.watched.Seen.{Seen}
 use Rattle.dotenvy_checker.specs.Checks.{both, found_in, found_of}
 use Rattle.dotenvy_checker.specs.Findings.{Remark, bad_from, is_denied, is_error, is_told, is_warning, placed_one}
 use Rattle.dotenvy_checker.specs.Findings.{shown, told_one}
 use Rattle.dotenvy_checker.specs.inside.CheckedLines.{allow_comments, bad_bytes}
-use Rattle.dotenvy_checker.specs.inside.ToldLines.{above_of, last_above, next_above, PushesOne, TellsMore, TellsOne}
+use Rattle.dotenvy_checker.specs.inside.ToldLines.{above_of, last_above, next_above, KeepsTold, PushesOne, TellsMore}
+use Rattle.dotenvy_checker.specs.inside.ToldLines.{TellsOne}
 use Rattle.dotenvy_checker.proofs.ToldFronts.{nothing_more}
 
 -- the line above the next finding, by the comments that were seen
@@ -82,10 +84,20 @@ pub shown_one : {A : Type 0} {old now middle new : FileReport A} {remark : Remar
 shown_one {A = A} {old = old} {new = new} {remark = remark} seen one two moves shows stays is looks pushes same counts =
     let line : last_above new ≡ above_of one.above =
     ap (λ (r : FileReport A). last_above r) same ∙ ap (λ (l : Lookup A). above_of l.above) pushes.lookup
-    ∙ ap (λ (r : FileReport A). last_above r) looks ∙ ap above_of stays in
+    ∙ ap (λ (r : FileReport A). last_above r) looks ∙ ap (λ (a : LineAbove A). above_of a) stays in
     let Tells : Allow → Type 0 = λ last.
     TellsMore (told_one old.how.allowed.now (last ∷ []) (bad_at remark seen old) remark) old new in record {
       moves = line ∙ moves;
       tells = subst Tells (sym line) (told_shown old.how.allowed.now (above_of one.above ∷ []) (bad_at remark seen old)
           remark two shows is looks pushes same counts);
     }
+
+-- nothing is told where something is looked up
+pub keeps_looked : {A : Type 0} (old : FileReport A) (lookup : Lookup A) →
+    KeepsTold old (record old { lookup = lookup })
+keeps_looked old lookup = record { file = refl; how = refl; found = refl; text = refl }
+
+-- nothing is told, and nothing after something was looked up
+pub keeps_behind : {A : Type 0} {new : FileReport A} (old : FileReport A) (lookup : Lookup A) →
+    KeepsTold (record old { lookup = lookup }) new → KeepsTold old new
+keeps_behind old lookup k = record { file = k.file; how = k.how; found = k.found; text = k.text }

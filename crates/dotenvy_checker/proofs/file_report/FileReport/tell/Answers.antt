@@ -1,8 +1,15 @@
 use Rattle.std.proofs.Common.{◌∙◌, ap, refl, sym}
 use Rattle.dotenvy_checker.specs.Checks.{both}
 use Rattle.dotenvy_checker.specs.inside.CheckedLines.{remark_of}
-use Rattle.dotenvy_checker.proofs.ToldOne.{hidden_one, shown_one}
+use Rattle.dotenvy_checker.proofs.ToldOne.{hidden_one, keeps_behind, keeps_looked, shown_one}
 use Rattle.dotenvy_checker.proofs.file_report.FileReport.tell.Goals as goal
+
+pub returns-in_err-move_below-clause-refused : goal.returns-in_err-move_below-clause-refused
+returns-in_err-move_below-clause-refused g c = keeps_looked c.args.self.now c.move_below.new.self
+
+pub returns-in_err-push-clause-refused : goal.returns-in_err-push-clause-refused
+returns-in_err-push-clause-refused g c =
+    keeps_behind c.args.self.now c.bad_at.new.self c.in_err-push.ensures.refused
 
 pub returns-then-not-is_told-clause-told : goal.returns-then-not-is_told-clause-told
 returns-then-not-is_told-clause-told g c =

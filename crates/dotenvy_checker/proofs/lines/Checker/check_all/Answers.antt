@@ -1,6 +1,6 @@
 use Rattle.std.proofs.Common.{◌∙◌, ap, refl}
 use Rattle.std.proofs.lemmas.Result.{err_from_is_err_and}
-use Rattle.dotenvy_checker.proofs.CheckedReads.{checked_rest, checked_rest_stop, checked_rest_unseen}
+use Rattle.dotenvy_checker.proofs.CheckedReads.{checked_rest, checked_rest_stop, checked_rest_unseen, shut_rest}
 use Rattle.dotenvy_checker.proofs.lines.Checker.check_all.Goals as goal
 
 pub returns-in_err-ended-clause-told : goal.returns-in_err-ended-clause-told
@@ -30,3 +30,9 @@ pub returns-in-Some-clause-told : goal.returns-in-Some-clause-told
 returns-in-Some-clause-told g c = λ a opened told few.
     rw c.in-Some.is at (checked_rest g.W.Sink.told c.in_ok-ended.ended (c.in_ok-ended.ensures.told a opened told few)
     c.in_ok-tell_rest.ensures.told)
+
+pub returns-in-None-clause-shut : goal.returns-in-None-clause-shut
+returns-in-None-clause-shut g c = λ shut none.
+    let same = c.in_ok-ended.ensures.shut shut in
+    shut_rest g.W.Sink.told same.1 same.2 (c.in_ok-tell_rest.ensures.none (rw same.1 none))
+    c.in_ok-tell_rest.ensures.told
