@@ -7,11 +7,11 @@ use Rattle.dotenvy_findings.specs.declared.kind.Kind.{Kind}
 use Rattle.dotenvy_checker.specs.Findings.{comments_from}
 use Rattle.dotenvy_checker.specs.inside.ToldLines.{kinds_on, next_above}
 
--- a line that isn't behind the last one above a finding changes nothing
+-- a line that isn't after the last one above a finding changes nothing
 pub next_stays : (line : ℕ) (seen : List Allow) (last : Allow) → line ≤ last.line → last ≡ next_above line seen last
 next_stays line seen last before = rw (le-ltb last.line line before) refl
 
--- a line behind it is the next one, with what the comment on it allows
+-- a line after it is the next one, with what the comment on it allows
 pub next_moves : (line : ℕ) (seen : List Allow) (last : Allow) (kinds : List Kind) → last.line < line →
     kinds ≡ kinds_on line (comments_from line seen) → allow line kinds ≡ next_above line seen last
 next_moves line seen last kinds behind is = rw (lt-ltb last.line line behind, is) refl

@@ -8,7 +8,7 @@ use Rattle.dotenvy_findings.specs.declared.kind.Kind.{Kind}
 use Rattle.dotenvy_checker.specs.Findings.{Remark, comments_from, told_one, AreTold}
 use Rattle.dotenvy_checker.specs.inside.ToldLines.{next_above, AreToldInTurn}
 
--- behind the last line above a finding the comments begin with that on the next one
+-- after the last line above a finding the comments begin with that on the next one
 behind_last : (line : ℕ) (seen : List Allow) (last : Allow) (more : List Allow) → nat_lt last.line line ≡ true →
     comments_from line (last ∷ next_above line seen last ∷ more) ≡ next_above line seen last ∷ more
 behind_last line seen last more behind = rw (behind, le-ltb line line (le_refl line)) refl
@@ -18,7 +18,7 @@ up_to_last : (line : ℕ) (seen : List Allow) (last : Allow) (more : List Allow)
     comments_from line (last ∷ more) ≡ next_above line seen last ∷ more
 up_to_last line seen last more before = rw before refl
 
--- what is told in turn is told by the comment on the last line above a finding, and others behind it
+-- what is told in turn is told by the comment on the last line above a finding, and by later ones
 pub one_list : (allowed : List Kind) (start end : Allow) (remarks told : List Remark) →
     AreToldInTurn allowed start remarks told end → (more : List Allow) × AreTold allowed (start ∷ more) remarks told
 one_list allowed start end [] told (none, same) = ([], none)

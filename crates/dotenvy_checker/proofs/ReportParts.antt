@@ -153,6 +153,10 @@ reports_rows told {old = old} {remarks = remarks} is untold k sends =
       reports_found told found remarks k.end untold k.are sends,
     )
 
+-- what a check returns of a report and of the names that were declared
+abbrev pub checked_of : {A : Type 0} → FileReport A → Checker A → Checked A
+checked_of ended checker = record { found = ended.found; declared = checker.declared }
+
 -- the result of a check, once its report is written
 abbrev pub end_of_check : {A : Type 0} → Checked A → Result (Unit {0}) (Stop A) → Result (Checked A) (Stop A)
 end_of_check checked (Ok done) = Ok checked

@@ -134,7 +134,7 @@ ReportsFound told how file found remarks old answer new =
     (comments : List Allow) × AreTold how.allowed.now comments found remarks
     × SendsParts told old (report how.format how.is_first file remarks) answer new
 
--- the report of the first findings, but for what is allowed, is sent to a sink in parts, with this
+-- the report of the first findings, without what is allowed, is sent to a sink in parts, with this
 -- result
 abbrev pub ReportsFirst : (A : Type 0) {W : Type 0} → (W → SinkTold) → Reporting → List ℕ →
     Setting → LinesState → Ahead → W → Result (Unit {0}) (Error A) → W → Type 0
@@ -142,7 +142,7 @@ ReportsFirst A told how file setting s a old answer new =
     (front remarks : List Remark) × FindsFirst A setting s a front
     × ReportsFound told how file front remarks old answer new
 
--- the report of what is found in what is read of a, but for what is allowed, is sent to a sink in
+-- the report of what is found in what is read of a, without what is allowed, is sent to a sink in
 -- parts while it is read. The result is what is told of all of it, and the names; or the fault of
 -- reading, before which all is told; or that of writing, or a failed allocation, before which the
 -- first findings are told

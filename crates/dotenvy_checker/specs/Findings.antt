@@ -350,7 +350,7 @@ broken_kind kind.Utf16 = kind.Utf16
 broken_kind kind.Latin1 = kind.Latin1
 broken_kind k = kind.NotUtf8
 
--- the bytes that are no text and stand on this line or behind it
+-- the bytes that are no text, from this line on
 abbrev pub bad_from : ℕ → List BadByte → List BadByte
 bad_from line [] = []
 bad_from line (bad ∷ others) =

@@ -44,7 +44,7 @@ fn placed(finding: Finding, bad: &[BadByte]) -> Finding
     }
 }
 
-// Whether reading ended since a part of the report could not be written.
+// Whether reading ended because a part of the report could not be written.
 fn is_unwritten<A: Allocator>(read: &Result<(), Stop<A>>) -> bool
     ensures { result ≡ is_unwritten read.now }
 {
@@ -87,7 +87,7 @@ impl<'a, A: Allocator + Clone> FileReport<'a, A> {
     }
 
     /// Tells this finding, which settles what was pending, unless it is allowed. What was seen in the bytes of the file
-    /// says which comment stands above it, and where a line is no text. Out of memory, nothing is told.
+    /// says which comment is above it, and where a line is no text. Out of memory, nothing is told.
     pub(crate) fn tell(
         &mut self,
         pending: &Pending<A>,

@@ -14,7 +14,7 @@ use dotenvy_findings::comments::AllowComment;
 use dotenvy_findings::kind::Kind;
 use std::alloc::{AllocError, Allocator};
 
-// What stands behind the first so many of these.
+// What is left of these after the first so many.
 #[tactic(auto, using(std::proofs::lemmas::List::drop_all))]
 fn items_after<T>(items: &[T], count: usize) -> &[T]
     ensures { result.now ≡ drop count items.now }
@@ -25,7 +25,7 @@ fn items_after<T>(items: &[T], count: usize) -> &[T]
     }
 }
 
-// The bytes that are no text and stand on this line or behind it.
+// The bytes that are no text, from this line on.
 fn bad_from(line: u64, bad: &[BadByte]) -> &[BadByte]
     ensures { result.now ≡ bad_from line bad.now }
 {
@@ -39,7 +39,7 @@ fn bad_from(line: u64, bad: &[BadByte]) -> &[BadByte]
     rest
 }
 
-// The kinds that the first of these comments allows, if it stands on this line.
+// The kinds that the first of these comments allows, if it is on this line.
 fn kinds_on<A: Allocator>(line: u64, comments: &[AllowComment<A>]) -> &[Kind]
     ensures { result.now ≡ kinds_on line (map allow_of comments.now) }
 {
@@ -75,8 +75,8 @@ impl<A: Allocator + Clone> Lookup<A> {
         }
     }
 
-    /// Moves on to what is found below this line, if it stands behind the line before: the comment on it counts, of
-    /// those that were seen. What it allows is kept, so that a comment that is read later changes nothing.
+    /// Moves on to what is found below this line, unless it comes before the last one. Of the comments that were seen,
+    /// the one on it counts. What it allows is kept, so that a comment that is read later changes nothing.
     #[tactic(auto, using(crate::proofs::Lookups::next_stays, crate::proofs::Lookups::next_moves))]
     pub(crate) fn move_below(&mut self, line: u64, seen: &Seen<A>) -> Result<(), AllocError>
         ensures { OnOk result (above_of self.new.above ≡ next_above line
@@ -92,7 +92,7 @@ impl<A: Allocator + Clone> Lookup<A> {
         Ok(())
     }
 
-    // The comments on this line and behind it, of those that were seen. Those before it are not looked at again.
+    // The comments that were seen, from this line on. Those before it are not looked at again.
     #[tactic(auto, using(crate::proofs::Lookups::seen_comments))]
     fn comments_at<'s>(&mut self, line: u64, seen: &'s Seen<A>) -> &'s [AllowComment<A>]
         ensures comments { map allow_of result.now
@@ -107,8 +107,7 @@ impl<A: Allocator + Clone> Lookup<A> {
         comments
     }
 
-    /// The bytes that are no text on this line and behind it, of those that were seen. Those before it are not looked
-    /// at again.
+    /// The bytes that were seen and are no text, from this line on. Those before it are not looked at again.
     pub(crate) fn bad_at<'s>(&mut self, line: u64, seen: &'s Seen<A>) -> &'s [BadByte]
         ensures bad { result.now ≡ bad_from line (drop self.old.bad_before (bad_bytes seen.now)) }
         ensures before { self.new.bad_before

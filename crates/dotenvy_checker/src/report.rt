@@ -110,7 +110,7 @@ impl Found {
     }
 }
 
-/// The comments that stand on this line or behind it.
+/// The comments from this line on.
 pub(crate) fn comments_from<A: Allocator>(
     line: u64,
     comments: &[AllowComment<A>],
@@ -127,7 +127,7 @@ pub(crate) fn comments_from<A: Allocator>(
     rest
 }
 
-/// A line that stands above findings, or 0, and the kinds that a comment on it allows.
+/// A line above a finding, or 0, and the kinds that a comment on it allows.
 #[derive(Drop)]
 pub(crate) struct LineAbove<A: Allocator> {
     pub(crate) line: u64,

@@ -34,13 +34,13 @@ use Rattle.dotenvy_checker.specs.inside.CheckedLines.{setting_of, so_far}
 abbrev pub above_of : {A : Type 0} → LineAbove A → Allow
 above_of above = allow above.line above.kinds.items
 
--- the kinds that the first of these comments allows, if it stands on this line
+-- the kinds that the first of these comments allows, if it is on this line
 abbrev pub kinds_on : ℕ → List Allow → List Kind
 kinds_on line [] = []
 kinds_on line (comment ∷ comments) = if comment.line == line then comment.kinds else []
 
 -- the last line above a finding, once one is found below this line: this one, and what the comment
--- on it allows, of those that were seen; but a line that isn't behind the last one changes nothing
+-- on it allows, of those that were seen; a line that isn't after the last one changes nothing
 abbrev pub next_above : ℕ → List Allow → Allow → Allow
 next_above line seen last =
     if nat_lt last.line line then allow line (kinds_on line (comments_from line seen)) else last
@@ -163,7 +163,7 @@ WritesPart told old before (Err (Read e)) new after = ⊥
 WritesPart told old before (Err (Write e)) new after = CannotWrite told [] old before e after
 WritesPart told old before (Err (Memory refused)) new after = ⊥
 
--- reading ended since a part of the report could not be written
+-- reading ended because a part of the report could not be written
 abbrev pub is_unwritten : {A : Type 0} → Result (Unit {0}) (Stop A) → Bool
 is_unwritten (Ok done) = false
 is_unwritten (Err (Read e)) = false
