@@ -132,7 +132,8 @@ told_more {A = A} passes told {old} {now} {new} {report} {later} {next} {last} {
     ap (λ (a : List Kind). told_one a (last_above next ∷ []) bad own) kinds
     ∙ ap (λ (l : Allow). told_one allowed (l ∷ []) bad own) (sym line)
     ∙ ap (λ (f : Finding). told_one allowed (last_above last ∷ []) bad (record remark { finding = f })) is_finding in
-    record {
+    let joined : TellsParts told (told_now ++ []) later written last end =
+    tells-append told (tells_unwritten told written tells.tells) writes in record {
       front = k.front ++ remark ∷ [];
       remarks = k.remarks ++ told_now;
       tells = record {
@@ -145,8 +146,7 @@ told_more {A = A} passes told {old} {now} {new} {report} {later} {next} {last} {
         dialect = rw same k.tells.dialect;
         tells = rw same k.tells.tells;
       };
-      parts = tells-append told k.parts
-          (rw (append-nil told_now) at tells-append told (tells_unwritten told written tells.tells) writes);
+      parts = tells-append told k.parts (rw (append-nil told_now) at joined);
       passed = all-append passes k.front (remark ∷ []) k.passed (one, tt);
     }
 
@@ -169,7 +169,9 @@ pub stops_writing : {A W : Type 0} {passes : Remark → Type 0} (told : W → Si
     {report later : FileReport A} {writer written end : W} {error : Error A}
     (k : ToldSoFar passes told old report writer now later written) → CannotWrite told [] later written error end →
     CannotWrite told k.remarks report writer error end
-stops_writing told k cannot = rw (append-nil k.remarks) at cannot-append told k.parts cannot
+stops_writing told {report = report} {writer = writer} {end = end} {error = error} k cannot =
+    let joined : CannotWrite told (k.remarks ++ []) report writer error end = cannot-append told k.parts cannot in
+    rw (append-nil k.remarks) at joined
 
 -- what was told stays told where nothing more is told
 pub keeps_parts : {A W : Type 0} (told : W → SinkTold) {remarks : List Remark} {report later last : FileReport A}

@@ -1,6 +1,7 @@
 -- One finding, which is told or allowed.
 use Rattle.std.proofs.Common.{◌≡◌, ℕ, true, false, List, [], ◌∷◌, ◌++◌, ◌∙◌, ap, drop, refl, subst, sym, string_bytes}
-use Rattle.std.specs.Prelude.{◌||◌}
+use Rattle.std.proofs.Common.{Result, Ok, Err}
+use Rattle.std.specs.Prelude.{◌||◌, OnErr}
 use Rattle.std.proofs.Math.Bool.{or-false}
 use Rattle.std.proofs.lemmas.List.{append-nil}
 use Rattle.dotenvy_findings.specs.Comments.{Allow}
@@ -101,3 +102,8 @@ keeps_looked old lookup = record { file = refl; how = refl; found = refl; text =
 pub keeps_behind : {A : Type 0} {new : FileReport A} (old : FileReport A) (lookup : Lookup A) →
     KeepsTold (record old { lookup = lookup }) new → KeepsTold old new
 keeps_behind old lookup k = record { file = k.file; how = k.how; found = k.found; text = k.text }
+
+-- a fact holds of an error, too
+pub on_err : {T E P : Type 0} (result : Result T E) → P → OnErr result P
+on_err (Ok x) holds = tt
+on_err (Err e) holds = holds

@@ -79,8 +79,9 @@ impl<A: Allocator + Clone> Lookup<A> {
     /// the one on it counts. What it allows is kept, so that a comment that is read later changes nothing.
     #[tactic(auto, using(crate::proofs::Lookups::next_stays, crate::proofs::Lookups::next_moves))]
     pub(crate) fn move_below(&mut self, line: u64, seen: &Seen<A>) -> Result<(), AllocError>
-        ensures { OnOk result (above_of self.new.above ≡ next_above line
+        ensures moves { OnOk result (above_of self.new.above ≡ next_above line
             (drop self.old.comments_before (allow_comments seen.now)) (above_of self.old.above)) }
+        ensures bad { self.new.bad_before ≡ self.old.bad_before }
     {
         if line <= self.above.line {
             return Ok(());
@@ -100,6 +101,7 @@ impl<A: Allocator + Clone> Lookup<A> {
         ensures before { self.new.comments_before
             ≡ length (allow_comments seen.now) - length result.now }
         ensures above { self.new.above ≡ self.old.above }
+        ensures bad { self.new.bad_before ≡ self.old.bad_before }
     {
         let found = seen.comments.found();
         let comments = comments_from(line, items_after(found, self.comments_before));
@@ -113,6 +115,7 @@ impl<A: Allocator + Clone> Lookup<A> {
         ensures before { self.new.bad_before
             ≡ length (bad_bytes seen.now) - length result.now }
         ensures above { self.new.above ≡ self.old.above }
+        ensures comments { self.new.comments_before ≡ self.old.comments_before }
     {
         let found = seen.bad.found();
         let bad = bad_from(line, items_after(found, self.bad_before));

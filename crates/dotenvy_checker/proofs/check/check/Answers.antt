@@ -7,7 +7,7 @@ use Rattle.dotenvy_checker.proofs.check.check.Goals as goal
 pub returns-in_err-alloc-clause-reports : goal.returns-in_err-alloc-clause-reports
 returns-in_err-alloc-clause-reports g c = λ opened a tells few.
     memory_tells_nothing g.W.Sink.told c.args.how.now c.args.name.now (names_in c.args.env.now.names) c.args.file a
-    c.args.writer.now c.from_residual-in_err-alloc.result c.from_residual-in_err-alloc.ensures.1
+    c.args.writer.now c.from_residual.result c.from_residual.ensures.1
 
 pub returns-in_err-report-clause-reports : goal.returns-in_err-report-clause-reports
 returns-in_err-report-clause-reports g c = λ opened a tells few.

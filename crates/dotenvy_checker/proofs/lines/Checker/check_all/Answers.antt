@@ -5,7 +5,7 @@ use Rattle.dotenvy_checker.proofs.lines.Checker.check_all.Goals as goal
 
 pub returns-in_err-ended-clause-told : goal.returns-in_err-ended-clause-told
 returns-in_err-ended-clause-told g c =
-    let p = err_from_is_err_and c.from_residual-in_err-ended.result c.from_residual-in_err-ended.ensures.1 in
+    let p = err_from_is_err_and c.from_residual.result c.from_residual.ensures.1 in
     rw (p.1, p.2) c.in_err-ended.ensures.told
 
 pub returns-in_err-seen-clause-told : goal.returns-in_err-seen-clause-told

@@ -36,8 +36,8 @@ returns-in-Err-in-Some-clause-told g c = λ a opened told few.
 
 pub returns-in_err-seen-clause-told : goal.returns-in_err-seen-clause-told
 returns-in_err-seen-clause-told g c =
-    unseen_told g.W.Sink.told c.check_outcome.new.self c.in-Some.outcome c.from_residual-in_err-seen.result
-    c.from_residual-in_err-seen.ensures.1 c.lines.invariant.came
+    unseen_told g.W.Sink.told c.check_outcome.new.self c.in-Some.outcome c.from_residual.result
+    c.from_residual.ensures.1 c.lines.invariant.came
     (answers c.in-Some.ensures.shut c.in-Some.ensures.told) c.in_default-check_outcome.ensures.checks
 
 pub returns-in_err-tell_settled-clause-told : goal.returns-in_err-tell_settled-clause-told

@@ -24,8 +24,8 @@ findings-preserved g c = record {
 
 pub returns-in_err-tell-clause-told : goal.returns-in_err-tell-clause-told
 returns-in_err-tell-clause-told g c =
-    told_refused KeepsNone c.findings.self c.from_residual-in_err-tell.result c.findings.invariant.told
-    c.in_err-tell.ensures.refused c.from_residual-in_err-tell.ensures.1
+    told_refused KeepsNone c.findings.self c.from_residual.result c.findings.invariant.told
+    c.in_err-tell.ensures.refused c.from_residual.ensures.1
 
 pub returns-in_err-write_part-clause-told : goal.returns-in_err-write_part-clause-told
 returns-in_err-write_part-clause-told g c =

@@ -29,8 +29,8 @@ returns-then-is_unknown g c = told_kept KeepsAny c.findings.invariant tt
 
 pub returns-in_err-tell : goal.returns-in_err-tell
 returns-in_err-tell g c =
-    told_refused KeepsAny c.findings.self c.from_residual-in_err-tell.result c.findings.invariant
-    c.in_err-tell.ensures.refused c.from_residual-in_err-tell.ensures.1
+    told_refused KeepsAny c.findings.self c.from_residual.result c.findings.invariant
+    c.in_err-tell.ensures.refused c.from_residual.ensures.1
 
 pub returns-in_err-write_part : goal.returns-in_err-write_part
 returns-in_err-write_part g c =
