@@ -23,4 +23,4 @@ returns-clause-told g c =
     shown_one c.args.seen.now c.move_below.new.self c.bad_at.new.self c.in_ok-move_below.ensures.moves
     (sym c.is_told.ensures ∙ c.if-not-is_told.false) c.bad_at.ensures.above
     (rw (c.bad_at.ensures.bad, c.in_ok-move_below.ensures.bad) at c.placed-placed.ensures) refl
-    (rw c.as_str.ensures.value at c.in_ok-push.ensures.told) refl (c.and-found.ensures ∙ ap (both _) c.of.ensures)
+    (rw c.as_str.ensures.value at c.in_ok-push.ensures.told) refl (c.and-self.ensures ∙ ap (both _) c.of.ensures)

@@ -3,8 +3,8 @@ use Rattle.dotenvy_checker.proofs.ToldFronts.{tells_nothing}
 use Rattle.dotenvy_checker.proofs.WrittenParts.{writes_not, writes_text}
 use Rattle.dotenvy_checker.proofs.file_report.FileReport.write_part.Goals as goal
 
-pub returns-then-len_lt65536-clause-part : goal.returns-then-len_lt65536-clause-part
-returns-then-len_lt65536-clause-part g c = tells_nothing g.W.Sink.told c.args.self.now c.args.writer.now
+pub returns-then-len-lt-PART_LEN-clause-part : goal.returns-then-len-lt-PART_LEN-clause-part
+returns-then-len-lt-PART_LEN-clause-part g c = tells_nothing g.W.Sink.told c.args.self.now c.args.writer.now
 
 pub returns-in-Ok-clause-part : goal.returns-in-Ok-clause-part
 returns-in-Ok-clause-part g c =

@@ -30,7 +30,7 @@ returns-in_err-tell-clause-told g c =
 pub returns-in_err-write_part-clause-told : goal.returns-in_err-write_part-clause-told
 returns-in_err-write_part-clause-told g c =
     let new = record c.findings.self { pending = c.pop_front.new.self } in
-    let told = told_more {new = new} IsAny g.W.Sink.told c.args.seen.now c.findings.invariant.told
+    let told = told_more IsAny g.W.Sink.told {new = new} c.args.seen.now c.findings.invariant.told
     c.in-Some.ensures.items refl refl c.resolved-finding.ensures tt c.in_ok-tell.ensures.told
     (tells_nothing g.W.Sink.told c.tell.new.self c.findings.writer) refl in
     let p = err_from_is_err_and c.from_residual-in_err-write_part.result

@@ -42,7 +42,7 @@ returns-in_err-write_part g c =
     (remark_of first) c.resolved-finding.result c.is_unknown.result c.findings.invariant.tells.declared
     c.resolved-finding.ensures c.is_unknown.ensures c.if-is_unknown.false in
     let new = record c.findings.self { pending = c.pop_front.new.self } in
-    let told = told_more {new = new} (IsSettled (declared_of c.args.self.now.declared)) g.W.Sink.told c.args.seen.now
+    let told = told_more (IsSettled (declared_of c.args.self.now.declared)) g.W.Sink.told {new = new} c.args.seen.now
     c.findings.invariant is refl refl c.resolved-finding.ensures settled c.in_ok-tell.ensures.told
     (tells_nothing g.W.Sink.told c.tell.new.self c.findings.writer) refl in
     let p = err_from_is_err_and c.from_residual-in_err-write_part.result
