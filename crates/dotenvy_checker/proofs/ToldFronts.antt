@@ -1,6 +1,6 @@
 -- What a checker kept, told one after another.
 use Rattle.std.proofs.Common.{◌≡◌, ℕ, Bool, true, false, List, [], ◌∷◌, ◌++◌, ◌∙◌, drop, map, refl, sym, ap}
-use Rattle.std.proofs.Common.{Option, Some, None, Result, Ok, Err, string_bytes}
+use Rattle.std.proofs.Common.{arith, length, Option, Some, None, Result, Ok, Err, string_bytes}
 use Rattle.std.specs.Prelude.{option_to_list, slice_index_or, IsErrAnd, IsSome}
 use Rattle.std.specs.List.{concat, AllByRecursion}
 use Rattle.std.proofs.Math.Bool.{or-false}
@@ -23,8 +23,8 @@ use Rattle.dotenvy_checker.specs.Checks.{both, found_in, IsMemoryStop}
 use Rattle.dotenvy_checker.specs.Findings.{Declared, Remark, bad_from, is_unknown, resolved, settled, told_one}
 use Rattle.dotenvy_checker.specs.inside.CheckedLines.{allow_comments, bad_bytes, declared_of, remark_of, so_far}
 use Rattle.dotenvy_checker.specs.inside.ToldLines.{last_above, next_above, AreToldInTurn, CannotWrite}
-use Rattle.dotenvy_checker.specs.inside.ToldLines.{IsSettled, KeepsTold, TellsFront, TellsKept, TellsMore, TellsOne}
-use Rattle.dotenvy_checker.specs.inside.ToldLines.{TellsParts, TellsSome, WritesPart}
+use Rattle.dotenvy_checker.specs.inside.ToldLines.{IsSettled, KeepsNone, KeepsTold, TellsFront, TellsKept, TellsMore}
+use Rattle.dotenvy_checker.specs.inside.ToldLines.{TellsOne, TellsParts, TellsSome, WritesPart}
 use Rattle.dotenvy_checker.proofs.Told.{cannot-append, tells-append, tells_unwritten, told-append}
 
 -- a front of what was kept is told, each of which passes a test, and parts are written
@@ -227,3 +227,31 @@ told_unwritten P new last end (stop.Read e) k writes = absurd writes
 told_unwritten {told = told} P new last end (stop.Write e) k writes =
     (k.remarks, told_some k, stops_writing told k writes)
 told_unwritten P new last end (stop.Memory refused) k writes = absurd writes
+
+-- what was told is all that was kept, where nothing is left
+pub told_last : {A W : Type 0} {passes : Remark → Type 0} {told : W → SinkTold} {old now : Checker A}
+    {report later : FileReport A} {writer written : W} (new : Checker A) →
+    ToldSoFar passes told old report writer now later written → new ≡ record now { pending = new.pending } →
+    now.pending.items ≡ new.pending.items → new.pending.items ≡ [] →
+    TellsKept passes KeepsNone told old report writer (Ok tt) new later written
+told_last {A = A} new k same items none = (
+  k.front,
+  k.remarks,
+  record {
+    are = k.tells.are;
+    left = k.tells.left ∙ ap (λ (t : List (Pending A)). k.front ++ map remark_of t) items;
+    declared = rw same k.tells.declared;
+    above = rw same k.tells.above;
+    names = rw same k.tells.names;
+    dialect = rw same k.tells.dialect;
+    tells = rw same k.tells.tells;
+  },
+  k.passed,
+  k.parts,
+  ap (λ (t : List (Pending A)). map remark_of t) none,
+)
+
+-- a list without length is empty
+pub none_left : {X : Type 0} (items : List X) (len : ℕ) → len ≡ length items → len ≡ 0 → items ≡ []
+none_left [] len is zero = refl
+none_left (x ∷ items) len is zero = absurd (omega (arith, is, zero))

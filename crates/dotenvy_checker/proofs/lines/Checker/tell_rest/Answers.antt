@@ -1,8 +1,7 @@
-use Rattle.std.proofs.Common.{◌≡◌, [], ap, map, refl, sym}
+use Rattle.std.proofs.Common.{◌≡◌, [], refl}
 use Rattle.std.proofs.lemmas.Result.{err_from_is_err_and}
-use Rattle.dotenvy_checker.specs.inside.CheckedLines.{remark_of}
 use Rattle.dotenvy_checker.specs.inside.ToldLines.{IsAny, KeepsNone}
-use Rattle.dotenvy_checker.proofs.ToldFronts.{tells_nothing, told_kept, told_more, told_none, told_refused}
+use Rattle.dotenvy_checker.proofs.ToldFronts.{none_left, tells_nothing, told_last, told_more, told_none, told_refused}
 use Rattle.dotenvy_checker.proofs.ToldFronts.{told_unwritten}
 use Rattle.dotenvy_checker.proofs.lines.Checker.tell_rest.Goals as goal
 
@@ -24,7 +23,8 @@ findings-preserved g c = record {
 
 pub returns-in_err-tell-clause-told : goal.returns-in_err-tell-clause-told
 returns-in_err-tell-clause-told g c =
-    told_refused KeepsNone c.findings.self c.from_residual.result c.findings.invariant.told
+    told_refused KeepsNone (record c.findings.self { pending = c.pop_front.new.self }) c.from_residual.result
+    c.findings.invariant.told
     c.in_err-tell.ensures.refused c.from_residual.ensures.1
 
 pub returns-in_err-write_part-clause-told : goal.returns-in_err-write_part-clause-told
@@ -40,7 +40,9 @@ returns-in_err-write_part-clause-told g c =
 
 pub returns-clause-told : goal.returns-clause-told
 returns-clause-told g c =
-    told_kept KeepsNone c.findings.invariant.told (ap (map remark_of) (sym c.in_default.ensures.items))
+    let left = c.pop_front.new.self in
+    told_last (record c.findings.self { pending = left }) c.findings.invariant.told refl c.in_default.ensures.items
+    (none_left left.items left.len left.ok.0 c.in_default.ensures.cases.1)
 
 pub returns-clause-none : goal.returns-clause-none
 returns-clause-none g c = λ none. (c.findings.invariant.none none).0
