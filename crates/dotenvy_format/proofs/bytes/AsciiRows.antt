@@ -67,7 +67,9 @@ cut_row c n text small utf8 most =
 -- behind some of the row at the front of a text, as many more of it follow
 pub row_dropped : (c k n : ℕ) (text : List ℕ) → k + n ≤ prefix_len (λ b. b == c) text
     → drop k text ≡ row c n ++ drop (k + n) text
-row_dropped c zero n text h = rw (row_taken c n text h) at (sym (take-append-drop n text))
+row_dropped c zero n text h =
+    let all : 0 + n ≡ n = omega arith in
+    rw all (rw (row_taken c n text (omega arith)) at (sym (take-append-drop n text)))
 row_dropped c (suc k) n [] h = absurd (omega arith)
 row_dropped c (suc k) n (b ∷ text) h =
     let more : suc k + n ≡ suc (k + n) = omega arith in

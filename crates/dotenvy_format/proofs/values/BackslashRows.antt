@@ -35,12 +35,12 @@ each_text-append [] ys = refl
 each_text-append (x ∷ xs) ys = ap (λ texts. Text (x ∷ []) ∷ texts) (each_text-append xs ys)
 
 -- the last backslashes of a row, with the text right after them, end where that text does
-pub row_with_text : (text : List ℕ) (half : ℕ) {last behind plain rest : List ℕ}
+pub row_with_text : (text : List ℕ) (half : ℕ) (plain : List ℕ) {last behind rest : List ℕ}
     → half + half + 1 ≤ prefix_len (λ b. b == backslash) text → last ≡ drop half text
     → behind ≡ drop (half + half + 1) text → behind ≡ plain ++ rest → IsUtf8 rest
     → IsCharBoundary last (length last - length rest)
     × (take (length last - length rest) last ≡ row backslash (half + 1) ++ plain)
-row_with_text text half {last} {behind} {plain} {rest} most l b parts utf8 =
+row_with_text text half plain {last} {behind} {rest} most l b parts utf8 =
     let front = row backslash (half + 1) ++ plain in
     let sum : half + (half + 1) ≡ half + half + 1 = omega arith in
     let whole : last ≡ front ++ rest =

@@ -1,4 +1,6 @@
 use Rattle.std.proofs.Common.{[], ◌∷◌, refl, ◌≡◌, ◌+◌, ◌-◌, ◌*◌, ◌/◌, ◌%◌, arith}
+use Rattle.std.specs.Prelude.{◌==◌}
+use Rattle.std.proofs.lemmas.List.Sums.{prefix_len-le-length}
 use Rattle.std.proofs.lemmas.Str.{chars-nil}
 use Rattle.dotenvy_format.specs.Value.{escape_meaning, LastBackslash}
 use Rattle.dotenvy_format.specs.inside.ReadValue.{value_goes}
@@ -8,6 +10,10 @@ use Rattle.dotenvy_format.specs.Characters.{backslash}
 use Rattle.dotenvy_format.proofs.bytes.AsciiRows.{row_boundary}
 use Rattle.dotenvy_format.proofs.values.BackslashRows.{row_with_text, gives_backslashes}
 use Rattle.dotenvy_format.proofs.value.escape.Goals as goal
+
+pub overflow_mul-pairs : goal.overflow_mul-pairs
+overflow_mul-pairs c =
+    omega (arith, prefix_len-le-length (λ b. b == backslash) c.args.left.now, c.row_len-more.ensures)
 
 pub split_at-requires : goal.split_at-requires
 split_at-requires c =
@@ -22,7 +28,7 @@ split_at-requires-then-more-gt0-2 c =
     let pairs = c.row_len-more.result / 2 + c.row_len-more.result % 2 in
     let back : 2 * pairs - 1 ≡ pairs - 1 + (pairs - 1) + 1 = omega arith in
     let parts = c.split_while.ensures in
-    (row_with_text c.args.left.now (pairs - 1) (omega (arith, c.row_len-more.ensures)) c.split_at.ensures.back
+    (row_with_text c.args.left.now (pairs - 1) _ (omega (arith, c.row_len-more.ensures)) c.split_at.ensures.back
     (rw back at c.split_at-then-more-gt0.ensures.back) parts.bytes parts.texts.1).0
 
 pub returns-then-more-gt0 : goal.returns-then-more-gt0
@@ -31,7 +37,7 @@ returns-then-more-gt0 c =
     let back : 2 * pairs - 1 ≡ pairs - 1 + (pairs - 1) + 1 = omega arith in
     let parts = c.split_while.ensures in
     let behind = rw back at c.split_at-then-more-gt0.ensures.back in
-    let meant = row_with_text c.args.left.now (pairs - 1) (omega (arith, c.row_len-more.ensures))
+    let meant = row_with_text c.args.left.now (pairs - 1) _ (omega (arith, c.row_len-more.ensures))
     c.split_at.ensures.back behind parts.bytes parts.texts.1 in
     λ dialect.
     gives_backslashes c.args.left.now (pairs - 1) c.utf8.left (omega (arith, c.row_len-more.ensures)) parts.texts.0
