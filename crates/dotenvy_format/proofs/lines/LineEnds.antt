@@ -170,17 +170,17 @@ turned true Odd = refl
 turned true Unknown = refl
 
 -- where the last byte is a blank, those before it have one less
-pub one_less : (blanks : Blanks) (run : List ℕ) {front before : List ℕ} {last : ℕ} (more : Bool)
+pub one_less : (blanks : Blanks) (run before : List ℕ) (last : ℕ) {front : List ℕ} (more : Bool)
     → front ≡ before ++ last ∷ [] → is_space_or_tab last ≡ true
     → with_one more (blanks_over blanks front) ≡ blanks_over blanks run
     → with_one (not more) (blanks_over blanks before) ≡ blanks_over blanks run
-one_less blanks run {before = before} {last = last} more parts is h =
+one_less blanks run before last more parts is h =
     turned more (blanks_over blanks before) ∙ rw (parts, over_last blanks before last, is) at h
 
 -- another last byte tells by itself
-pub last_tells : (blanks : Blanks) (run : List ℕ) {front before : List ℕ} {last : ℕ} (more : Bool)
+pub last_tells : (blanks : Blanks) (run before : List ℕ) (last : ℕ) {front : List ℕ} (more : Bool)
     → front ≡ before ++ last ∷ [] → is_space_or_tab last ≡ false
     → with_one more (blanks_over blanks front) ≡ blanks_over blanks run
     → with_one more (after_byte last) ≡ blanks_over blanks run
-last_tells blanks run {before = before} {last = last} more parts other h =
+last_tells blanks run before last more parts other h =
     rw (parts, over_last blanks before last, other) at h

@@ -78,6 +78,10 @@ feed_stops unquoted_escape = refl
 feed_stops (between quote) = refl
 feed_stops (between_escape quote) = refl
 
+pub no_feed : (place next : Place) (b : ℕ) → (b == line_feed) ≡ true → place_leads place b ≡ Some next → ⊥
+no_feed place next b is h =
+    let none : None ≡ Some next = rw (eqb-true b line_feed is, feed_stops place) at h in cc
+
 -- so there is none in what was passed
 pub led_none : (place there : Place) (bytes : List ℕ) → place_after place bytes ≡ Some there → no_line_feed bytes ≡ true
 led_none place there [] h = refl
@@ -89,10 +93,19 @@ led_none place there (b ∷ bytes) h =
           rw other (led_none one.0 there bytes one.2)
     ]
 
+-- where they lead to a place, it goes on from there
+onward_from : (place : Option Place) (n there : Place) (next : Place → Option Place) → place ≡ Some n
+    → next n ≡ Some there → onward place next ≡ Some there
+onward_from place n there next led goes = rw led goes
+
 -- the place behind two texts is reached from the place behind the first
 pub after_both : (place : Place) (xs ys : List ℕ) {there : Place} → place_after place (xs ++ ys) ≡ Some there
     → (n : Place) × (place_after place xs ≡ Some n) × (place_after n ys ≡ Some there)
 after_both place [] ys h = (place, refl, h)
 after_both place (x ∷ xs) ys h =
     let one = on_some (place_leads place x) (λ next. place_after next (xs ++ ys)) h in
-    let later = after_both one.0 xs ys one.2 in (later.0, rw one.1 later.1, later.2)
+    let later = after_both one.0 xs ys one.2 in (
+      later.0,
+      onward_from (place_leads place x) one.0 later.0 (λ next. place_after next xs) one.1 later.1,
+      later.2,
+    )

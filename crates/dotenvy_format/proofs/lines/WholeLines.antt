@@ -23,7 +23,7 @@ use Rattle.dotenvy_format.specs.inside.LineEnd.{BeginsWhole, Place, ends_line, f
 use Rattle.dotenvy_format.specs.inside.LineEnd.{unquoted}
 use Rattle.dotenvy_format.proofs.lines.CommentLines.{ascii_bytes, none_among}
 use Rattle.dotenvy_format.proofs.lines.LineTexts.{walk-more}
-use Rattle.dotenvy_format.proofs.lines.SearchPlaces.{after_both, found, led_none, on_some, place_after}
+use Rattle.dotenvy_format.proofs.lines.SearchPlaces.{after_both, found, led_none, no_feed, on_some, place_after}
 use Rattle.dotenvy_format.proofs.lines.PlaceModes.{are_wide, encoded_some, encoded_wide, ended_by, kept_there}
 use Rattle.dotenvy_format.proofs.lines.PlaceModes.{over_outside, text_led}
 
@@ -56,7 +56,7 @@ white_stays c next white led =
           let one = on_some (place_leads (unquoted Unknown) c) (λ n. place_after n [])
           (rw (encode_ascii c small) at led) in
           elim (cases_Bool (c == line_feed)) [
-            | inl t ↦ let none : None ≡ Some one.0 = rw t at one.1 in cc
+            | inl t ↦ absurd (no_feed (unquoted Unknown) one.0 c t one.1)
             | inr t ↦
                 let first : Some one.0 ≡ Some (unquoted Unknown) =
                 sym one.1 ∙ white_ascii c white (lt-ltb c 128 small) t in
@@ -158,7 +158,7 @@ tail_alone (c ∷ rest) b more none e feed =
 
 -- a whole line has these parts
 parts_of : {bytes kept rest : List ℕ} → BeginsWhole bytes kept rest → Parts kept rest
-parts_of {kept = kept} {rest = rest} is =
+parts_of {bytes = bytes} {kept = kept} {rest = rest} is =
     let it = found line_start bytes is.end is.ends in
     let front : it.front ≡ kept = same_front it.front kept is.end (sym it.spelled ∙ is.begins) in
     let begins : rest ++ line_feed ∷ is.line.later ≡ it.byte ∷ it.behind = sym is.line.begins ∙ it.begins in

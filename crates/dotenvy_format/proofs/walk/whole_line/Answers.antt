@@ -2,12 +2,8 @@ use Rattle.std.proofs.Common.{◌≡◌, ◌∙◌, refl, sym, arith, Some, None
 use Rattle.dotenvy_format.proofs.lines.WholeLines.{found_kept, found_shorter, only_end, only_kept}
 use Rattle.dotenvy_format.proofs.walk.whole_line.Goals as goal
 
-pub overflow_sub-bytes : goal.overflow_sub-bytes
-overflow_sub-bytes c = omega (arith, found_shorter c.args.bytes.now c.in_ok-end.end.now c.in_ok-end.ensures)
-
 pub slice_bounds-from_utf8-count : goal.slice_bounds-from_utf8-count
-slice_bounds-from_utf8-count c =
-    omega (arith, found_shorter c.args.bytes.now c.in_ok-end.end.now c.in_ok-end.ensures)
+slice_bounds-from_utf8-count c = found_shorter c.args.bytes.now c.in_ok-end.end.now c.in_ok-end.ensures
 
 pub returns-in_err-end : goal.returns-in_err-end
 returns-in_err-end c =
