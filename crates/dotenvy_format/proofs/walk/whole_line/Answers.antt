@@ -1,4 +1,4 @@
-use Rattle.std.proofs.Common.{◌≡◌, ◌∙◌, refl, sym, arith, Some, None}
+use Rattle.std.proofs.Common.{◌≡◌, ◌∙◌, refl, sym, Some, None}
 use Rattle.dotenvy_format.proofs.lines.WholeLines.{found_kept, found_shorter, only_end, only_kept}
 use Rattle.dotenvy_format.proofs.walk.whole_line.Goals as goal
 
