@@ -28,7 +28,7 @@ use Rattle.dotenvy_lines.specs.inside.NextLine.{AdvanceIs}
 use Rattle.dotenvy_lines.specs.inside.Splitter.{SplitterState}
 use Rattle.dotenvy_lines.proofs.Inputs.{ahead_of, the_bytes, the_fault, moves_none, moves_both, final_before}
 use Rattle.dotenvy_lines.proofs.Inputs.{final_weaker}
-use Rattle.dotenvy_lines.proofs.LineEntries.{left_exists, left_once, left-none, left_next, no_lines}
+use Rattle.dotenvy_lines.proofs.LineEntries.{left_exists, left_once, left_next, no_lines}
 use Rattle.dotenvy_lines.proofs.LineEntries.{decided-next, decided-none}
 use Rattle.dotenvy_lines.proofs.NumberedLines.{counts_none, counts_more}
 

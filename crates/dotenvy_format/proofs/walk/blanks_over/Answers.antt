@@ -12,4 +12,5 @@ pub returns-else-is_space_or_tab : goal.returns-else-is_space_or_tab
 returns-else-is_space_or_tab c =
     let parts : c.row.front.now ≡ c.in-Some.before.now ++ c.in-Some.last.now ∷ [] = search rules in
     rw (c.with_one.ensures, c.after_byte.ensures) (last_tells c.args.blanks c.args.run.now c.in-Some.before.now
-    c.in-Some.last.now c.row.is_one_more parts (rw c.is_space_or_tab.ensures at c.if-is_space_or_tab.false) c.row.invariant)
+    c.in-Some.last.now c.row.is_one_more parts (rw c.is_space_or_tab.ensures at c.if-is_space_or_tab.false)
+    c.row.invariant)
