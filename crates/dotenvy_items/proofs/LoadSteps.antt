@@ -1,5 +1,5 @@
 -- How far a load came, and what each line adds.
-use Rattle.std.proofs.Common.{◌≡◌, ◌≢◌, ◌∙◌, ℕ, ◌+◌, List, [], ◌++◌, append_assoc, Option, Some, None, ◌∷◌}
+use Rattle.std.proofs.Common.{◌≡◌, ◌≢◌, ◌∙◌, ◌+◌, List, [], ◌++◌, append_assoc, Option, Some, None, ◌∷◌}
 use Rattle.std.proofs.Common.{Result, Ok, Err, refl, inl, inr}
 use Rattle.std.specs.Str.{chars}
 use Rattle.std.proofs.lemmas.Grind.{flat_map-append}

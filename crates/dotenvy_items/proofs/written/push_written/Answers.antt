@@ -45,15 +45,14 @@ parts-preserved-then-row-gt0 g c =
     let rest = c.parts.rest.now in
     let n = c.row_len-row.result in
     let boundary = row_boundary backslash rest n (omega arith) i.utf8 (omega (arith, c.row_len-row.ensures)) in
-    let next = left_row rest n i.utf8 c.row_len-row.ensures c.split_at.ensures.front
-    c.split_at.ensures.back in
+    let next = left_row rest n i.utf8 c.row_len-row.ensures c.split_at.ensures.front c.split_at.ensures.back in
     let first = rw c.unwrap-then-row-gt0.ensures at c.push_str-then-row-gt0.ensures.bytes in
     let second = rw c.unwrap-then-row-gt0-2.ensures at c.push_str-then-row-gt0-2.ensures.bytes in
+    let more = c.push_str-then-row-gt0-2.ensures.capacity in
     record {
       utf8 = rw c.split_at.ensures.back (IsUtf8-drop rest n i.utf8 boundary);
       whole = rw (second, first, append_assoc, append_assoc, ← next) i.whole;
-      capacity =
-          omega (arith, i.capacity, c.push_str-then-row-gt0.ensures.capacity, c.push_str-then-row-gt0-2.ensures.capacity);
+      capacity = omega (arith, i.capacity, c.push_str-then-row-gt0.ensures.capacity, more);
     }
 
 pub unwrap-requires-then-needs_backslash : goal.unwrap-requires-then-needs_backslash
