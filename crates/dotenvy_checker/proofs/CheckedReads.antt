@@ -232,19 +232,23 @@ told_on : {A : Type 0} {a : Ahead} {s t : LinesState} {allowed : List Kind} {sta
     {front more remarks : List Remark} {old now new : Checker A} → TellsFront allowed start end more remarks now new →
     CheckedTo a s t front old now →
     CheckedTo a s t (front ++ more) old new
-told_on {front = front} {more} {new = new} tells k = record {
-  start = k.start;
-  unmarks = k.unmarks;
-  rows = k.rows;
-  read = k.read;
-  are_rows = k.are_rows;
-  comes = record {
-    comes = rw (tells.declared, tells.above, append_assoc front more (so_far new).remarks, ← tells.left) k.comes.comes;
-    names = tells.names ∙ k.comes.names;
-    dialect = tells.dialect ∙ k.comes.dialect;
-    tells = tells.tells ∙ k.comes.tells;
-  };
-}
+told_on {front = front} {more} {now = now} {new} tells k =
+    let found : (front ++ more) ++ (so_far new).remarks ≡ front ++ (so_far now).remarks =
+    append_assoc front more (so_far new).remarks ∙ ap (λ (t : List Remark). front ++ t) (sym tells.left) in
+    let same : behind_front (front ++ more) (so_far new) ≡ behind_front front (so_far now) =
+    λ i. record { remarks = found i; declared = tells.declared i; above = tells.above i } in record {
+      start = k.start;
+      unmarks = k.unmarks;
+      rows = k.rows;
+      read = k.read;
+      are_rows = k.are_rows;
+      comes = record {
+        comes = same ∙ k.comes.comes;
+        names = tells.names ∙ k.comes.names;
+        dialect = tells.dialect ∙ k.comes.dialect;
+        tells = tells.tells ∙ k.comes.tells;
+      };
+    }
 
 -- the names of a logical line, and of the guesses behind it, leave those that were declared on their lines
 whole_extends : {A : Type 0} {now new : Checker A} (number last : ℕ) (logical : Logical) (entries : List Entry)
@@ -252,10 +256,10 @@ whole_extends : {A : Type 0} {now new : Checker A} (number last : ℕ) (logical 
     ComesTo (with_lines (setting_of now true)
     (with_logical (setting_of now false) (so_far now) number last logical entries) guesses) now new →
     Extends (declared_of now.declared) (declared_of new.declared)
-whole_extends {now = now} number last logical entries guesses comes name first was =
+whole_extends {now = now} number last logical entries guesses comes = λ name first was.
     let own = with_logical (setting_of now false) (so_far now) number last logical entries in
-    rw (ap (λ (s : SoFar). s.declared) comes.comes) (lines_extend (setting_of now true) own guesses name first
-    (entries_extend number entries (declared_of now.declared) name first was))
+    ap (λ (s : SoFar). s.declared name) comes.comes ∙ lines_extend (setting_of now true) own guesses name first
+    (entries_extend number entries (declared_of now.declared) name first was)
 
 -- the row of a line that was taken
 abbrev row_of : {A : Type 0} {dialect : Dialect} {a : Ahead} {t m : LinesState} {number last : ℕ}
@@ -526,7 +530,7 @@ pub checked_stop : {A W : Type 0} (told : W → SinkTold) {s : LinesState} {old 
     ChecksOutcome m outcome now new →
     TellsKept (IsSettled (declared_of new.declared)) KeepsAny told new later written (Err ending) end last at →
     WhereFew s (λ a. TellsAll told s a old report writer (Err ending) end last at)
-checked_stop told new end last at outcome (stop.Read e) came answers checks tells = absurd tells
+checked_stop told new end last at outcome (stop.Read e) came answers checks tells a opened is_told few = absurd tells
 checked_stop told new end last at outcome (stop.Write e) came answers checks (remarks, tells, cannot) a opened is_told
     few = (
       came.remarks ++ remarks,
@@ -734,8 +738,8 @@ same_rows rows a s = rw (a, s) refl
 pub led_new : {A : Type 0} {env : Env} {dialect given : Dialect} {tells : Bool} {checker : Checker A}
     (rows : List Row) → IsNew env given tells checker → given ≡ dialect →
     led_by checker rows ≡ with_rows (file_setting (names_in env.names) dialect tells) nothing_yet rows
-led_new {checker = checker} rows made in_dialect =
-    let setting : setting_of checker false ≡ file_setting _ _ _ =
+led_new {env = env} {dialect} {tells = tells} {checker} rows made in_dialect =
+    let setting : setting_of checker false ≡ file_setting (names_in env.names) dialect tells =
     rw (made.environment, made.in_dialect, in_dialect, made.tells) refl in
     same_rows rows setting made.nothing
 

@@ -164,14 +164,14 @@ end_of_check checked (Err ending) = Err ending
 
 -- a check whose report is ended reports what is found
 pub reports_end : {A W : Type 0} (told : W → SinkTold) {env : Env} {given : Dialect} {how : Reporting}
-    {file : List ℕ} {a : Ahead} {file_report last : FileReport A} {old new : Checker A} {before middle after : W}
-    (s : IterState) (checked : Checked A) (read answer : Result (Unit {0}) (Stop A)) →
+    {file : List ℕ} (a : Ahead) {file_report : FileReport A} (last : FileReport A) {old : Checker A} (new : Checker A)
+    (before middle after : W) (s : IterState) (checked : Checked A) (read answer : Result (Unit {0}) (Stop A)) →
     IsNew env given how.text old → given ≡ s.dialect → IsUntold file how file_report →
     TellsAll told s.lines a old file_report before read new last middle →
     EndsReport told last middle read answer after → checked.found ≡ last.found →
     declared_of checked.declared ≡ declared_of new.declared →
     Reports told how file (names_in env.names) s a before (end_of_check checked answer) after
-reports_end told {how = how} {old = old} {after = after} s checked (Ok done) answer made is untold
+reports_end told {how = how} a last {old} new before middle after s checked (Ok done) answer made is untold
     (remarks, k, parts) (inl (ends, sends)) found declares =
     let is_file = file_of how s made is in
     let all = led_by old k.rows in
@@ -188,7 +188,7 @@ reports_end told {how = how} {old = old} {after = after} s checked (Ok done) ans
             (parts_sent told after (Ok tt) parts untold sends),
       ),
     )
-reports_end told {how = how} {old = old} {after = after} s checked (Err (stop.Read e)) answer made is untold
+reports_end told {how = how} a last {old} new before middle after s checked (Err (stop.Read e)) answer made is untold
     (remarks, k, parts) (inl (ends, sends)) found declares =
     let is_file = file_of how s made is in
     let all = led_by old k.rows in
@@ -201,43 +201,49 @@ reports_end told {how = how} {old = old} {after = after} s checked (Err (stop.Re
             (parts_sent told after (Ok tt) parts untold sends),
       ),
     )
-reports_end told {how = how} {after = after} s checked (Err (stop.Memory refused)) answer made is untold
-    (remarks, k, parts) (inl (ends, sends)) found declares =
+reports_end told {how = how} a last new before middle after s checked (Err (stop.Memory refused)) answer made is
+    untold (remarks, k, parts) (inl (ends, sends)) found declares =
     let is_file = file_of how s made is in
     rw ends (reports_first told is_file untold k (parts_sent told after (Ok tt) parts untold sends))
-reports_end told {how = how} s checked (Err (stop.Write e)) answer made is untold (remarks, k, cannot)
-    (ends, same) found declares =
+reports_end told {how = how} a last new before middle after s checked (Err (stop.Write e)) answer made is untold
+    (remarks, k, cannot) (ends, same) found declares =
     let is_file = file_of how s made is in
     rw (ends, same) (reports_first told is_file untold k (parts_unsent told cannot untold))
-reports_end told {how = how} {after = after} s checked (Ok done) answer made is untold (remarks, k, parts)
-    (inr (e, ends, sends)) found declares =
-    let is_file = file_of how s made is in
-    rw ends (reports_rows told is_file untold k (parts_sent told after (Err e) parts untold sends))
-reports_end told {how = how} {after = after} s checked (Err (stop.Read fault)) answer made is untold
+reports_end told {how = how} a last new before middle after s checked (Ok done) answer made is untold
     (remarks, k, parts) (inr (e, ends, sends)) found declares =
     let is_file = file_of how s made is in
     rw ends (reports_rows told is_file untold k (parts_sent told after (Err e) parts untold sends))
-reports_end told {how = how} {after = after} s checked (Err (stop.Memory refused)) answer made is untold
+reports_end told {how = how} a last new before middle after s checked (Err (stop.Read fault)) answer made is untold
     (remarks, k, parts) (inr (e, ends, sends)) found declares =
+    let is_file = file_of how s made is in
+    rw ends (reports_rows told is_file untold k (parts_sent told after (Err e) parts untold sends))
+reports_end told {how = how} a last new before middle after s checked (Err (stop.Memory refused)) answer made is
+    untold (remarks, k, parts) (inr (e, ends, sends)) found declares =
     let is_file = file_of how s made is in
     rw ends (reports_first told is_file untold k (parts_sent told after (Err e) parts untold sends))
 
 -- a check that read no line tells nothing, where its report is ended
 pub shut_tells : {A W : Type 0} (told : W → SinkTold) {env : Env} {given : Dialect} {how : Reporting} {file : List ℕ}
-    {file_report last : FileReport A} {old new : Checker A} {before after : W} (checked : Checked A)
-    (read : Result (Unit {0}) (Stop A)) → IsNew env given how.text old → IsUntold file how file_report →
+    {file_report : FileReport A} (last : FileReport A) {old : Checker A} (new : Checker A) (before after : W)
+    (checked : Checked A) (read : Result (Unit {0}) (Stop A)) → IsNew env given how.text old →
+    IsUntold file how file_report →
     OnOk read (KeepsTold file_report last × (declared_of new.declared ≡ declared_of old.declared)) →
     EndsReport told last before read (Ok tt) after → checked.found ≡ last.found →
     declared_of checked.declared ≡ declared_of new.declared → Tells how [] nothing_yet checked
-shut_tells told checked (Ok done) made untold (keeps, same) ends found declares = record {
+shut_tells told last new before after checked (Ok done) made untold (keeps, same) ends found declares = record {
   found = found ∙ keeps.found ∙ untold.nothing;
   declares = declares ∙ same ∙ ap (λ (s : SoFar). s.declared) made.nothing;
 }
-shut_tells told checked (Err (stop.Read e)) made untold keeps (inl (is, sends)) found declares = cc
-shut_tells told checked (Err (stop.Read e)) made untold keeps (inr (error, is, sends)) found declares = cc
-shut_tells told checked (Err (stop.Write e)) made untold keeps (is, same) found declares = cc
-shut_tells told checked (Err (stop.Memory refused)) made untold keeps (inl (is, sends)) found declares = cc
-shut_tells told checked (Err (stop.Memory refused)) made untold keeps (inr (error, is, sends)) found declares = cc
+shut_tells told last new before after checked (Err (stop.Read e)) made untold keeps (inl (is, sends)) found
+    declares = cc
+shut_tells told last new before after checked (Err (stop.Read e)) made untold keeps (inr (error, is, sends)) found
+    declares = cc
+shut_tells told last new before after checked (Err (stop.Write e)) made untold keeps (is, same) found
+    declares = cc
+shut_tells told last new before after checked (Err (stop.Memory refused)) made untold keeps (inl (is, sends)) found
+    declares = cc
+shut_tells told last new before after checked (Err (stop.Memory refused)) made untold keeps (inr (error, is, sends))
+    found declares = cc
 
 -- a check that stops because an allocation failed before a line was read tells nothing
 pub memory_tells_nothing : {A W : Type 0} (told : W → SinkTold) (how : Reporting) (file : List ℕ) (names : Known)

@@ -1,10 +1,11 @@
 -- What is settled of what was found stays as it is, whatever is declared later; what was told stands before the rest.
 use Rattle.std.proofs.Common.{◌≡◌, ℕ, Bool, true, false, List, [], ◌∷◌, ◌++◌, ◌∙◌, map, refl, sym, ap, inl, inr}
 use Rattle.std.proofs.Common.{Option, Some, None, arith}
-use Rattle.std.specs.Prelude.{encode_utf8_all}
+use Rattle.std.specs.Prelude.{bytes_eq, encode_utf8_all, is_some}
 use Rattle.std.specs.List.{AllByRecursion}
 use Rattle.std.proofs.lemmas.Bool.{cases_Bool}
 use Rattle.std.proofs.lemmas.List.{append_assoc}
+use Rattle.std.proofs.lemmas.Slice.Eq.{bytes_eq-Decides}
 use Rattle.dotenvy_format.specs.Entries.{Entry, Declares, Fails}
 use Rattle.dotenvy_format.specs.LogicalLine.{Logical}
 use Rattle.dotenvy_findings.specs.declared.finding.Finding.{Finding}
@@ -21,14 +22,23 @@ Extends names others = (name : List ℕ) (line : ℕ) → names name ≡ Some li
 
 -- names are those that are declared
 pub extends_none : (names : Declared) → Extends names names
-extends_none names name line is = is
+extends_none names = λ name line is. is
 
 -- a key more leaves the lines of the others
 key_extends : (key : List ℕ) (line : ℕ) (names : Declared) → Extends names (with_key key line names)
-key_extends key line names name first is = grind arith
+key_extends key line names = λ name first is.
+    elim (cases_Bool (is_some (names key))) [
+      | inl there ↦ rw there is
+      | inr absent ↦
+          elim (cases_Bool (bytes_eq key name)) [
+            | inl same ↦
+                let there : is_some (names key) ≡ true = rw ((bytes_eq-Decides key name).0 same, is) refl in cc
+            | inr other ↦ rw (absent, other) is
+          ]
+    ]
 
 -- the keys of entries leave the lines of the others
-entries_extend : (number : ℕ) (entries : List Entry) (names : Declared) →
+pub entries_extend : (number : ℕ) (entries : List Entry) (names : Declared) →
     Extends names (declared_by number entries names)
 entries_extend number [] names = extends_none names
 entries_extend number (Declares key pieces ∷ entries) names =

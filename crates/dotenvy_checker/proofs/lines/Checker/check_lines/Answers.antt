@@ -29,10 +29,11 @@ lines-preserved g c = record {
       c.in_ok-tell_settled.ensures;
 }
 
-pub returns-in-Err-in-Some-clause-told : goal.returns-in-Err-in-Some-clause-told
-returns-in-Err-in-Some-clause-told g c = λ a opened told few.
-    rw c.end_of_reading-in-Some.ensures (checked_before g.W.Sink.told c.in-Err-in-Some.fault c.lines.invariant.came
-    (answers c.in-Some.ensures.shut c.in-Some.ensures.told) c.in-Err-in-Some.ensures.error a opened told few)
+pub returns-in-Err-check_outcome-clause-told : goal.returns-in-Err-check_outcome-clause-told
+returns-in-Err-check_outcome-clause-told g c = λ a opened told few.
+    rw c.end_of_reading-in-Err-check_outcome.ensures (checked_before g.W.Sink.told c.in-Err-check_outcome.fault
+    c.lines.invariant.came (answers c.in-Some.ensures.shut c.in-Some.ensures.told)
+    c.in-Err-check_outcome.ensures.error a opened told few)
 
 pub returns-in_err-seen-clause-told : goal.returns-in_err-seen-clause-told
 returns-in_err-seen-clause-told g c =
