@@ -47,7 +47,8 @@ returns-clause-reports g c = λ opened a tells few.
     reports_end g.W.Sink.told a c.check_all-read.new.report c.check_all-read.new.self c.args.writer.now
     c.check_all-read.new.writer c.end.new.writer c.args.file checked c.check_all-read.result (Ok tt)
     c.in_ok-checker.ensures lines.dialect c.in_ok-report.ensures
-    ((rw lines.lines at c.check_all-read.ensures.told) a opened tells few) c.in_ok-end.ensures.ends (ap (λ r. r.found) c.end.ensures.same) refl
+    ((rw lines.lines at c.check_all-read.ensures.told) a opened tells few) c.in_ok-end.ensures.ends
+    (ap (λ r. r.found) c.end.ensures.same) refl
 
 pub returns-clause-shut : goal.returns-clause-shut
 returns-clause-shut g c = λ closed.
