@@ -225,7 +225,11 @@ fn kind_run(bytes: &[u8], kind: ByteKind) -> usize
 pub fn split_run(bytes: &[u8], kind: ByteKind) -> (&[u8], &[u8])
     ensures { IsSpan (is_of_kind kind) bytes.now result.0.now result.1.now }
 {
-    bytes.split_at(kind_run(bytes, kind))
+    match bytes.first() {
+        Some(first) if kind.contains(*first) => bytes.split_at(kind_run(bytes, kind)),
+        // no block is looked at before a byte of another kind, which often comes right after another one
+        _ => (&bytes[..0], bytes),
+    }
 }
 
 /// The first line of the bytes, without its line feed, if it is whole and all of its bytes are of the kind.
