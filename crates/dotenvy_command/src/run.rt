@@ -14,7 +14,7 @@ use crate::loaded::Loader;
 use crate::prepared::Starter;
 use crate::start::start;
 use dotenvy::{Dialect, Sink, Source};
-use dotenvy_items::written::list_lent;
+use dotenvy_items::written::{ListOptions, list_lent};
 use std::alloc::{Alloc, Allocator};
 
 /// Does what the words ask for, and returns the status to end with (docs/COMMAND.md).
@@ -76,7 +76,11 @@ fn list<A: Allocator + Clone, S: Source, W: Sink>(
         W.told writer.old writer.new) result }
     ensures asks { ReadsBetween (S.told reader.old) (S.told reader.new) }
 {
-    list_lent(alloc, reader, writer, dialect)?;
+    let options = ListOptions {
+        dialect,
+        is_last: true,
+    };
+    list_lent(alloc, reader, writer, options)?;
     Ok(0)
 }
 

@@ -22,6 +22,7 @@ use dotenvy_format::text::{Class, Quoting, row_len, split_first, split_while};
 use dotenvy_lines::lines::{READ_LIMIT, Room, Splitter};
 use memchr::memchr3_iter;
 use std::alloc::{AllocError, Allocator};
+use std::mem;
 
 fn needs_backslash(c: char) -> bool
     ensures { result ≡ needs_backslash c }
@@ -165,7 +166,28 @@ pub fn list_with<R: Source + Drop, W: Sink, A: Allocator + Clone>(
     ensures { Lists (fresh (R.told reader) dialect)
         W.told writer.old writer.new result }
 {
-    list_lent(alloc, &mut reader, writer, dialect)
+    let options = ListOptions {
+        dialect,
+        is_last: false,
+    };
+    list_lent(alloc, &mut reader, writer, options)
+}
+
+/// How a reader is listed.
+#[derive(Clone, Copy)]
+pub struct ListOptions {
+    /// The dialect of the file.
+    pub dialect: Dialect,
+    /// Whether the process ends after it. What was loaded and written is then left to its end, which gives all of its
+    /// memory back at once.
+    pub is_last: bool,
+}
+
+// Gives back the memory of a value, or leaves it to the end of the process.
+fn leave<T: Drop>(value: T, is_last: bool) {
+    if is_last {
+        mem::forget(value);
+    }
 }
 
 /// As `list_with`, of a reader that is lent.
@@ -177,9 +199,9 @@ pub fn list_lent<R: Source, W: Sink, A: Allocator + Clone>(
     alloc: A,
     reader: &mut R,
     writer: &mut W,
-    dialect: Dialect,
+    options: ListOptions,
 ) -> Result<(), A>
-    ensures lists { Lists (fresh (R.told reader.old) dialect)
+    ensures lists { Lists (fresh (R.told reader.old) options.dialect)
         W.told writer.old writer.new result }
     // Whatever is returned: at most 2^32 reads are made, interrupted ones among them, each for at most 8,192 bytes; and
     // none follows the end, or a read that failed without being interrupted.
@@ -189,10 +211,13 @@ pub fn list_lent<R: Source, W: Sink, A: Allocator + Clone>(
     let mut env = Environment::new(alloc.clone()?);
     let room = Room::new(alloc.clone()?)?;
     let lines = Splitter::in_room(room, reader, READ_LIMIT);
-    let mut file = over_lines(lines, remembering, dialect);
+    let mut file = over_lines(lines, remembering, options.dialect);
     let loaded = file.load_rest(&mut env);
     let _ = into_reader(file);
     loaded?;
     let text = listing(alloc, &env)?;
-    write_all(writer, text.as_bytes(), MOST_WRITES)
+    let written = write_all(writer, text.as_bytes(), MOST_WRITES);
+    leave(env, options.is_last);
+    leave(text, options.is_last);
+    written
 }
