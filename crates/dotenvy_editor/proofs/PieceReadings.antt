@@ -1,5 +1,5 @@
 -- What pieces mean, as they are read one after another.
-use Rattle.std.proofs.Common.{◌≡◌, ◌≢◌, ℕ, ◌<◌, Bool, true, not, List, [], ◌∷◌, ◌++◌, length, Option, Some, None}
+use Rattle.std.proofs.Common.{◌≡◌, ◌≢◌, ℕ, zero, suc, ◌<◌, Bool, true, not, List, [], ◌∷◌, ◌++◌, length, Option, Some, None}
 use Rattle.std.proofs.Common.{refl, sym, ap, ◌∙◌, arith, inl, inr, append_assoc, append-nil, length-append}
 use Rattle.std.specs.Prelude.{◌==◌, ◌||◌, ◌↔◌, IsTrue, MatchOption}
 use Rattle.std.specs.List.{list_any}
@@ -18,13 +18,14 @@ use Rattle.dotenvy.specs.Value.{Piece, Text, Name, LastBackslash}
 use denote.Ref.{Bor}
 use Rattle.dotenvy_format.specs.declared.value.Given.{Given}
 use Rattle.dotenvy_format.specs.declared.value.Piece.TheVariants.{Name as GivesName, Text as GivesText}
+use Rattle.dotenvy_format.specs.declared.value.Piece.TheVariants.{EmptyNames as GivesEmptyNames}
 use Rattle.dotenvy_format.specs.inside.ReadValue.{ValueMode, ValueReading, base, given, read_value}
-use Rattle.dotenvy_format.specs.inside.NextPiece.{GivesPiece, IsReadTo, piece_bytes, without_texts}
+use Rattle.dotenvy_format.specs.inside.NextPiece.{GivesPiece, IsReadTo, empty_names, piece_bytes, times, without_texts}
 use Rattle.dotenvy_format.proofs.values.Values.{given-given, read-value, value-read}
 use Rattle.dotenvy_editor.specs.Forms.{has}
 use Rattle.dotenvy_editor.specs.Lines.{AssignsText, MeansText}
 use Rattle.dotenvy_editor.specs.Told.{MeansFront}
-use Rattle.dotenvy_editor.specs.Warnings.{has_nul, mention, mentions_one}
+use Rattle.dotenvy_editor.specs.Warnings.{has_nul, is_among, mention, mentions_one}
 
 -- a character's bytes have a NUL where it is one
 has-encode : (c : ℕ) → has 0 (encode c) ≡ (c == 0)
@@ -195,6 +196,23 @@ pub no_name : (name after : Bor (List ℕ)) (bytes : List ℕ) → ¬ (MeansFron
 no_name name after bytes (later, is) =
     let look_up : LookUp = λ other. Some (0 ∷ bytes) in
     no_longer (0 ∷ bytes) bytes after.now (later look_up) (omega arith) (is look_up)
+
+-- nor do empty names stand for a text that is known
+pub no_empty_names : (more : ℕ) (bytes : List ℕ) → ¬ (MeansFront (GivesEmptyNames more) bytes)
+no_empty_names more bytes (later, is) =
+    let look_up : LookUp = λ other. Some (0 ∷ bytes) in
+    no_longer (0 ∷ bytes) bytes (times more (encode_utf8_all (0 ∷ bytes))) (later look_up) (omega arith) (is look_up)
+
+-- nothing, so many times in a row, is nothing
+pub no_times : (n : ℕ) → times n [] ≡ []
+no_times zero = refl
+no_times (suc n) = no_times n
+
+-- empty names mention a name just where the empty one is among these
+pub empty_mentioned : (names : List (List ℕ)) (more : ℕ) →
+    mention names (empty_names (suc more)) ≡ is_among names []
+empty_mentioned names zero = grind arith
+empty_mentioned names (suc more) = grind (arith, empty_mentioned names more)
 
 -- nothing or a comment means just the empty text
 pub empty_means : {dialect : Dialect} {assigned : List ℕ} (text : List ℕ) (empty : Bool) →

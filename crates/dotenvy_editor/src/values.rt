@@ -79,6 +79,7 @@ fn has_nul(piece: Piece<'_>) -> bool
     let text = match piece {
         Piece::Text(text) => text,
         Piece::Name { name: _, after } => after,
+        Piece::EmptyNames { more: _ } => "",
         Piece::LastBackslash => "",
     };
     memchr(0, text.as_bytes()).is_some()
@@ -91,6 +92,7 @@ fn mentions<A: Allocator + Clone>(piece: Piece<'_>, names: &Names<A>) -> bool
 {
     match piece {
         Piece::Name { name, after: _ } => names.has(name),
+        Piece::EmptyNames { more: _ } => names.has(""),
         Piece::Text(_) | Piece::LastBackslash => false,
     }
 }
@@ -143,6 +145,7 @@ fn strip_meant<'t>(text: &'t [u8], piece: Piece<'_>) -> Option<&'t [u8]>
     match piece {
         Piece::Text(meant) => text.strip_prefix(meant.as_bytes()),
         Piece::Name { name: _, after: _ } => None,
+        Piece::EmptyNames { more: _ } => None,
         Piece::LastBackslash => Some(text),
     }
 }

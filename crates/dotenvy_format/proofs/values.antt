@@ -3,4 +3,5 @@ pub mod Values
 pub mod ValuePlaces
 pub mod NextPiece
 pub mod BackslashRows
+pub mod DollarRows
 pub mod LongestFronts

@@ -17,6 +17,8 @@ pub enum Piece<'a> {
     Text(&'a str),
     /// What the name stands for, and then the text `after`, which is one character or empty.
     Name { name: &'a str, after: &'a str },
+    /// What the empty name stands for, once and `more` times more: these dollars have no name after them.
+    EmptyNames { more: usize },
     /// Nothing: a backslash at the end of the value.
     LastBackslash,
 }
@@ -157,10 +159,21 @@ fn single_quoted(left: &str) -> NextPiece<'_>
     }
 }
 
-// What follows `$`. The character after a bare name is text, or is left to what follows.
+// What follows `$`. The character after a bare name is text, or is left to what follows. Of dollars in a row all but the
+// last have an empty name.
 fn substitution(left: &str, quoting: Quoting, dialect: Dialect) -> NextPiece<'_>
     ensures { NextPieceIs dialect (naming quoting []) (chars left.now) result }
 {
+    let dollars = row_len(left, b'$');
+    if dollars > 0 {
+        let more = dollars - 1;
+        let (_, rest) = left.split_at(more);
+        return NextPiece::Piece(Given {
+            piece: Piece::EmptyNames { more },
+            rest,
+            quoting,
+        });
+    }
     if let Some(inner) = left.strip_prefix('{') {
         let Some((name, rest)) = inner.split_once('}') else {
             return NextPiece::Unfinished;

@@ -1,5 +1,5 @@
 -- What names stand for, by bytes and by characters, and what the passes over a value count.
-use Rattle.std.proofs.Common.{◌≡◌, ℕ, ◌+◌, ◌≤◌, List, [], ◌∷◌, ◌++◌, Option, Some, None, refl}
+use Rattle.std.proofs.Common.{◌≡◌, ℕ, zero, suc, ◌+◌, ◌*◌, ◌≤◌, List, [], ◌∷◌, ◌++◌, Option, Some, None, refl}
 use Rattle.std.proofs.Common.{◌∙◌, ap, arith, length, length-append, append_assoc, unwrap_or}
 use Rattle.std.specs.Prelude.{◌^◌, ◌-◌, min, MatchOption}
 use denote.Ref.{Bor}
@@ -7,18 +7,20 @@ use Rattle.std.specs.Option.{option_or, option_copied}
 use Rattle.std.specs.FinMap as fin
 use Rattle.std.specs.Str.{chars, encode_utf8_all, IsUtf8}
 use Rattle.std.proofs.lemmas.List.{append-nil}
-use Rattle.std.proofs.lemmas.Str.{encodes-chars, encodes-append}
+use Rattle.std.proofs.lemmas.Str.{chars-nil, encodes-chars, encodes-append}
+use Rattle.std.proofs.Math.Nat.{mul-suc}
 use Rattle.dotenvy_format.specs.declared.text.Quoting.TheVariants.{Unquoted}
 use Rattle.dotenvy_format.specs.declared.dialect.Dialect.{Dialect}
 use Rattle.dotenvy_format.specs.Characters.{byte_len}
 use Rattle.dotenvy_format.specs.Value.{Piece, Text, Name, LastBackslash}
-use Rattle.dotenvy_format.specs.Items.{LookUp, meaning}
+use Rattle.dotenvy_format.specs.Items.{LookUp, meaning, text_of}
 use Rattle.dotenvy_base.specs.Environment.{Texts}
 use Rattle.dotenvy_items.specs.Remembered.{Remembered, recalled}
 use Rattle.dotenvy_format.specs.inside.ReadValue.{ValueMode, base, given, read_value}
-use Rattle.dotenvy_format.specs.inside.NextPiece.{IsReadTo}
+use Rattle.dotenvy_format.specs.inside.NextPiece.{IsReadTo, times}
 use Rattle.dotenvy_items.specs.Meaning.{names_of}
-use Rattle.dotenvy_items.specs.inside.ValuePasses.{saturated, HasRoom}
+use Rattle.dotenvy_items.specs.inside.ValuePasses.{saturated, HasRoom, StandsFor}
+use Rattle.dotenvy_items.specs.declared.meaning.Known.{Known}
 use Rattle.dotenvy_format.proofs.values.Values.{given-given}
 
 -- one piece more adds its bytes to the meaning
@@ -76,3 +78,18 @@ pub room_for : {dialect : Dialect} {m n : ValueMode} {value rest left : List ℕ
 room_for {dialect = dialect} {n = n} {left = left} {p = p} {q = q} look_up len capacity room is next =
     let fits = rw (is.reads, next.reads, given-given p q (read_value dialect left n)) at room in
     grind (arith, one_more, length-append, fits)
+
+-- a list, so many times in a row, has so many times its length
+times_len : (n : ℕ) (xs : List ℕ) → length (times n xs) ≡ length xs * n
+times_len zero xs = omega arith
+times_len (suc n) xs = omega (arith, length-append xs (times n xs), times_len n xs, mul-suc (length xs) n)
+
+-- the length of a list, counted once more than so many times, is that of the list as many times, saturated
+pub again_counted : {product sum : ℕ} (n : ℕ) (xs : List ℕ) → product ≡ min (length xs * n) (2 ^ 64 - 1)
+    → sum ≡ min (product + length xs) (2 ^ 64 - 1) → sum ≡ saturated (length (times (suc n) xs))
+again_counted n xs p s = omega (arith, length-append xs (times n xs), times_len n xs, p, s)
+
+-- what is known of the empty name is what it stands for
+pub empty_known : (look_up : LookUp) (known : Known) → StandsFor look_up known × (known.name.now ≡ [])
+    → known.text.now ≡ encode_utf8_all (text_of look_up [])
+empty_known look_up known h = rw (h.1, chars-nil) at h.0

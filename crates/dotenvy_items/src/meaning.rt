@@ -1,9 +1,9 @@
 //! What the names of a line stand for, and what a value means by them.
-ghost use Rattle.std.specs.Prelude.{◌≡◌, ◌≤◌, ◌+◌, ◌++◌, [], length, unwrap_or, string_bytes, string_len, MatchOption, MatchResult};
+ghost use Rattle.std.specs.Prelude.{suc, ◌≡◌, ◌≤◌, ◌+◌, ◌++◌, [], length, unwrap_or, string_bytes, string_len, MatchOption, MatchResult};
 ghost use Rattle.dotenvy_base.specs.Errors.{IsMemory};
 ghost use Rattle.std.specs.String.{string_capacity};
 ghost use Rattle.std.specs.Str.{chars, encode_utf8_all};
-ghost use Rattle.dotenvy_format.specs.inside.NextPiece.{piece_bytes};
+ghost use Rattle.dotenvy_format.specs.inside.NextPiece.{piece_bytes, times};
 ghost use Rattle.dotenvy_items.specs.Meaning.{look_up_of};
 ghost use Rattle.dotenvy_items.specs.inside.ValuePasses.{saturated, IsKnown, IsMeasured, StandsFor, Measures, HasRoom, Appends};
 
@@ -65,8 +65,24 @@ fn whole_with<'a>(whole: Option<&'a str>, piece: Piece<'a>) -> Option<&'a str>
 {
     match piece {
         Piece::Text(text) => one_text(whole, text),
-        Piece::Name { name: _, after: _ } => None,
+        Piece::Name { name: _, after: _ } | Piece::EmptyNames { more: _ } => None,
         Piece::LastBackslash => one_text(whole, ""),
+    }
+}
+
+// Appends a text, once and `more` times more, to one that has room for it.
+fn push_again<A: Allocator>(text: &mut String<A>, meant: &str, more: usize)
+    requires { string_len text.old + length (times (suc more) meant.now)
+        ≤ string_capacity text.old }
+    ensures bytes { string_bytes text.new
+        ≡ string_bytes text.old ++ times (suc more) meant.now }
+    ensures capacity { string_capacity text.old ≤ string_capacity text.new }
+{
+    text.push_str(meant).unwrap();
+    let mut left = more;
+    'pushes: while left > 0 {
+        text.push_str(meant).unwrap();
+        left -= 1;
     }
 }
 
@@ -114,6 +130,14 @@ impl<'n, A: Allocator> Names<'n, A> {
                 let found = self.look_up_after(name, known);
                 Step {
                     len: found.text.len().saturating_add(after.len()),
+                    known: Some(found),
+                }
+            }
+            Piece::EmptyNames { more } => {
+                let found = self.look_up_after("", known);
+                let len = found.text.len();
+                Step {
+                    len: len.saturating_mul(more).saturating_add(len),
                     known: Some(found),
                 }
             }
@@ -187,6 +211,11 @@ impl<'n, A: Allocator> Names<'n, A> {
                 let found = self.look_up_after(name, known);
                 text.push_str(found.text).unwrap();
                 text.push_str(after).unwrap();
+                Some(found)
+            }
+            Piece::EmptyNames { more } => {
+                let found = self.look_up_after("", known);
+                push_again(text, found.text, more);
                 Some(found)
             }
             Piece::LastBackslash => known,

@@ -1,5 +1,5 @@
 -- What the functions that read a value piece by piece return, said by its characters.
-use Rattle.std.specs.Prelude.{ℕ, ◌≡◌, ◌+◌, ◌<◌, Bool, true, false, ◌==◌, List, [], ◌∷◌, ◌++◌}
+use Rattle.std.specs.Prelude.{ℕ, zero, suc, ◌≡◌, ◌+◌, ◌<◌, Bool, true, false, ◌==◌, List, [], ◌∷◌, ◌++◌}
 use Rattle.std.specs.Prelude.{length, Option, Some, None, MatchOption, if◌then◌else◌}
 use denote.Ref.{Bor}
 use Rattle.std.specs.Str.{chars, encode_utf8_all, IsUtf8}
@@ -13,6 +13,7 @@ use Rattle.dotenvy_format.specs.declared.value.Kind.TheVariants.{Plain}
 use Rattle.dotenvy_format.specs.declared.value.Piece.{Piece as CodePiece}
 use Rattle.dotenvy_format.specs.declared.value.Piece.TheVariants.{Text as GivesText, Name as GivesName}
 use Rattle.dotenvy_format.specs.declared.value.Piece.TheVariants.{LastBackslash as GivesBackslash}
+use Rattle.dotenvy_format.specs.declared.value.Piece.TheVariants.{EmptyNames as GivesEmptyNames}
 use Rattle.dotenvy_format.specs.declared.value.Given.{Given}
 use Rattle.dotenvy_format.specs.declared.value.NextPiece.{NextPiece}
 use Rattle.dotenvy_format.specs.declared.value.NextPiece.TheVariants.{Piece as GivesNext, End, Unfinished, Fault}
@@ -51,11 +52,22 @@ Escapes c result =
     MatchOption result (is_escape c ≡ false)
     (λ text. (is_escape c ≡ true) × (text.now ≡ encode_utf8_all (escape_meaning c ∷ [])))
 
+-- a list, so many times in a row
+abbrev pub times : ℕ → List ℕ → List ℕ
+times zero xs = []
+times (suc n) xs = xs ++ times n xs
+
+-- the empty name, so many times
+abbrev pub empty_names : ℕ → List Piece
+empty_names zero = []
+empty_names (suc n) = Name [] [] ∷ empty_names n
+
 -- the bytes that a piece, as the code returns it, means
 abbrev pub piece_bytes : LookUp → CodePiece → List ℕ
 piece_bytes look_up (GivesText text) = text.now
 piece_bytes look_up (GivesName name after) =
     encode_utf8_all (text_of look_up (chars name.now)) ++ after.now
+piece_bytes look_up (GivesEmptyNames more) = times (suc more) (encode_utf8_all (text_of look_up []))
 piece_bytes look_up GivesBackslash = []
 
 -- the pieces that are no text
@@ -65,10 +77,11 @@ without_texts (Text text ∷ pieces) = without_texts pieces
 without_texts (Name name after ∷ pieces) = Name name after ∷ without_texts pieces
 without_texts (LastBackslash ∷ pieces) = LastBackslash ∷ without_texts pieces
 
--- a piece, as the code returns it, as one that is no text, if it isn't one
+-- a piece, as the code returns it, as those that are no text, if it isn't one
 abbrev pub named_piece : CodePiece → List Piece
 named_piece (GivesText text) = []
 named_piece (GivesName name after) = Name (chars name.now) (chars after.now) ∷ []
+named_piece (GivesEmptyNames more) = empty_names (suc more)
 named_piece GivesBackslash = LastBackslash ∷ []
 
 -- reading the text from mode m gives these pieces first, and then goes on with the rest from mode n

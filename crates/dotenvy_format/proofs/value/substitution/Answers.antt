@@ -1,4 +1,4 @@
-use Rattle.std.proofs.Common.{◌≡◌, List, ℕ, [], ◌∷◌, lit<, refl, sym}
+use Rattle.std.proofs.Common.{◌≡◌, List, ℕ, ◌-◌, [], ◌∷◌, lit<, refl, sym, arith}
 use Rattle.std.specs.Prelude.{◌==◌}
 use Rattle.std.specs.Str.{chars}
 use Rattle.std.specs.Char.{encode_utf8}
@@ -6,7 +6,7 @@ use Rattle.std.proofs.lemmas.List.{append-nil}
 use Rattle.std.proofs.lemmas.Str.{chars-nil}
 use Rattle.dotenvy_format.specs.declared.dialect.Dialect.{Dialect}
 use Rattle.dotenvy_format.specs.declared.text.Quoting.{Quoting}
-use Rattle.dotenvy_format.specs.Characters.{left_brace, right_brace, is_name_character}
+use Rattle.dotenvy_format.specs.Characters.{dollar, left_brace, right_brace, is_name_character}
 use Rattle.dotenvy_format.specs.inside.ReadValue.{bracing, naming}
 use Rattle.dotenvy_format.specs.inside.NextPiece.{IsReadTo}
 use Rattle.dotenvy_format.specs.inside.Slices.{IsSpan}
@@ -14,6 +14,8 @@ use Rattle.dotenvy_format.proofs.bytes.Slices.{begins_with_first, characters_fai
 use Rattle.dotenvy_format.proofs.values.Readings.{brace_begun, braced_read, braced_run, stop_open, name_run, read_then, stop_then, end_read, lacks_end}
 use Rattle.dotenvy_format.proofs.values.Readings.{name_left, name_ended}
 use Rattle.dotenvy_format.proofs.values.NextPiece.{no_brace_after, gives_name, ends_before, first_scalar}
+use Rattle.dotenvy_format.proofs.bytes.AsciiRows.{row_boundary}
+use Rattle.dotenvy_format.proofs.values.DollarRows.{gives_dollars}
 use Rattle.dotenvy_format.proofs.value.substitution.Goals as goal
 
 -- the longest run of name characters after a dollar is read as the name
@@ -29,6 +31,15 @@ brace_read dialect q is = rw is brace_begun
 
 pub split_at-requires : goal.split_at-requires
 split_at-requires c =
+    row_boundary dollar c.args.left.now _ (omega arith) c.utf8.left (omega (arith, c.row_len-dollars.ensures))
+
+pub returns-then-dollars-gt0 : goal.returns-then-dollars-gt0
+returns-then-dollars-gt0 c =
+    gives_dollars {dialect = c.args.dialect} {q = c.args.quoting} c.args.left.now (c.row_len-dollars.result - 1)
+    {rest = c.split_at.result.1} c.utf8.left (omega (arith, c.row_len-dollars.ensures)) c.split_at.ensures.back
+
+pub split_at-requires-in-Some-2 : goal.split_at-requires-in-Some-2
+split_at-requires-in-Some-2 c =
     rw c.len_utf8.ensures.value
     (past_first _ _ c.in-Some-split_first.first c.split_while.ensures.texts.1 c.in-Some-split_first.ensures.bytes)
 
@@ -81,7 +92,7 @@ returns-in-Some-2 c =
       c.len_utf8.ensures.value,
       take_first _ _ c.in-Some-split_first.first first.bytes,
       ← append-nil (encode_utf8 c.in-Some-split_first.first),
-    ) at c.split_at.ensures.front in
+    ) at c.split_at-in-Some-2.ensures.front in
     let no_brace = no_brace_after c.args.dialect (chars c.args.left.now) _ _ span
     (not_first left_brace c.args.left.now c.utf8.left c.in_default.ensures.cases) in
     gives_name (c.in-Some-split_first.first ∷ []) first.follows (first_scalar texts.1 first) bytes
