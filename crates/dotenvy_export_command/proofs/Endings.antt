@@ -60,7 +60,7 @@ print_right told old new text other prints wrong = wrong
 -- where words are taken, only an allocation can fail
 pub taken_fails : {A : Type 0} (words : List Text) → AreTaken words → (failed : Failure A) → IsFailureOf words failed →
     IsUnread failed
-taken_fails words taken (failure.Usage (usage.Word kind word)) is = rw taken.0 at is.0.2
+taken_fails words taken (failure.Usage (usage.Word kind word)) is = rw taken.0 at is.0.1.1
 taken_fails words taken (failure.Usage usage.NoTarget) is = let none = rw is.1 at taken.1 in cc
 taken_fails words taken (failure.Usage (usage.Target name)) is = let none = rw (is.1.1, is.1.2) at taken.1 in cc
 taken_fails words taken (failure.File file error) is = tt

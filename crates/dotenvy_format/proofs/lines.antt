@@ -11,3 +11,4 @@ pub mod CommentLines
 pub mod SearchPlaces
 pub mod PlaceModes
 pub mod WholeLines
+pub mod OpenLines

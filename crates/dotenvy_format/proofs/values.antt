@@ -5,3 +5,4 @@ pub mod NextPiece
 pub mod BackslashRows
 pub mod DollarRows
 pub mod LongestFronts
+pub mod TextReads

@@ -5,7 +5,7 @@
 ghost use Rattle.std.specs.Prelude.{◌≡◌, not, map};
 ghost use Rattle.std.specs.Simd.Lanes.{mask_l};
 ghost use Rattle.dotenvy_format.specs.Characters.{continues_key};
-ghost use Rattle.dotenvy_format.specs.Value.{is_plain_outside};
+ghost use Rattle.dotenvy_format.specs.Value.{is_plain_inside, is_plain_outside};
 ghost use Rattle.dotenvy_format.specs.inside.Slices.{is_ascii_in_line, is_calm, is_in_quotes, is_token_byte};
 
 use std::simd::prelude::*;
@@ -19,6 +19,15 @@ pub fn not_plain(block: u8x16) -> u64
     let beginnings = block.simd_eq(u8x16::splat(b'\\')) | block.simd_eq(u8x16::splat(b'$'));
     let blanks = block.simd_eq(u8x16::splat(b' ')) | block.simd_eq(u8x16::splat(b'\t'));
     (quotes | beginnings | blanks).to_bitmask()
+}
+
+/// The bytes that don't mean themselves between double quotes.
+#[inline(always)]
+pub fn not_inside(block: u8x16) -> u64
+    ensures { result ≡ mask_l (map (λ b. not (is_plain_inside b)) block) }
+{
+    let ends = block.simd_eq(u8x16::splat(b'\\')) | block.simd_eq(u8x16::splat(b'"'));
+    (ends | block.simd_eq(u8x16::splat(b'$'))).to_bitmask()
 }
 
 /// The bytes that are no token by themselves, and those with which a blank may begin.

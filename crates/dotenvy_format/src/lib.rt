@@ -10,5 +10,6 @@ pub mod dialect;
 pub mod laws;
 pub mod statement;
 pub mod text;
+pub mod texts;
 pub mod value;
 pub mod walk;

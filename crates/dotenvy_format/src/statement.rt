@@ -7,7 +7,7 @@ ghost use Rattle.std.specs.Str.{chars};
 ghost use Rattle.dotenvy_format.specs.inside.ParseStatement.{split_key, assigned, parse, assignment_of, parsed_of, cut_of};
 
 use crate::classes::begins_key;
-use crate::text::{Class, split_first, split_while};
+use crate::text::{Class, skip_white, split_first, split_while};
 
 /// A key and what is assigned to it, as slices of the line.
 #[derive(Clone, Copy)]
@@ -28,7 +28,7 @@ fn split_key(text: &str) -> std::result::Result<(&str, &str), &str>
     match split_first(text) {
         Some((first, _)) if begins_key(first) => {
             let (key, after) = split_while(text, Class::Key);
-            Ok((key, after.trim_start()))
+            Ok((key, skip_white(after)))
         }
         _ => Err(text),
     }
@@ -44,7 +44,7 @@ fn assigned<'a>(key: &'a str, left: &'a str) -> Option<Statement<'a>>
     }
     Some(Statement {
         key,
-        rest: rest.trim_start(),
+        rest: skip_white(rest),
     })
 }
 
@@ -54,7 +54,7 @@ fn assigned<'a>(key: &'a str, left: &'a str) -> Option<Statement<'a>>
 pub fn split_statement(line: &str) -> Parsed<'_>
     ensures { parsed_of result ≡ parse (chars line.now) }
 {
-    let (first, left) = split_key(line.trim_start())?;
+    let (first, left) = split_key(skip_white(line))?;
     if let Some(statement) = assigned(first, left) {
         return Ok(statement);
     }

@@ -1,16 +1,20 @@
 //! Cuts texts after runs of characters of one class, and bytes after runs of one kind or after their first line. Runs
 //! are searched by bytes, where that finds the same end.
 
-ghost use Rattle.std.specs.Prelude.{◌≡◌, ◌==◌, ◌++◌, ℕ, List, [], not, false, length, unwrap_or, MatchOption};
-ghost use Rattle.std.specs.Str.{chars, IsUtf8};
+ghost use Rattle.std.specs.Prelude.{◌≡◌, ◌==◌, ◌++◌, ℕ, List, [], not, true, false, length, unwrap_or, IsTrue, MatchOption};
+ghost use Rattle.std.specs.Str.{chars, trim_start, IsUtf8};
 ghost use Rattle.dotenvy_format.specs.Characters.{continues_key, is_empty_or_comment, is_space_or_tab, line_feed};
-ghost use Rattle.std.specs.List.{prefix_len, position_from};
-ghost use Rattle.dotenvy_format.specs.inside.Slices.{BeginsLine, BeginsWith, IsSpan, has_character, is_name_byte, is_of_kind, in_run};
+ghost use Rattle.std.specs.List.{list_all, prefix_len, position_from};
+ghost use Rattle.dotenvy_format.specs.Value.{is_plain};
+ghost use Rattle.dotenvy_format.specs.inside.Slices.{BeginsLine, BeginsWith, IsSpan, PassesBytes, begins_visibly};
+ghost use Rattle.dotenvy_format.specs.inside.Slices.{has_character, is_name_byte, is_of_kind, in_run};
 
-use crate::blocks::{not_ascii_in_line, not_calm, not_in_key, not_in_quotes, not_plain, not_token};
+use crate::blocks::{
+    not_ascii_in_line, not_calm, not_in_key, not_in_quotes, not_inside, not_plain, not_token,
+};
 use crate::classes::{continues_key, is_blank, is_name_byte, is_name_character};
 use crate::dialect::Dialect;
-use memchr::{memchr2, memchr3};
+use memchr::memchr;
 use std::simd::prelude::*;
 
 /// Where a part of a value is.
@@ -39,10 +43,12 @@ pub enum Class {
     Token,
     /// A character between these quotes that neither ends them nor escapes another.
     Quoted(char),
+    /// A character other than a single quote.
+    SingleQuoted,
 }
 
 impl Class {
-    ghost use Rattle.dotenvy_format.specs.inside.Slices.{has_character};
+    ghost use Rattle.dotenvy_format.specs.inside.Slices.{ends_by_bytes, has_character};
 
     /// Whether the character is in this class.
     #[inline(always)]
@@ -58,6 +64,22 @@ impl Class {
             Class::DoubleQuote => c == '"',
             Class::Token => !(is_blank(c) || matches!(c, '\\' | '\'' | '"' | '\n')),
             Class::Quoted(quote) => c != quote && c != '\\',
+            Class::SingleQuoted => c != '\'',
+        }
+    }
+
+    // Whether a run of this class ends where its bytes do: a byte at which these end begins no character of the class.
+    #[inline(always)]
+    fn ends_by_bytes(self) -> bool
+        ensures { result ≡ ends_by_bytes self }
+    {
+        match self {
+            Class::Key
+            | Class::Plain(_)
+            | Class::SpaceOrTab
+            | Class::DoubleQuote
+            | Class::SingleQuoted => true,
+            Class::Name(_) | Class::Token | Class::Quoted(_) => false,
         }
     }
 }
@@ -71,6 +93,27 @@ pub fn split_first(text: &str) -> Option<(char, &str)>
     let mut chars = text.chars();
     let first = chars.next()?;
     Some((first, chars.as_str()))
+}
+
+/// Whether the first character is visible ASCII, so that there is no white space before it.
+#[inline(always)]
+pub fn begins_visibly(text: &str) -> bool
+    ensures { result ≡ begins_visibly text.now }
+{
+    matches!(text.as_bytes().first(), Some(b'!'..=b'~'))
+}
+
+/// The text without white space at its start.
+#[tactic(auto, using(crate::proofs::bytes::Slices::visible_trimmed))]
+#[inline(always)]
+pub fn skip_white(text: &str) -> &str
+    ensures { result.now ≡ trim_start text.now }
+{
+    if begins_visibly(text) {
+        text
+    } else {
+        text.trim_start()
+    }
 }
 
 /// The length of a text in characters. Places of faults in values count so.
@@ -124,6 +167,8 @@ pub enum ByteKind {
     Token,
     /// A character that may follow in a key.
     Key,
+    /// A byte that is a character, or a part of one, which means itself between double quotes.
+    Inside,
     /// A byte that is no quote, backslash, line feed or `#`.
     Calm,
     /// An ASCII character that is no line feed.
@@ -145,6 +190,7 @@ impl ByteKind {
             ByteKind::Plain => KINDS[byte as usize] & PLAIN != 0,
             ByteKind::Token => KINDS[byte as usize] & TOKEN != 0,
             ByteKind::Key => KINDS[byte as usize] & KEY != 0,
+            ByteKind::Inside => !matches!(byte, b'\\' | b'"' | b'$'),
             ByteKind::Calm => !matches!(byte, b'\\' | b'\'' | b'"' | b'\n' | b'#'),
             ByteKind::Ascii => byte.is_ascii() && byte != b'\n',
             ByteKind::Quoted(quote) => byte != quote && !matches!(byte, b'\\' | b'\n'),
@@ -160,6 +206,7 @@ impl ByteKind {
             ByteKind::Plain => not_plain(block),
             ByteKind::Token => not_token(block),
             ByteKind::Key => not_in_key(block),
+            ByteKind::Inside => not_inside(block),
             ByteKind::Calm => not_calm(block),
             ByteKind::Ascii => not_ascii_in_line(block),
             ByteKind::Quoted(quote) => not_in_quotes(block, quote),
@@ -173,6 +220,17 @@ fn row_end(bytes: &[u8], byte: u8) -> Option<usize>
     ensures { result ≡ position_from (λ b. not (b == byte)) 0 bytes.now }
 {
     bytes.iter().position(|b| *b != byte)
+}
+
+/// Whether the byte is a character, or a part of one, that means itself in a value.
+#[inline(always)]
+pub fn is_plain_byte(quoting: Quoting, byte: u8) -> bool
+    ensures { result ≡ is_plain quoting byte }
+{
+    match quoting {
+        Quoting::Unquoted => ByteKind::Plain.contains(byte),
+        Quoting::DoubleQuoted => ByteKind::Inside.contains(byte),
+    }
 }
 
 /// How many bytes at the start of a text are this one, in a row.
@@ -205,9 +263,69 @@ fn block_end(block: u8x16, kind: ByteKind) -> Option<usize>
     }
 }
 
+// How many bytes at the start are of the kind, of which all before the rest are.
+#[inline(always)]
+fn short_run(bytes: &[u8], rest: &[u8], kind: ByteKind) -> usize
+    requires { PassesBytes (is_of_kind kind) bytes.now rest.now }
+    ensures { result ≡ prefix_len (is_of_kind kind) bytes.now }
+{
+    match bytes.split_last_chunk::<16>() {
+        // the last block has some of the bytes before the rest, too
+        Some((front, block)) if rest.len() <= 16 => match block_end(
+            u8x16::from_array(*block),
+            kind,
+        ) {
+            Some(end) => front.len() + end,
+            None => bytes.len(),
+        },
+        _ => bytes.len() - rest.len() + kind_end(rest, kind).unwrap_or(rest.len()),
+    }
+}
+
+// Whether all bytes of some blocks are of the kind.
+#[inline(always)]
+fn are_of_kind(chunk: &[u8], kind: ByteKind) -> bool
+    ensures { result ≡ true → IsTrue (list_all (is_of_kind kind) chunk.now) }
+{
+    let mut others = 0;
+    let mut rest = chunk;
+    'masks: while let Some((block, after)) = rest.split_first_chunk::<16>() {
+        others |= kind.others_in(u8x16::from_array(*block));
+        rest = after;
+    }
+    others == 0 && rest.is_empty()
+}
+
+// What is left of a long run: less than four blocks, or some of which one has a byte of another kind.
+fn after_blocks(bytes: &[u8], kind: ByteKind) -> &[u8]
+    ensures { PassesBytes (is_of_kind kind) bytes.now result.now }
+{
+    let mut rest = bytes;
+    'runs: while let Some((chunk, after)) = rest.split_first_chunk::<64>() {
+        if !are_of_kind(chunk, kind) {
+            return rest;
+        }
+        rest = after;
+    }
+    rest
+}
+
+// Where a run is searched for: in a line of the read buffer, where it is short, or in a value, where it may be long.
+#[derive(Clone, Copy)]
+enum Room {
+    Line,
+    Value,
+}
+
+// Whether after so many bytes a run is worth searching by four blocks at a time.
+#[inline(always)]
+fn is_far(room: Room, passed: usize) -> bool {
+    matches!(room, Room::Value) && passed == 256
+}
+
 // How many bytes at the start are of the kind.
 #[inline(always)]
-fn kind_run(bytes: &[u8], kind: ByteKind) -> usize
+fn kind_run(bytes: &[u8], kind: ByteKind, room: Room) -> usize
     ensures { result ≡ prefix_len (is_of_kind kind) bytes.now }
 {
     let mut rest = bytes;
@@ -216,8 +334,11 @@ fn kind_run(bytes: &[u8], kind: ByteKind) -> usize
             return bytes.len() - rest.len() + end;
         }
         rest = after;
+        if is_far(room, bytes.len() - rest.len()) {
+            rest = after_blocks(rest, kind);
+        }
     }
-    bytes.len() - rest.len() + kind_end(rest, kind).unwrap_or(rest.len())
+    short_run(bytes, rest, kind)
 }
 
 /// Cuts bytes after the longest run of bytes of the kind at their start. Either part may be empty.
@@ -226,7 +347,7 @@ pub fn split_run(bytes: &[u8], kind: ByteKind) -> (&[u8], &[u8])
     ensures { IsSpan (is_of_kind kind) bytes.now result.0.now result.1.now }
 {
     match bytes.first() {
-        Some(first) if kind.contains(*first) => bytes.split_at(kind_run(bytes, kind)),
+        Some(first) if kind.contains(*first) => bytes.split_at(kind_run(bytes, kind, Room::Value)),
         // no block is looked at before a byte of another kind, which often comes right after another one
         _ => (&bytes[..0], bytes),
     }
@@ -240,7 +361,7 @@ pub fn line_of(bytes: &[u8], kind: ByteKind) -> Option<&[u8]>
         ((line : List ℕ) → ¬ (BeginsLine (is_of_kind kind) bytes.now line))
         (λ line. BeginsLine (is_of_kind kind) bytes.now line.now) }
 {
-    let (line, after) = bytes.split_at(kind_run(bytes, kind));
+    let (line, after) = bytes.split_at(kind_run(bytes, kind, Room::Line));
     match after.first() {
         Some(b'\n') => Some(line),
         _ => None,
@@ -268,15 +389,20 @@ fn run_end(bytes: &[u8], class: Class) -> Option<usize>
     ensures { unwrap_or result (length bytes.now) ≡ prefix_len (in_run class) bytes.now }
 {
     match class {
-        Class::Key => Some(kind_run(bytes, ByteKind::Key)),
+        Class::Key => Some(kind_run(bytes, ByteKind::Key, Room::Line)),
         Class::Name(dialect) => name_end(bytes, dialect),
-        Class::Plain(Quoting::Unquoted) => Some(kind_run(bytes, ByteKind::Plain)),
-        Class::Plain(Quoting::DoubleQuoted) => memchr3(b'\\', b'"', b'$', bytes),
+        Class::Plain(Quoting::Unquoted) => Some(kind_run(bytes, ByteKind::Plain, Room::Value)),
+        Class::Plain(Quoting::DoubleQuoted) => Some(kind_run(bytes, ByteKind::Inside, Room::Value)),
         Class::SpaceOrTab => space_or_tab_end(bytes),
         Class::DoubleQuote => row_end(bytes, b'"'),
-        Class::Token => Some(kind_run(bytes, ByteKind::Token)),
-        Class::Quoted(quote) if quote.is_ascii() => memchr2(quote as u8, b'\\', bytes),
+        Class::Token => Some(kind_run(bytes, ByteKind::Token, Room::Value)),
+        Class::Quoted(quote) if quote.is_ascii() => Some(kind_run(
+            bytes,
+            ByteKind::Quoted(quote as u8),
+            Room::Value,
+        )),
         Class::Quoted(_) => Some(0),
+        Class::SingleQuoted => memchr(b'\'', bytes),
     }
 }
 
@@ -288,6 +414,10 @@ pub fn split_while(text: &str, class: Class) -> (&str, &str)
     ensures span { IsSpan (has_character class) (chars text.now) (chars result.0.now)
         (chars result.1.now) }
 {
+    if class.ends_by_bytes() {
+        let bytes = text.as_bytes();
+        return text.split_at(run_end(bytes, class).unwrap_or(bytes.len()));
+    }
     let mut rest = text;
     'runs: loop {
         let bytes = rest.as_bytes();

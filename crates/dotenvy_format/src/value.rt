@@ -1,11 +1,14 @@
 //! Reads what is assigned, piece by piece (docs/GRAMMAR.md, from "Values" to "Substitution").
 
-ghost use Rattle.std.specs.Prelude.{◌≡◌, ◌<◌, ◌==◌, [], IsTrue};
-ghost use Rattle.std.specs.Str.{chars};
+ghost use Rattle.std.specs.Prelude.{◌≡◌, ◌<◌, ◌==◌, [], IsTrue, MatchOption, false, length};
+ghost use Rattle.std.specs.List.{prefix_len};
+ghost use Rattle.std.specs.Str.{chars, IsUtf8};
+ghost use Rattle.dotenvy_format.specs.inside.Slices.{IsSpan};
 ghost use Rattle.dotenvy_format.specs.inside.ReadValue.{base, escaping, in_single, naming, in_tail};
-ghost use Rattle.dotenvy_format.specs.Characters.{begins_passing};
+ghost use Rattle.dotenvy_format.specs.Characters.{backslash, begins_passing};
 ghost use Rattle.dotenvy_format.specs.Value.{is_left_by_name, is_plain};
-ghost use Rattle.dotenvy_format.specs.inside.NextPiece.{other_quoting, kind_of, Escapes, NextPieceIs, IsShorter};
+ghost use Rattle.dotenvy_format.specs.inside.NextPiece.{other_quoting, kind_of, begins_text, begins_text_by, piece_of};
+ghost use Rattle.dotenvy_format.specs.inside.NextPiece.{Escapes, MeansText, NextPieceIs, IsShorter};
 
 use crate::dialect::Dialect;
 use crate::text::{Class, Quoting, is_empty_or_comment, row_len, split_first, split_while};
@@ -33,6 +36,17 @@ pub struct Given<'a> {
     pub quoting: Quoting,
 }
 
+/// A text that a part of a value means, and where the value goes on.
+#[derive(Clone, Copy)]
+pub struct TextPart<'a> {
+    /// The text.
+    pub meant: &'a str,
+    /// What is left of the value after the part.
+    pub rest: &'a str,
+    /// Whether the rest begins in double quotes.
+    pub quoting: Quoting,
+}
+
 /// What comes next in a value.
 #[derive(Clone, Copy)]
 pub enum NextPiece<'a> {
@@ -48,7 +62,7 @@ pub enum NextPiece<'a> {
 
 // What a character begins.
 #[derive(Clone, Copy)]
-enum Kind {
+pub(crate) enum Kind {
     Backslash,
     SingleQuote,
     DoubleQuote,
@@ -58,7 +72,7 @@ enum Kind {
 }
 
 #[inline(always)]
-fn kind_of(quoting: Quoting, c: char) -> Kind
+pub(crate) fn kind_of(quoting: Quoting, c: char) -> Kind
     ensures { result ≡ kind_of quoting c }
 {
     match quoting {
@@ -105,27 +119,61 @@ fn escaped(c: char) -> Option<&'static str>
     }
 }
 
-// What follows a backslash. Each two backslashes in a row there mean one, and an odd one is left. The text right after
-// the backslashes that are meant is taken with them.
+// What so many backslashes in a row after a backslash mean: each two of them mean one, and an odd one is left. The text
+// right after those that are meant is taken with them.
 #[inline(always)]
-fn escape(left: &str, quoting: Quoting) -> NextPiece<'_>
-    ensures { (dialect : _) →
-        NextPieceIs dialect (escaping quoting) (chars left.now) result }
+fn backslashes(left: &str, more: usize, quoting: Quoting) -> TextPart<'_>
+    requires { (0 < more) × (more ≡ prefix_len (λ b. b == backslash) left.now) }
+    ensures { (dialect : _) → MeansText dialect (escaping quoting) (chars left.now) result }
+{
+    let pairs = more / 2 + more % 2;
+    let (_, row) = left.split_at(pairs - 1);
+    let (_, behind) = left.split_at(2 * pairs - 1);
+    let (_, rest) = split_while(behind, Class::Plain(quoting));
+    let (meant, _) = row.split_at(row.len() - rest.len());
+    TextPart {
+        meant,
+        rest,
+        quoting,
+    }
+}
+
+// What a backslash and the character after it mean, if that is an escape.
+#[inline(always)]
+pub(crate) fn escape(left: &str, quoting: Quoting) -> Option<TextPart<'_>>
+    ensures { MatchOption result (begins_text_by Kind.Backslash (chars left.now) ≡ false)
+        (λ part. (dialect : _) → MeansText dialect (escaping quoting) (chars left.now) part) }
+{
+    let (first, rest) = split_first(left)?;
+    let meant = escaped(first)?;
+    Some(TextPart {
+        meant,
+        rest,
+        quoting,
+    })
+}
+
+// As `escape`, with all of the backslashes in a row.
+#[inline(always)]
+fn escapes(left: &str, quoting: Quoting) -> Option<TextPart<'_>>
+    ensures { MatchOption result (begins_text_by Kind.Backslash (chars left.now) ≡ false)
+        (λ part. (dialect : _) → MeansText dialect (escaping quoting) (chars left.now) part) }
 {
     let more = row_len(left, b'\\');
     if more > 0 {
-        let pairs = more / 2 + more % 2;
-        let (_, row) = left.split_at(pairs - 1);
-        let (_, behind) = left.split_at(2 * pairs - 1);
-        let (_, rest) = split_while(behind, Class::Plain(quoting));
-        let (meant, _) = row.split_at(row.len() - rest.len());
-        return NextPiece::Piece(Given {
-            piece: Piece::Text(meant),
-            rest,
-            quoting,
-        });
+        return Some(backslashes(left, more, quoting));
     }
+    escape(left, quoting)
+}
+
+// What follows a backslash that begins no escape.
+fn no_escape(left: &str, quoting: Quoting) -> NextPiece<'_>
+    requires { begins_text_by Kind.Backslash (chars left.now) ≡ false }
+    ensures { (dialect : _) →
+        NextPieceIs dialect (escaping quoting) (chars left.now) result }
+{
     match split_first(left) {
+        Some(_) => NextPiece::Fault(left),
         None => match quoting {
             Quoting::Unquoted => NextPiece::Piece(Given {
                 piece: Piece::LastBackslash,
@@ -134,29 +182,22 @@ fn escape(left: &str, quoting: Quoting) -> NextPiece<'_>
             }),
             Quoting::DoubleQuoted => NextPiece::Unfinished,
         },
-        Some((first, rest)) => match escaped(first) {
-            Some(meant) => NextPiece::Piece(Given {
-                piece: Piece::Text(meant),
-                rest,
-                quoting,
-            }),
-            None => NextPiece::Fault(left),
-        },
     }
 }
 
-// What follows a single quote outside double quotes.
-fn single_quoted(left: &str) -> NextPiece<'_>
-    ensures { (dialect : _) → NextPieceIs dialect (in_single []) (chars left.now) result }
+// The text between a single quote outside double quotes and the next one, if there is one.
+#[inline(always)]
+pub(crate) fn single_quoted(left: &str) -> Option<TextPart<'_>>
+    ensures { MatchOption result (begins_text_by Kind.SingleQuote (chars left.now) ≡ false)
+        (λ part. (dialect : _) → MeansText dialect (in_single []) (chars left.now) part) }
 {
-    match left.split_once('\'') {
-        Some((text, rest)) => NextPiece::Piece(Given {
-            piece: Piece::Text(text),
-            rest,
-            quoting: Quoting::Unquoted,
-        }),
-        None => NextPiece::Unfinished,
-    }
+    let (meant, end) = split_while(left, Class::SingleQuoted);
+    let (_, rest) = split_first(end)?;
+    Some(TextPart {
+        meant,
+        rest,
+        quoting: Quoting::Unquoted,
+    })
 }
 
 // What follows `$`. The character after a bare name is text, or is left to what follows. Of dollars in a row all but the
@@ -222,22 +263,36 @@ fn tail(left: &str) -> NextPiece<'_>
     }
 }
 
-// The text up to the first character that does not mean itself.
-fn plain(text: &str, quoting: Quoting) -> NextPiece<'_>
-    requires { IsTrue (begins_passing (is_plain quoting) (chars text.now)) }
-    ensures next { (dialect : _) →
-        NextPieceIs dialect (base quoting) (chars text.now) result }
-    ensures shorter { IsShorter (chars text.now) result }
+// Cuts a text at the first character that does not mean itself. Each call has a class that is known when it is
+// compiled, which makes it faster.
+#[inline(always)]
+fn split_plain(text: &str, quoting: Quoting) -> (&str, &str)
+    ensures texts { IsUtf8 result.0.now × IsUtf8 result.1.now }
+    ensures span { IsSpan (is_plain quoting) (chars text.now) (chars result.0.now)
+        (chars result.1.now) }
 {
-    let (plain, rest) = split_while(text, Class::Plain(quoting));
-    NextPiece::Piece(Given {
-        piece: Piece::Text(plain),
-        rest,
-        quoting,
-    })
+    match quoting {
+        Quoting::Unquoted => split_while(text, Class::Plain(Quoting::Unquoted)),
+        Quoting::DoubleQuoted => split_while(text, Class::Plain(Quoting::DoubleQuoted)),
+    }
 }
 
-fn other_quoting(quoting: Quoting) -> Quoting
+// The text up to the first character that does not mean itself.
+#[inline(always)]
+pub(crate) fn plain(text: &str, quoting: Quoting) -> TextPart<'_>
+    requires { IsTrue (begins_passing (is_plain quoting) (chars text.now)) }
+    ensures part { (dialect : _) → MeansText dialect (base quoting) (chars text.now) result }
+    ensures shorter { length (chars result.rest.now) < length (chars text.now) }
+{
+    let (meant, rest) = split_plain(text, quoting);
+    TextPart {
+        meant,
+        rest,
+        quoting,
+    }
+}
+
+pub(crate) fn other_quoting(quoting: Quoting) -> Quoting
     ensures { result ≡ other_quoting quoting }
 {
     match quoting {
@@ -247,31 +302,31 @@ fn other_quoting(quoting: Quoting) -> Quoting
 }
 
 // The text in double quotes up to their end, or up to the first character that does not mean itself there.
-fn double_quoted(left: &str) -> NextPiece<'_>
+#[inline(always)]
+fn double_quoted(left: &str) -> TextPart<'_>
     ensures { (dialect : _) →
-        NextPieceIs dialect (base Quoting.DoubleQuoted) (chars left.now) result }
+        MeansText dialect (base Quoting.DoubleQuoted) (chars left.now) result }
 {
-    let (text, end) = split_while(left, Class::Plain(Quoting::DoubleQuoted));
-    let piece = Piece::Text(text);
+    let (meant, end) = split_while(left, Class::Plain(Quoting::DoubleQuoted));
     match split_first(end) {
-        Some(('"', rest)) => NextPiece::Piece(Given {
-            piece,
+        Some(('"', rest)) => TextPart {
+            meant,
             rest,
             quoting: Quoting::Unquoted,
-        }),
-        _ => NextPiece::Piece(Given {
-            piece,
+        },
+        _ => TextPart {
+            meant,
             rest: end,
             quoting: Quoting::DoubleQuoted,
-        }),
+        },
     }
 }
 
 // What follows a double quote. More of them right after it begin and end parts with no text, so they are taken at once.
 #[inline(always)]
-fn double_quote(left: &str, quoting: Quoting) -> NextPiece<'_>
+fn double_quote(left: &str, quoting: Quoting) -> TextPart<'_>
     ensures { (dialect : _) →
-        NextPieceIs dialect (base (other_quoting quoting)) (chars left.now) result }
+        MeansText dialect (base (other_quoting quoting)) (chars left.now) result }
 {
     let (more, rest) = split_while(left, Class::DoubleQuote);
     let quoting = if more.len() % 2 == 0 {
@@ -280,13 +335,43 @@ fn double_quote(left: &str, quoting: Quoting) -> NextPiece<'_>
         quoting
     };
     match quoting {
-        Quoting::Unquoted => NextPiece::Piece(Given {
-            piece: Piece::Text(""),
+        Quoting::Unquoted => TextPart {
+            meant: "",
             rest,
             quoting,
-        }),
+        },
         Quoting::DoubleQuoted => double_quoted(rest),
     }
+}
+
+/// The text that the next part of a value means, read as by [`next_piece`]; `None` where a name, the end of the value
+/// or a fault comes next, or a backslash at the end.
+///
+/// It is as `next_piece` where that gives a text, and quicker.
+#[inline(always)]
+pub fn text_part(text: &str, quoting: Quoting) -> Option<TextPart<'_>>
+    ensures { MatchOption result (begins_text quoting (chars text.now) ≡ false)
+        (λ part. ((dialect : _) → MeansText dialect (base quoting) (chars text.now) part)
+        × (length (chars part.rest.now) < length (chars text.now))) }
+{
+    let (first, left) = split_first(text)?;
+    match kind_of(quoting, first) {
+        Kind::Backslash => escapes(left, quoting),
+        Kind::SingleQuote => single_quoted(left),
+        Kind::DoubleQuote => Some(double_quote(left, quoting)),
+        Kind::Plain => Some(plain(text, quoting)),
+        Kind::Dollar | Kind::SpaceOrTab => None,
+    }
+}
+
+fn text_piece(part: TextPart<'_>) -> NextPiece<'_>
+    ensures { result ≡ piece_of part.entry }
+{
+    NextPiece::Piece(Given {
+        piece: Piece::Text(part.meant),
+        rest: part.rest,
+        quoting: part.quoting,
+    })
 }
 
 /// Reads the next piece of a value from what is left of it.
@@ -306,12 +391,18 @@ pub fn next_piece(text: &str, quoting: Quoting, dialect: Dialect) -> NextPiece<'
             Quoting::DoubleQuoted => NextPiece::Unfinished,
         },
         Some((first, left)) => match kind_of(quoting, first) {
-            Kind::Backslash => escape(left, quoting),
-            Kind::SingleQuote => single_quoted(left),
-            Kind::DoubleQuote => double_quote(left, quoting),
+            Kind::Backslash => match escapes(left, quoting) {
+                Some(part) => text_piece(part),
+                None => no_escape(left, quoting),
+            },
+            Kind::SingleQuote => match single_quoted(left) {
+                Some(part) => text_piece(part),
+                None => NextPiece::Unfinished,
+            },
+            Kind::DoubleQuote => text_piece(double_quote(left, quoting)),
             Kind::Dollar => substitution(left, quoting, dialect),
             Kind::SpaceOrTab => tail(left),
-            Kind::Plain => plain(text, quoting),
+            Kind::Plain => text_piece(plain(text, quoting)),
         },
     }
 }

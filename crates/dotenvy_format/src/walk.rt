@@ -2,14 +2,18 @@
 //! sees which lines need no walk: `whole_line`, `comment_line`.
 
 ghost use Rattle.std.specs.Prelude.{◌≡◌, ◌==◌, ◌∷◌, ℕ, List, None, Some, true, false, MatchOption, IsTrue};
-ghost use Rattle.dotenvy_format.specs.Characters.{is_quote, is_space_or_tab, line_feed};
+ghost use Rattle.std.specs.Str.{IsUtf8};
+ghost use Rattle.dotenvy_format.specs.Characters.{backslash, is_quote, is_space_or_tab, line_feed};
 ghost use Rattle.dotenvy_format.specs.inside.Slices.{BeginsLine, is_ascii_in_line, is_calm};
 ghost use Rattle.dotenvy_format.specs.Tokens.{stands_for_itself};
 ghost use Rattle.dotenvy_format.specs.inside.Walk.{leads_outside, leads, BeginsComment, WalksTo, WalksText};
-ghost use Rattle.dotenvy_format.specs.inside.LineEnd.{BeginsWhole, LeadsOut, from_line_end, line_start, between, unquoted};
+ghost use Rattle.dotenvy_format.specs.inside.LineEnd.{BeginsOpen, BeginsWhole, LeadsOut, from_feed, from_line_end};
+ghost use Rattle.dotenvy_format.specs.inside.LineEnd.{line_start, between, unquoted};
 ghost use Rattle.dotenvy_format.specs.inside.LineEnd.{after_byte, blanks_over, ends_line, hash_leads, is_odd, with_one};
 
-use crate::text::{ByteKind, Class, line_of, row_len, split_first, split_run, split_while};
+use crate::text::{
+    ByteKind, Class, line_of, row_len, split_first, split_run, split_while,
+};
 
 /// What the walk is in the middle of.
 #[derive(Clone, Copy, Drop)]
@@ -128,6 +132,34 @@ fn pass_run(text: &str, mode: LineMode) -> &str
     }
 }
 
+// Whether a backslash and this character lead back to the mode.
+#[inline(always)]
+fn stays_escaped(mode: LineMode, c: char) -> bool
+    ensures { result ≡ true →
+        (next : LineMode) × (leads mode backslash ≡ Some next) × (leads next c ≡ Some mode) }
+{
+    match mode {
+        LineMode::Outside => c != '\n',
+        LineMode::Inside(quote) => quote != '\\',
+        LineMode::Escaping | LineMode::InsideEscaping(_) | LineMode::AfterBlank => false,
+    }
+}
+
+// What is left of a text after the escapes at its start that lead back to the mode.
+#[inline(always)]
+fn pass_escapes(text: &str, mode: LineMode) -> &str
+    ensures { WalksTo mode text.now mode result.now }
+{
+    let mut rest = text;
+    'escapes: while let Some(('\\', behind)) = split_first(rest) {
+        match split_first(behind) {
+            Some((escaped, after)) if stays_escaped(mode, escaped) => rest = after,
+            _ => return rest,
+        }
+    }
+    rest
+}
+
 /// Walks over a text from this mode, to its end or to the end of the logical line.
 pub fn walk_text(text: &str, start: LineMode) -> Walked
     ensures { WalksText start text.now result }
@@ -135,7 +167,7 @@ pub fn walk_text(text: &str, start: LineMode) -> Walked
     let mut mode = start;
     let mut rest = text;
     'walking: loop {
-        rest = pass_run(rest, mode);
+        rest = pass_escapes(pass_run(rest, mode), mode);
         let Some((c, after)) = split_first(rest) else {
             return Walked::Going(mode);
         };
@@ -315,6 +347,15 @@ fn rest_of_line(end: &[u8]) -> Option<&[u8]>
     }
 }
 
+// The bytes as a text, if they are UTF-8.
+#[inline(always)]
+fn as_text(bytes: &[u8]) -> Option<&str>
+    ensures { MatchOption result (¬ (IsUtf8 bytes.now))
+        (λ text. (text.now ≡ bytes.now) × IsUtf8 text.now) }
+{
+    str::from_utf8(bytes).ok()
+}
+
 /// A physical line that is a logical line by itself, without its line feed.
 #[derive(Clone, Copy)]
 pub struct WholeLine<'a> {
@@ -336,10 +377,45 @@ pub fn whole_line(bytes: &[u8]) -> Option<WholeLine<'_>>
 {
     let end = from_line_end(bytes)?;
     let rest = rest_of_line(end)?;
-    match str::from_utf8(&bytes[..bytes.len() - end.len()]) {
-        Ok(kept) => Some(WholeLine { kept, rest }),
-        Err(_) => None,
+    let kept = as_text(&bytes[..bytes.len() - end.len()])?;
+    Some(WholeLine { kept, rest })
+}
+
+// The bytes from the line feed on that ends a line between such quotes, if none closes before.
+#[inline(always)]
+fn from_feed(bytes: &[u8], quote: u8) -> Option<&[u8]>
+    requires { is_quote quote ≡ true }
+    ensures { MatchOption result (from_feed quote false bytes.now ≡ None)
+        (λ end. from_feed quote false bytes.now ≡ Some end.now) }
+{
+    let mut rest = bytes;
+    'escapes: loop {
+        let (_, end) = split_run(rest, ByteKind::Quoted(quote));
+        let (first, behind) = end.split_first()?;
+        if *first == b'\n' {
+            return Some(end);
+        }
+        if *first == quote {
+            return None;
+        }
+        let (escaped, later) = behind.split_first()?;
+        if *escaped == b'\n' {
+            return Some(behind);
+        }
+        rest = later;
     }
+}
+
+/// The first line of the bytes, without its line feed, if all of it is there and is text, and these quotes, which are
+/// open before it, stay open.
+#[inline(always)]
+pub fn open_line(bytes: &[u8], quote: u8) -> Option<&str>
+    requires { is_quote quote ≡ true }
+    ensures { MatchOption result ((line : List ℕ) → ¬ (BeginsOpen quote bytes.now line))
+        (λ line. BeginsOpen quote bytes.now line.now) }
+{
+    let end = from_feed(bytes, quote)?;
+    as_text(&bytes[..bytes.len() - end.len()])
 }
 
 /// The first line of the bytes, without its line feed, if it is whole, begins with `#` and is ASCII.

@@ -1,36 +1,32 @@
 -- What names stand for, by bytes and by characters, and what the passes over a value count.
-use Rattle.std.proofs.Common.{◌≡◌, ℕ, zero, suc, ◌+◌, ◌*◌, ◌≤◌, List, [], ◌∷◌, ◌++◌, Option, Some, None, refl}
+use Rattle.std.proofs.Common.{◌≡◌, ℕ, zero, suc, ◌+◌, ◌*◌, ◌≤◌, List, [], ◌++◌, Option, Some, None, refl}
 use Rattle.std.proofs.Common.{◌∙◌, ap, arith, length, length-append, append_assoc, unwrap_or}
-use Rattle.std.specs.Prelude.{◌^◌, ◌-◌, min, MatchOption}
+use Rattle.std.specs.Prelude.{◌^◌, ◌-◌, min}
 use denote.Ref.{Bor}
 use Rattle.std.specs.Option.{option_or, option_copied}
 use Rattle.std.specs.FinMap as fin
 use Rattle.std.specs.Str.{chars, encode_utf8_all, IsUtf8}
 use Rattle.std.proofs.lemmas.List.{append-nil}
-use Rattle.std.proofs.lemmas.Str.{chars-nil, encodes-chars, encodes-append}
+use Rattle.std.proofs.lemmas.Str.{chars-nil, encodes-chars}
 use Rattle.std.proofs.Math.Nat.{mul-suc}
 use Rattle.dotenvy_format.specs.declared.text.Quoting.TheVariants.{Unquoted}
 use Rattle.dotenvy_format.specs.declared.dialect.Dialect.{Dialect}
 use Rattle.dotenvy_format.specs.Characters.{byte_len}
-use Rattle.dotenvy_format.specs.Value.{Piece, Text, Name, LastBackslash}
+use Rattle.dotenvy_format.specs.Value.{Piece}
 use Rattle.dotenvy_format.specs.Items.{LookUp, meaning, text_of}
 use Rattle.dotenvy_base.specs.Environment.{Texts}
 use Rattle.dotenvy_items.specs.Remembered.{Remembered, recalled}
 use Rattle.dotenvy_format.specs.inside.ReadValue.{ValueMode, base, given, read_value}
-use Rattle.dotenvy_format.specs.inside.NextPiece.{IsReadTo, times}
+use Rattle.dotenvy_format.specs.declared.value.TextPart.{TextPart}
+use Rattle.dotenvy_format.specs.declared.value.Given.{Given}
+use Rattle.dotenvy_format.specs.declared.value.NextPiece.{NextPiece}
+use Rattle.dotenvy_format.specs.declared.value.NextPiece.TheVariants.{Piece as GivesNext, End, Unfinished, Fault}
+use Rattle.dotenvy_format.specs.inside.NextPiece.{IsReadTo, MeansText, NextPieceIs, StopsAt, times}
 use Rattle.dotenvy_items.specs.Meaning.{names_of}
-use Rattle.dotenvy_items.specs.inside.ValuePasses.{saturated, HasRoom, StandsFor}
+use Rattle.dotenvy_items.specs.inside.ValuePasses.{saturated, Appends, HasRoom, MeansAlone, StandsFor}
 use Rattle.dotenvy_items.specs.declared.meaning.Known.{Known}
 use Rattle.dotenvy_format.proofs.values.Values.{given-given}
-
--- one piece more adds its bytes to the meaning
-pub one_more : (look_up : LookUp) (p q : List Piece) →
-    encode_utf8_all (meaning look_up (p ++ q))
-    ≡ encode_utf8_all (meaning look_up p) ++ encode_utf8_all (meaning look_up q)
-one_more look_up [] q = refl
-one_more look_up (Text text ∷ p) q = simp (encodes-append, one_more look_up p q, append_assoc)
-one_more look_up (Name name after ∷ p) q = simp (encodes-append, one_more look_up p q, append_assoc)
-one_more look_up (LastBackslash ∷ p) q = one_more look_up p q
+pub use Rattle.dotenvy_format.proofs.values.TextReads.{one_more}
 
 -- the text that is found by bytes is the one that is found by characters
 pub looked_up : (names : Texts) (remembered : Remembered) (name text : List ℕ) → IsUtf8 name → IsUtf8 text →
@@ -61,14 +57,38 @@ counted look_up p q h k e =
     let all = simp length-append at (ap length (one_more look_up p q)) in
     omega (arith, b, all)
 
--- a text that is all that pieces mean is, with what one more piece means, all that they mean with it
-pub whole_on : (whole new : Option (Bor (List ℕ))) (bytes more : List ℕ) →
-    MatchOption whole (Unit {0}) (λ text. text.now ≡ bytes) →
-    MatchOption new (Unit {0}) (λ one. MatchOption whole ⊥ (λ before. one.now ≡ before.now ++ more)) →
-    MatchOption new (Unit {0}) (λ one. one.now ≡ bytes ++ more)
-whole_on whole None bytes more h k = tt
-whole_on None (Some one) bytes more h k = absurd k
-whole_on (Some before) (Some one) bytes more h k = rw (← h) k
+-- four lists, joined from the front or from behind the first
+pub four_parts : (a b c d : List ℕ) → ((a ++ b) ++ c) ++ d ≡ a ++ ((b ++ c) ++ d)
+four_parts a b c d = rw (append_assoc (a ++ b) c d, append_assoc a b (c ++ d), append_assoc b c d) refl
+
+-- a value of which one part is all means what that part means
+pub means_alone : {value : List ℕ} {part : TextPart}
+    → ((dialect : Dialect) → MeansText dialect (base Unquoted) value part) → part.quoting ≡ Unquoted
+    → chars part.rest.now ≡ [] → MeansAlone value part.meant
+means_alone {value = value} {part = part} means quoting none = λ dialect.
+    let is = means dialect in
+    let left : read_value dialect (chars part.rest.now) (base part.quoting) ≡ Some [] = rw (quoting, none) refl in
+    (is.pieces, all_read dialect _ _ value _ is.pieces is.is_read left, is.means)
+
+-- where no value goes on after pieces, it is none, so nothing could have room
+no_value : {dialect : Dialect} {n : ValueMode} {value rest left : List ℕ} {p : List Piece} (look_up : LookUp)
+    (len capacity : ℕ) → HasRoom dialect look_up value len capacity
+    → IsReadTo dialect (base Unquoted) value p n rest → StopsAt dialect n rest left → ⊥
+no_value look_up len capacity room is stops = rw (is.reads, stops.reads) at room
+
+-- where no piece follows those that were appended, all that the value means was
+pub all_appended : {dialect : Dialect} {n : ValueMode} {value rest new : List ℕ} {p : List Piece}
+    (old : List ℕ) (look_up : LookUp) (len capacity : ℕ) (result : NextPiece)
+    → ((next : Given) → result ≡ GivesNext next → ⊥) → HasRoom dialect look_up value len capacity
+    → IsReadTo dialect (base Unquoted) value p n rest → NextPieceIs dialect n rest result
+    → new ≡ old ++ encode_utf8_all (meaning look_up p) → Appends dialect look_up value old new
+all_appended old look_up len capacity End none room is next new =
+    rw (all_read _ _ _ _ _ _ is next) new
+all_appended old look_up len capacity (GivesNext piece) none room is next new = absurd (none piece refl)
+all_appended old look_up len capacity Unfinished none room is next new =
+    absurd (no_value look_up len capacity room is next)
+all_appended old look_up len capacity (Fault left) none room is next new =
+    absurd (no_value look_up len capacity room is next)
 
 -- where all that a value means fits, its next piece fits behind the pieces before it
 pub room_for : {dialect : Dialect} {m n : ValueMode} {value rest left : List ℕ} {p q : List Piece}

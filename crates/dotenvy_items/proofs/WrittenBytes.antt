@@ -1,5 +1,5 @@
 -- The written form by its bytes: character by character, pair by pair, and how many there are.
-use Rattle.std.proofs.Common.{◌≡◌, ℕ, zero, suc, ◌+◌, Bool, true, false, cond, List, [], ◌∷◌, ◌++◌, ◌≤◌, map}
+use Rattle.std.proofs.Common.{◌≡◌, ℕ, zero, suc, ◌+◌, Bool, true, false, not, cond, List, [], ◌∷◌, ◌++◌, ◌≤◌, map}
 use Rattle.std.proofs.Common.{filter, refl, ap, arith, take, drop, length, length-append, append_assoc}
 use Rattle.std.specs.Prelude.{◌==◌}
 use lib.Utf8.{encode}
@@ -13,8 +13,41 @@ use Rattle.dotenvy_format.specs.Characters.{double_quote, backslash, equals_sign
 use Rattle.std.proofs.lemmas.Bool.Decides.{nat_tests}
 use Rattle.dotenvy_format.specs.inside.Slices.{IsSpan}
 use Rattle.dotenvy_format.specs.Value.{is_plain_inside}
+use Rattle.std.proofs.lemmas.Bool.{and_parts}
+use Rattle.dotenvy_format.proofs.lines.LineEnds.{span_stops}
 use Rattle.dotenvy_format.proofs.Basics.{and_left, and_right, not_is}
 use Rattle.dotenvy_format.specs.Written.{needs_backslash, written_character, written_pair, written_text, written_bytes}
+
+-- a byte that doesn't mean itself between double quotes needs a backslash, and no other
+special : (b : ℕ) → needs_backslash b ≡ not (is_plain_inside b)
+special b = grind (arith, nat_tests)
+
+-- bytes that mean themselves need none
+passed_special : (run rest : List ℕ) → list_all is_plain_inside run ≡ true
+    → filter needs_backslash (run ++ rest) ≡ filter needs_backslash rest
+passed_special [] rest h = refl
+passed_special (b ∷ run) rest h =
+    let parts = and_parts (is_plain_inside b) (list_all is_plain_inside run) h in
+    let no : needs_backslash b ≡ false = rw (special b, parts.0) refl in rw no (passed_special run rest parts.1)
+
+-- behind a run of them, none is left, or one comes first
+pub none_special : {bytes run rest : List ℕ} → IsSpan is_plain_inside bytes run rest → length rest ≡ 0
+    → length (filter needs_backslash bytes) ≡ 0
+none_special {run = run} {rest = []} span e = rw (span.spelled, passed_special run [] span.pass) refl
+none_special {run = run} {rest = b ∷ rest} span e = absurd (omega (arith, e))
+
+pub one_special : {bytes run rest behind : List ℕ} {b : ℕ} → IsSpan is_plain_inside bytes run rest
+    → rest ≡ b ∷ behind
+    → length (filter needs_backslash bytes) ≡ 1 + length (filter needs_backslash behind)
+one_special {run = run} {rest = rest} {behind = behind} {b = b} span parts =
+    let stops : is_plain_inside b ≡ false = span_stops span parts in
+    let is : needs_backslash b ≡ true = rw (special b, stops) refl in
+    rw (span.spelled, passed_special run rest span.pass, parts, is) (omega arith)
+
+-- there are no more than bytes
+pub specials_len : (bytes : List ℕ) → length (filter needs_backslash bytes) ≤ length bytes
+specials_len [] = omega arith
+specials_len (b ∷ bytes) = grind (arith, specials_len bytes)
 
 -- the bytes of a value's last characters, and of the end of its line
 abbrev pub left_bytes : List ℕ → List ℕ

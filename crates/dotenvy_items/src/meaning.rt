@@ -5,7 +5,8 @@ ghost use Rattle.std.specs.String.{string_capacity};
 ghost use Rattle.std.specs.Str.{chars, encode_utf8_all};
 ghost use Rattle.dotenvy_format.specs.inside.NextPiece.{piece_bytes, times};
 ghost use Rattle.dotenvy_items.specs.Meaning.{look_up_of};
-ghost use Rattle.dotenvy_items.specs.inside.ValuePasses.{saturated, IsKnown, IsMeasured, StandsFor, Measures, HasRoom, Appends};
+ghost use Rattle.dotenvy_items.specs.inside.ValuePasses.{saturated, IsKnown, IsMeasured, MeansAlone, StandsFor, Measures};
+ghost use Rattle.dotenvy_items.specs.inside.ValuePasses.{HasRoom, Appends};
 
 use crate::parse::Value;
 use crate::remembered::{Remembered, recall};
@@ -13,7 +14,8 @@ use dotenvy_base::environment::Environment;
 use dotenvy_base::errors::Result;
 use dotenvy_format::dialect::Dialect;
 use dotenvy_format::text::Quoting;
-use dotenvy_format::value::{NextPiece, Piece, next_piece};
+use dotenvy_format::texts::{measure_texts, push_texts};
+use dotenvy_format::value::{NextPiece, Piece, next_piece, text_part};
 use std::alloc::Allocator;
 
 /// The texts that the names of a line stand for.
@@ -41,32 +43,15 @@ struct Step<'n, 'a> {
     known: Option<Known<'n, 'a>>,
 }
 
-// The one text that two make, if one of them is empty.
+// The text that a value means, if one part of it gives it all.
 #[inline(always)]
-fn one_text<'a>(whole: Option<&'a str>, text: &'a str) -> Option<&'a str>
-    ensures { MatchOption result (Unit {0})
-        (λ one. MatchOption whole.entry ⊥ (λ before. one.now ≡ before.now ++ text.now)) }
+fn whole_text(value: &str) -> Option<&str>
+    ensures { MatchOption result (Unit {0}) (MeansAlone (chars value.now)) }
 {
-    let before = whole?;
-    if before.is_empty() {
-        Some(text)
-    } else if text.is_empty() {
-        Some(before)
-    } else {
-        None
-    }
-}
-
-// The one text that pieces make, if one of them gives it all.
-#[inline(always)]
-fn whole_with<'a>(whole: Option<&'a str>, piece: Piece<'a>) -> Option<&'a str>
-    ensures { (look_up : _) → MatchOption result (Unit {0}) (λ one. MatchOption whole.entry ⊥
-        (λ before. one.now ≡ before.now ++ piece_bytes look_up piece.entry)) }
-{
-    match piece {
-        Piece::Text(text) => one_text(whole, text),
-        Piece::Name { name: _, after: _ } | Piece::EmptyNames { more: _ } => None,
-        Piece::LastBackslash => one_text(whole, ""),
+    let part = text_part(value, Quoting::Unquoted)?;
+    match part.quoting {
+        Quoting::Unquoted if part.rest.is_empty() => Some(part.meant),
+        _ => None,
     }
 }
 
@@ -158,19 +143,28 @@ impl<'n, A: Allocator> Names<'n, A> {
     ) -> std::result::Result<Value<'n, 'a>, &'a str>
         ensures { Measures dialect (look_up_of self.now) (chars value.now) result }
     {
+        if let Some(text) = whole_text(value) {
+            return Ok(Value {
+                text: value,
+                len: text.len(),
+                whole: Some(text),
+                known: None,
+            });
+        }
         let mut len: usize = 0;
-        let mut whole = Some("");
         let mut known = None;
         let mut rest = value;
         let mut quoting = Quoting::Unquoted;
-        loop {
-            let given = match next_piece(rest, quoting, dialect) {
+        'pieces: loop {
+            let texts = measure_texts(rest, quoting);
+            len = len.saturating_add(texts.len);
+            let given = match next_piece(texts.rest, texts.quoting, dialect) {
                 NextPiece::Piece(given) => given,
                 NextPiece::End => {
                     return Ok(Value {
                         text: value,
                         len,
-                        whole,
+                        whole: None,
                         known,
                     });
                 }
@@ -179,7 +173,6 @@ impl<'n, A: Allocator> Names<'n, A> {
             };
             let step = self.step(given.piece, known);
             len = len.saturating_add(step.len);
-            whole = whole_with(whole, given.piece);
             known = step.known;
             rest = given.rest;
             quoting = given.quoting;
@@ -238,7 +231,11 @@ impl<'n, A: Allocator> Names<'n, A> {
         let mut known = value.known;
         let mut rest = value.written();
         let mut quoting = Quoting::Unquoted;
-        while let NextPiece::Piece(given) = next_piece(rest, quoting, dialect) {
+        'pieces: loop {
+            let (left, at) = push_texts(text, rest, quoting);
+            let NextPiece::Piece(given) = next_piece(left, at, dialect) else {
+                return;
+            };
             known = self.push_piece(text, given.piece, known);
             rest = given.rest;
             quoting = given.quoting;

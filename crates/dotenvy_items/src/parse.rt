@@ -16,7 +16,7 @@ use dotenvy_base::environment::Environment;
 use dotenvy_base::errors::{Result, fault_error};
 use dotenvy_format::dialect::Dialect;
 use dotenvy_format::statement::split_statement;
-use dotenvy_format::text::{char_count, is_empty_or_comment};
+use dotenvy_format::text::{char_count, is_empty_or_comment, skip_white};
 use std::alloc::Allocator;
 
 pub(crate) type Pair<A> = (String<A>, String<A>);
@@ -104,7 +104,7 @@ pub fn scan_line<'n, 'a, A: Allocator>(
     ensures { Scans dialect (look_up_of names.now) (chars line.now) result }
 {
     let trimmed = line.trim_end();
-    if is_empty_or_comment(trimmed.trim_start()) {
+    if is_empty_or_comment(skip_white(trimmed)) {
         return Ok(None);
     }
     let statement = match split_statement(trimmed) {

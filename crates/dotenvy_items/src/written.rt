@@ -1,6 +1,7 @@
 //! The written form of pairs, and the listing of a file.
 
-ghost use Rattle.std.specs.Prelude.{◌≡◌, ◌≤◌, ◌+◌, ◌++◌, ◌∷◌, [], IfOk, IsTrue, chars, string_bytes, string_len};
+ghost use Rattle.std.specs.Prelude.{◌≡◌, ◌≤◌, ◌+◌, ◌++◌, ◌∷◌, [], filter, length, IfOk, IsTrue, chars, string_bytes};
+ghost use Rattle.std.specs.Prelude.{string_len};
 ghost use Rattle.std.specs.String.{string_capacity};
 ghost use Rattle.dotenvy_format.specs.Keys.{is_key};
 ghost use Rattle.dotenvy_format.specs.Characters.{byte_len};
@@ -18,9 +19,11 @@ use dotenvy_base::errors::Result;
 use dotenvy_base::output::{MOST_WRITES, write_all};
 use dotenvy_base::source::{Sink, Source};
 use dotenvy_format::dialect::Dialect;
-use dotenvy_format::text::{Class, Quoting, row_len, split_first, split_while};
+use dotenvy_format::text::{
+    ByteKind, Class, Quoting, row_len, split_first, split_run, split_while,
+};
+use dotenvy_format::texts::push_short;
 use dotenvy_lines::lines::{READ_LIMIT, Room, Splitter};
-use memchr::memchr3_iter;
 use std::alloc::{AllocError, Allocator};
 use std::mem;
 
@@ -30,13 +33,29 @@ fn needs_backslash(c: char) -> bool
     matches!(c, '\\' | '"' | '$')
 }
 
+// How many of the bytes need a backslash.
+fn special_count(bytes: &[u8]) -> usize
+    ensures { result ≡ length (filter needs_backslash bytes.now) }
+{
+    let mut count = 0;
+    let mut rest = bytes;
+    'runs: loop {
+        let (_, special) = split_run(rest, ByteKind::Inside);
+        let Some((_, behind)) = special.split_first() else {
+            return count;
+        };
+        count += 1;
+        rest = behind;
+    }
+}
+
 // How many bytes the written form of a pair takes, or the greatest number where that is more.
 fn written_len(key: &str, text: &str) -> usize
     ensures { result ≡ saturated (byte_len (written_text ((chars key.now, chars text.now) ∷ []))) }
 {
     let around = "=\"\"\n".len();
     // Each character that needs a backslash is a byte.
-    let backslashes = memchr3_iter(b'\\', b'"', b'$', text.as_bytes()).count();
+    let backslashes = special_count(text.as_bytes());
     key.len()
         .saturating_add(text.len())
         .saturating_add(backslashes)
@@ -60,8 +79,8 @@ fn push_written<A: Allocator>(out: &mut String<A>, key: &str, text: &str)
         if row > 0 {
             // A backslash for each of them, and these themselves.
             let (backslashes, after) = rest.split_at(row);
-            out.push_str(backslashes).unwrap();
-            out.push_str(backslashes).unwrap();
+            push_short(out, backslashes);
+            push_short(out, backslashes);
             rest = after;
         } else if needs_backslash(first) {
             out.push('\\').unwrap();
@@ -69,7 +88,7 @@ fn push_written<A: Allocator>(out: &mut String<A>, key: &str, text: &str)
             rest = after_first;
         } else {
             let (plain, after) = split_while(rest, Class::Plain(Quoting::DoubleQuoted));
-            out.push_str(plain).unwrap();
+            push_short(out, plain);
             rest = after;
         }
     }

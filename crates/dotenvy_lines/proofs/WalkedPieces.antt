@@ -2,7 +2,6 @@
 use Rattle.std.proofs.Common.{◌≡◌, ◌≢◌, ℕ, true, false, List, [], ◌∷◌, ◌++◌, refl, ◌∙◌}
 use Rattle.std.proofs.Common.{append_assoc, get_or, None, arith}
 use Rattle.std.specs.Prelude.{◌==◌, IsUtf8, encode_utf8_all}
-use Rattle.std.proofs.Math.Utf8.{encode}
 use Rattle.std.proofs.lemmas.Str.{encodes-chars}
 use Rattle.std.specs.Char.{is_whitespace}
 use Rattle.std.specs.Str.{chars, skip_leading_whitespace}
@@ -14,7 +13,9 @@ use Rattle.dotenvy_lines.specs.declared.physical_line.Progress.TheVariants.{Blan
 use Rattle.dotenvy_format.specs.Characters.{begins_with, hash, line_feed}
 use Rattle.dotenvy_format.specs.PhysicalLines.{no_line_feed}
 use Rattle.dotenvy_format.specs.inside.Walk.{going, ended, walk, leads}
-use Rattle.dotenvy_lines.specs.inside.TakenLine.{IsNoComment, Walks, WalksOn, WalksFrom, begins_visibly, still_blank}
+use Rattle.dotenvy_format.specs.inside.Slices.{begins_visibly}
+use Rattle.dotenvy_format.proofs.bytes.Slices.{visible_first}
+use Rattle.dotenvy_lines.specs.inside.TakenLine.{IsNoComment, Walks, WalksOn, WalksFrom, still_blank}
 use Rattle.dotenvy_format.proofs.lines.LineTexts.{walk-more}
 use Rattle.dotenvy_lines.proofs.Inputs.{none_parts}
 
@@ -75,12 +76,6 @@ begins-other {mode = mode} piece new q w other =
     continues (Blank mode) piece new q (λ m seen cs before. (before.2, rw before.0 before.3))
     (λ m seen cs none before empty.
     rw (skip-blank cs piece before.1) (other.0, λ k. other.1 (none_parts cs piece k).1)) w
-
--- a first byte that is visible is a character, and no white space
-visible_first : (c : ℕ) (cs : List ℕ) → begins_visibly (encode_utf8_all (c ∷ cs)) ≡ true
-    → (is_whitespace c ≡ false) × (get_or (encode_utf8_all (c ∷ cs)) 0 0 ≡ c)
-unfolding encode
-visible_first c cs h = grind (arith, nat_tests)
 
 -- characters of which the first is visible are no comment, unless it is a hash
 visible_no_comment : (cs : List ℕ) → begins_visibly (encode_utf8_all cs) ≡ true

@@ -1,5 +1,5 @@
 -- A line that is read whole: using it up with its line feed takes it.
-use Rattle.std.proofs.Common.{◌≡◌, ℕ, ◌+◌, ◌≤◌, ◌<◌, Bool, true, List, [], ◌∷◌, ◌++◌, length, take, drop, refl, ap, ◌∙◌}
+use Rattle.std.proofs.Common.{◌≡◌, ◌≢◌, ℕ, ◌+◌, ◌≤◌, ◌<◌, sym, Bool, true, List, [], ◌∷◌, ◌++◌, length, take, drop, refl, ap, ◌∙◌}
 use Rattle.std.proofs.Common.{append_assoc, arith, inl, length-append, Some}
 use Rattle.std.specs.Prelude.{IsUtf8}
 use Rattle.std.specs.Str.{chars, skip_leading_whitespace}
@@ -7,18 +7,20 @@ use Rattle.std.proofs.Math.Utf8.{encode}
 use Rattle.std.proofs.Math.Seq.{drop-append_seam}
 use Rattle.std.proofs.lemmas.List.{take-append-drop}
 use Rattle.std.proofs.lemmas.Str.{IsUtf8-append}
-use Rattle.dotenvy_format.specs.declared.walk.LineMode.TheVariants.{Outside}
-use Rattle.dotenvy_format.specs.Characters.{begins_with, hash, line_feed}
+use Rattle.dotenvy_format.specs.declared.walk.LineMode.TheVariants.{Outside, Inside}
+use Rattle.dotenvy_format.specs.Characters.{begins_with, hash, is_quote, line_feed}
 use Rattle.dotenvy_format.specs.LogicalLine.{without_carriage_return}
 use Rattle.dotenvy_format.specs.PhysicalLines.{no_line_feed}
 use Rattle.dotenvy_format.specs.inside.Slices.{BeginsLine}
-use Rattle.dotenvy_format.specs.inside.LineEnd.{BeginsWhole}
+use Rattle.dotenvy_format.specs.inside.LineEnd.{BeginsOpen, BeginsWhole}
 use Rattle.dotenvy_format.specs.inside.Walk.{BeginsComment}
 use Rattle.dotenvy_format.proofs.lines.WholeLines.{whole_begins, whole_is_shown, whole_line_ends, whole_line_none}
 use Rattle.dotenvy_format.proofs.lines.WholeLines.{whole_text}
+use Rattle.dotenvy_format.proofs.lines.OpenLines.{open_begins, open_line_goes, open_line_text, open_none}
 use Rattle.dotenvy_format.proofs.lines.CommentLines.{comment_none, comment_seen, comment_text}
 use Rattle.dotenvy_base.specs.Source.{Ahead}
 use Rattle.dotenvy_lines.specs.declared.physical_line.Taken.TheVariants.{Ended as taken_ended}
+use Rattle.dotenvy_lines.specs.declared.physical_line.Taken.TheVariants.{Going as taken_going}
 use Rattle.dotenvy_lines.specs.Input.{InputState, input_measure}
 use Rattle.dotenvy_lines.specs.inside.InputSteps.{used_up}
 use Rattle.dotenvy_lines.specs.inside.TakenLine.{LineMakes, TakesTextLine}
@@ -109,6 +111,32 @@ pub closed_falls : {unread kept rest : List ℕ} (s : InputState) → length unr
     → input_measure (used_up (length kept + length rest + 1) s) < input_measure s
 closed_falls {kept = kept} {rest = rest} s len is =
     rw (← length-append kept rest) (whole_falls s len (whole_begins is))
+
+-- so was a line over which quotes stay open
+pub open_taken : {a : Ahead} {s : InputState} {unread line : List ℕ} {quote : ℕ} (seen : List ℕ)
+    → is_quote quote ≡ true → seen ≢ [] → unread ≡ take s.unread a.bytes → length unread ≡ s.unread
+    → s.left ≡ Some a → BeginsOpen quote unread line
+    → LineMakes (Inside quote) seen a s (taken_going (Inside quote)) (seen ++ (chars line ++ line_feed ∷ []))
+    (used_up (length line + 1) s)
+open_taken {line = line} seen quoted some told len left is = (
+  line ++ line_feed ∷ [],
+  whole_taken (record {
+    told = told;
+    len = len;
+    left = left;
+    text = is.text;
+    none = open_none is;
+    begins = open_begins is;
+  }),
+  λ none. absurd (some none),
+  open_line_goes seen quoted is,
+  ap (λ line. seen ++ line) (sym (open_line_text is)),
+)
+
+-- it is no more than the bytes that begin with it
+pub open_within : {quote : ℕ} {unread line : List ℕ} → BeginsOpen quote unread line
+    → length line + 1 ≤ length unread
+open_within is = read_whole (open_begins is)
 
 -- a comment was taken
 pub comment_taken : {a : Ahead} {s : InputState} {unread line : List ℕ} → unread ≡ take s.unread a.bytes

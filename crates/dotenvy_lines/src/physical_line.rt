@@ -1,17 +1,19 @@
 //! One physical line, at once or in the pieces in which it is read, as a part of a logical line.
 
-ghost use Rattle.std.specs.Prelude.{◌≡◌, ◌≤◌, ◌<◌, IfOk, IfErr, IsOk, OnOk, string_bytes};
+ghost use Rattle.std.specs.Prelude.{◌≡◌, ◌≢◌, ◌≤◌, ◌<◌, [], true, IfOk, IfErr, IsOk, OnOk, MatchOption, string_bytes};
 ghost use Rattle.std.specs.Str.{chars};
+ghost use Rattle.dotenvy_format.specs.Characters.{is_quote};
 ghost use Rattle.dotenvy_format.specs.LogicalLine.{without_carriage_return};
 ghost use Rattle.dotenvy_base.specs.Errors.{IsMemory};
 ghost use Rattle.dotenvy_lines.specs.Input.{AsksReads, input_measure};
 ghost use Rattle.dotenvy_lines.specs.inside.InputSteps.{WhereTold};
-ghost use Rattle.dotenvy_lines.specs.inside.TakenLine.{IsTextFront, PieceFalls, TakesComment, TakesLineOn, TakesPieceOn, TakesWhole, WalksFrom, WalksOn, after_text, at_line_end, begins_visibly, starting, still_blank};
+ghost use Rattle.dotenvy_lines.specs.inside.TakenLine.{IsTextFront, PieceFalls, TakesComment, TakesLineOn, TakesOpen, TakesPieceOn, TakesWhole, WalksFrom, WalksOn, after_text, at_line_end, starting, still_blank};
 
 use crate::input::Input;
 use dotenvy_base::errors::Result;
 use dotenvy_base::source::Source;
-use dotenvy_format::walk::{LineMode, Walked, comment_line, walk_text, whole_line};
+use dotenvy_format::text::begins_visibly;
+use dotenvy_format::walk::{LineMode, Walked, comment_line, open_line, walk_text, whole_line};
 use std::alloc::Allocator;
 
 /// How far the walk over a physical line came.
@@ -127,14 +129,6 @@ fn still_blank(progress: Progress) -> Progress
         Progress::Going(mode) => Progress::Blank(mode),
         _ => progress,
     }
-}
-
-// Whether the first character is visible ASCII, so that there is no white space before it.
-#[inline(always)]
-fn begins_visibly(piece: &str) -> bool
-    ensures { result ≡ begins_visibly piece.now }
-{
-    matches!(piece.as_bytes().first(), Some(b'!'..=b'~'))
 }
 
 // One more piece of a line that was blank so far.
@@ -275,6 +269,44 @@ fn take_whole<R: Source, A: Allocator>(
     Ok(true)
 }
 
+// The quote of a part that is open in this mode, if it is one.
+#[inline(always)]
+fn open_quote(mode: LineMode) -> Option<u8>
+    ensures { MatchOption result (Unit {0})
+        (λ quote. (is_quote quote ≡ true) × (mode ≡ LineMode.Inside quote)) }
+{
+    match mode {
+        LineMode::Inside('"') => Some(b'"'),
+        LineMode::Inside('\'') => Some(b'\''),
+        _ => None,
+    }
+}
+
+// Takes the next physical line, if all of it is read and the quotes that are open before it stay open.
+#[tactic(auto, using(crate::proofs::WholeLines::open_within))]
+#[inline(always)]
+fn take_open<R: Source, A: Allocator>(
+    input: &mut Input<R, A>,
+    text: &mut String<A>,
+    quote: u8,
+) -> Result<bool, A>
+    requires { (is_quote quote ≡ true) × (string_bytes text.old ≢ []) }
+    ensures falls { OnOk result (input_measure input.new ≤ input_measure input.old) }
+    ensures open { IfOk result (λ is_open. TakesOpen quote (chars (string_bytes text.old)) input.old is_open
+        (chars (string_bytes text.new)) input.new) }
+    ensures memory { IfErr result IsMemory }
+    ensures asks { AsksReads (Unit {0}) input.old input.new }
+{
+    let Some(line) = open_line(input.unread(), quote) else {
+        return Ok(false);
+    };
+    let taken = line.len() + 1;
+    text.push_str(line)?;
+    text.push('\n')?;
+    input.use_up(taken);
+    Ok(true)
+}
+
 /// Takes the next physical line.
 ///
 /// `text` is what the logical line keeps so far, and is empty before its first line.
@@ -296,6 +328,11 @@ pub fn take_line<R: Source, A: Allocator>(
     if let LineMode::Outside = mode {
         if take_whole(input, text)? {
             return Ok(Taken::Ended);
+        }
+    }
+    if let Some(quote) = open_quote(mode) {
+        if !text.is_empty() && take_open(input, text, quote)? {
+            return Ok(Taken::Going(mode));
         }
     }
     take_pieces(input, text, mode)

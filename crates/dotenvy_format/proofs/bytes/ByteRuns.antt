@@ -2,28 +2,29 @@
 use Rattle.std.proofs.Common.{◌≡◌, ℕ, ◌+◌, ◌-◌, ◌<◌, ◌≤◌, ltb, Bool, true, false, not, filter, ◌&&◌}
 use Rattle.std.proofs.Common.{List, [], ◌∷◌, ◌++◌, refl, sym, ap, arith, take-add, lt-ltb, le-ltb, zero-add}
 use Rattle.std.proofs.Common.{take, drop, length, length-append, length-drop, append_assoc}
-use Rattle.std.specs.Prelude.{◌==◌, ◌||◌, Option, Some, None, unwrap_or}
+use Rattle.std.specs.Prelude.{Option, Some, None, unwrap_or}
 use Rattle.std.specs.List.{list_all, prefix_len, position_from}
 use Rattle.std.specs.Str.{chars, IsUtf8, IsCharBoundary, encode_utf8_all}
 use Rattle.std.proofs.Math.Utf8.{encode, scalar, scalars}
-use Rattle.std.proofs.Math.Seq.{take-append_seam, drop-append_seam}
+use Rattle.std.proofs.Math.Seq.{take-append_seam, drop-append_seam, drop-append-add}
 use Rattle.std.proofs.lemmas.List.Sums.{position_or_len_is}
 use Rattle.std.proofs.lemmas.List.Folds.{list_all-append}
 use Rattle.std.proofs.lemmas.List.Elements.{filter-append}
-use Rattle.std.proofs.lemmas.List.{take-append-drop, drop-drop}
+use Rattle.std.proofs.lemmas.List.{append-nil, take-append-drop, drop-drop}
 use Rattle.std.proofs.lemmas.Bool.Decides.{nat_tests}
 use Rattle.std.proofs.lemmas.Bool.{and_parts, false_from_ne_true, cases_Bool}
-use Rattle.std.proofs.Common.{inl, inr}
+use Rattle.std.proofs.Common.{inl, inr, ◌∙◌}
 use Rattle.std.proofs.lemmas.Str.{chars-nil, chars-append, encodes-chars, IsUtf8-nil}
 use Rattle.std.proofs.lemmas.Str.{IsUtf8-take, IsUtf8-drop}
 use Rattle.std.proofs.lemmas.Str.{IsCharBoundary-at_seam, IsCharBoundary-start, IsCharBoundary-from_rest}
-use Rattle.memchr.specs.Find.{IsFirstByte, is_byte2}
+use Rattle.memchr.specs.Find.{IsFirstByte}
 use Rattle.dotenvy_format.specs.declared.text.Class.TheVariants.{Quoted}
-use Rattle.dotenvy_format.specs.Characters.{backslash, begins_passing}
-use Rattle.dotenvy_format.specs.inside.Slices.{BeginsWith, IsSpan, PassesBytes, PassesTo, in_run}
+use Rattle.dotenvy_format.specs.Characters.{begins_passing}
+use Rattle.dotenvy_format.specs.inside.Slices.{BeginsWith, IsSpan, PassesBytes, PassesTo, ends_by_bytes, in_run}
+use Rattle.dotenvy_format.specs.inside.Slices.{is_in_quotes}
 use Rattle.dotenvy_format.specs.declared.text.Class.{Class}
 use Rattle.dotenvy_format.specs.inside.Slices.{has_character}
-use Rattle.dotenvy_format.proofs.bytes.ByteClasses.{lead, character_passes, bytes_pass, none_begins}
+use Rattle.dotenvy_format.proofs.bytes.ByteClasses.{lead, character_passes, bytes_pass, first_fails, none_begins}
 use Rattle.dotenvy_format.proofs.bytes.Slices.{begins_with_first, first_alone}
 
 -- a run of bytes that pass, put before others, lengthens the run at their front by its own length
@@ -96,13 +97,11 @@ run_to_byte test bytes (Some n) found =
     let fails = λ (k : ℕ) (h : k < n). false_from_ne_true _ (found.0.before k (omega arith) h) in
     sym (position_or_len_is test bytes n 0 (omega arith) fails (λ h. found.1))
 
--- a search for an ASCII quote or a backslash gives where the bytes between these quotes end
-pub run_quoted : (quote : ℕ) (bytes : List ℕ) (found : Option ℕ) → quote < 128
-    → IsFirstByte (is_byte2 quote backslash) bytes found
-    → unwrap_or found (length bytes)
-    ≡ prefix_len (λ b. ltb quote 128 && not (b == quote || b == backslash)) bytes
-run_quoted quote bytes found small h =
-    simp (lt-ltb quote 128 small) (run_to_byte (is_byte2 quote backslash) bytes found h)
+-- between these quotes, if they are ASCII, a run ends where its bytes do
+pub run_quoted : (quote : ℕ) (bytes : List ℕ) (len : ℕ) → quote < 128
+    → len ≡ prefix_len (is_in_quotes quote) bytes
+    → len ≡ prefix_len (λ b. ltb quote 128 && is_in_quotes quote b) bytes
+run_quoted quote bytes len small h = simp (lt-ltb quote 128 small) h
 
 -- where the quote isn't ASCII, the run of bytes between quotes counts as empty
 pub no_quoted_run : (quote : ℕ) (bytes : List ℕ) → 128 ≤ quote → 0 ≡ prefix_len (in_run (Quoted quote)) bytes
@@ -111,6 +110,35 @@ no_quoted_run quote (b ∷ bytes) large = rw (le-ltb quote 128 large)
 
 -- where a run of bytes ends, by how it is searched
 pub ruleset run_ends = (run_to_position, run_to_byte, run_quoted, no_quoted_run)
+
+-- behind the bytes that pass at the front of a text, given as characters, none of such a class begins
+class_end : (class : Class) (cs : List ℕ) → scalars cs ≡ true → ends_by_bytes class ≡ true
+    → not (begins_passing (has_character class)
+    (chars (drop (prefix_len (in_run class) (encode_utf8_all cs)) (encode_utf8_all cs)))) ≡ true
+class_end class [] are by = rw chars-nil refl
+class_end class (c ∷ cs) are by =
+    let later = encode_utf8_all cs in
+    let utf8 : IsUtf8 (encode c ++ later) = (c ∷ cs, (are, refl)) in
+    elim (cases_Bool (in_run class (lead c))) [
+      | inl h ↦
+          let rest = class_end class cs (and_parts (scalar c) (scalars cs) are).1 by in
+          rw (passed_over (in_run class) (encode c) later (bytes_pass class c h), drop-append-add (encode c) later _) rest
+      | inr h ↦
+          let begins = begins_with_first (encode c ++ later) later c utf8 refl in
+          rw (none_begins (in_run class) c later h, begins.characters) (rw (first_fails class c by h) refl)
+    ]
+
+-- so a text is cut there into the longest run of the class, and the rest
+pub run_cut : (class : Class) {text bytes : List ℕ} {end len : ℕ} → IsUtf8 text → bytes ≡ text
+    → end ≡ prefix_len (in_run class) bytes → len ≡ end → ends_by_bytes class ≡ true
+    → IsSpan (has_character class) (chars text) (chars (take len text)) (chars (drop len text))
+run_cut class {text} utf8 same is e by =
+    let passes = run_passes class utf8 same is e in
+    let front = IsUtf8-take text _ utf8 passes.boundary in record {
+      spelled = rw (← chars-append (take _ text) (drop _ text) front, take-append-drop);
+      pass = passes.pass;
+      longest = rw (e, is, same) (rw utf8.1.1 at (class_end class utf8.0 utf8.1.0 by));
+    }
 
 -- the characters of a text pass up to where this is left of it
 pub record Passed (passes : ℕ → Bool) (text rest : List ℕ) : Type 0 where
@@ -186,14 +214,33 @@ none_fails : (passes : ℕ → Bool) (n : ℕ) (bs : List ℕ) → position_from
 none_fails passes n [] h = refl
 none_fails passes n (b ∷ bs) h = grind (arith, none_fails passes (n + 1) bs)
 
+-- nothing is passed yet
+pub passed_nothing : {passes : ℕ → Bool} (bytes : List ℕ) → PassesBytes passes bytes bytes
+passed_nothing bytes = record { front = []; spelled = refl; pass = refl }
+
+-- bytes that all pass may be passed too
+pub passes_more : {passes : ℕ → Bool} {bytes rest after : List ℕ} (more : List ℕ) → PassesBytes passes bytes rest
+    → rest ≡ more ++ after → list_all passes more ≡ true → PassesBytes passes bytes after
+passes_more {passes} {after} more before parts all = record {
+  front = before.front ++ more;
+  spelled = rw (before.spelled, parts, append_assoc);
+  pass = rw (list_all-append, before.pass) all;
+}
+
+-- so may all before a rest that is left of others
+pub passes_both : {passes : ℕ → Bool} {bytes rest after : List ℕ} → PassesBytes passes bytes rest
+    → PassesBytes passes rest after → PassesBytes passes bytes after
+passes_both before next = passes_more next.front before next.spelled next.pass
+
+-- where nothing is left, all pass
+pub all_passed : {passes : ℕ → Bool} {bytes rest : List ℕ} → PassesBytes passes bytes rest → rest ≡ []
+    → list_all passes bytes ≡ true
+all_passed before none = rw (before.spelled, none, append-nil before.front) before.pass
+
 -- a block in which a search for a byte that fails finds none may be passed too
 pub passes_block : {passes : ℕ → Bool} {bytes rest after : List ℕ} (block : List ℕ) → PassesBytes passes bytes rest
     → rest ≡ block ++ after → position_from (λ b. not (passes b)) 0 block ≡ None → PassesBytes passes bytes after
-passes_block {passes} {after} block before parts none = record {
-  front = before.front ++ block;
-  spelled = rw (before.spelled, parts, append_assoc);
-  pass = rw (list_all-append, before.pass) (none_fails passes 0 block none);
-}
+passes_block {passes} block before parts none = passes_more block before parts (none_fails passes 0 block none)
 
 -- after bytes that pass, the run goes on to where a search in the others finds one that fails
 pub run_behind : {passes : ℕ → Bool} {bytes rest : List ℕ} {found : Option ℕ} → PassesBytes passes bytes rest
@@ -216,3 +263,41 @@ pub run_in_block : {passes : ℕ → Bool} {bytes rest : List ℕ} {end : ℕ} (
     → length bytes - length rest + end ≡ prefix_len passes bytes
 run_in_block {passes} {end = end} block after before parts found =
     run_behind {found = Some end} before (rw parts (found_in_front (λ b. not (passes b)) 0 block after end found))
+
+-- where bytes that pass come before a rest, those before a longer rest pass, too
+front_passes : (passes : ℕ → Bool) (front block before rest : List ℕ) → front ++ block ≡ before ++ rest
+    → length rest ≤ length block → list_all passes before ≡ true → list_all passes front ≡ true
+front_passes passes [] block before rest e less h = refl
+front_passes passes (x ∷ front) block [] rest e less h =
+    absurd (omega (arith, ap length e, less, length-append front block))
+front_passes passes (x ∷ front) block (y ∷ before) rest e less h =
+    let heads : x ≡ y = cc in
+    let tails : front ++ block ≡ before ++ rest = cc in
+    let parts = and_parts (passes y) (list_all passes before) h in
+    rw (heads, parts.0) (front_passes passes front block before rest tails less parts.1)
+
+-- where a run goes on at least to a rest, what a search finds in the last bytes of all ends it, if they begin before
+pub run_in_last : {passes : ℕ → Bool} {bytes rest : List ℕ} (front block : List ℕ) {found : Option ℕ}
+    → PassesBytes passes bytes rest → bytes ≡ front ++ block → length rest ≤ length block
+    → found ≡ position_from (λ b. not (passes b)) 0 block
+    → length front + unwrap_or found (length block) ≡ prefix_len passes bytes
+run_in_last {passes} {bytes} {rest} front block {found} before parts less e =
+    let shorter : PassesBytes passes bytes block = record {
+      front = front;
+      spelled = parts;
+      pass = front_passes passes front block before.front rest (sym parts ∙ before.spelled) less before.pass;
+    } in
+    let size = ap length parts in
+    let whole = run_behind shorter e in
+    omega (arith, size, whole, length-append front block)
+
+-- where the run goes on to the end, all bytes pass
+pub all_in_run : (passes : ℕ → Bool) (bytes : List ℕ) → prefix_len passes bytes ≡ length bytes
+    → list_all passes bytes ≡ true
+all_in_run passes [] h = refl
+all_in_run passes (b ∷ bytes) h = grind (arith, all_in_run passes bytes)
+
+-- two parts of a list make it
+pub cut_parts : {bytes front block : List ℕ} (n : ℕ) → front ≡ take n bytes → block ≡ drop n bytes
+    → bytes ≡ front ++ block
+cut_parts {bytes} n f b = rw (f, b) (sym (take-append-drop n bytes))

@@ -1,10 +1,14 @@
 -- Slices of a text and their characters.
 use Rattle.std.proofs.Common.{◌≡◌, ◌≢◌, ℕ, ◌<◌, arith, Bool, true, not, List, [], ◌∷◌, ◌++◌, refl, sym, ap}
-use Rattle.std.proofs.Common.{take, drop, length, length-drop, length-append, zero-add}
+use Rattle.std.proofs.Common.{take, drop, length, length-drop, length-append, zero-add, false, get_or}
 use Rattle.std.specs.Prelude.{◌==◌}
 use Rattle.std.specs.Char.{encode_utf8, len_utf8}
 use Rattle.std.specs.List.{list_all}
 use Rattle.std.specs.Str.{chars, encode_utf8_all, IsUtf8, IsCharBoundary, NonePass, NoCharPasses}
+use Rattle.std.specs.Str.{skip_leading_whitespace, trim_start}
+use Rattle.std.specs.Char.{is_whitespace}
+use Rattle.std.proofs.Math.Utf8.{encode}
+use Rattle.std.proofs.lemmas.Bool.Decides.{nat_tests}
 use Rattle.std.specs.Str.Pattern.{HasCharAt}
 use Rattle.std.proofs.lemmas.Bool.{ne_eqb}
 use Rattle.std.proofs.lemmas.Str.{chars-nil, chars_past_char, chars-append, chars_from_encodes}
@@ -15,7 +19,24 @@ use Rattle.std.proofs.lemmas.Str.Pattern.{drop_at_char}
 use Rattle.std.proofs.lemmas.List.{take-append-drop, take_at, append-nil}
 use Rattle.std.proofs.Math.Seq.{take-append_seam}
 use Rattle.dotenvy_format.specs.Characters.{begins_with}
-use Rattle.dotenvy_format.specs.inside.Slices.{BeginsWith}
+use Rattle.dotenvy_format.specs.inside.Slices.{BeginsWith, begins_visibly}
+
+-- a first byte that is visible is a character, and no white space
+pub visible_first : (c : ℕ) (cs : List ℕ) → begins_visibly (encode_utf8_all (c ∷ cs)) ≡ true
+    → (is_whitespace c ≡ false) × (get_or (encode_utf8_all (c ∷ cs)) 0 0 ≡ c)
+unfolding encode
+visible_first c cs h = grind (arith, nat_tests)
+
+-- nothing is skipped before it
+visible_stays : (cs : List ℕ) → begins_visibly (encode_utf8_all cs) ≡ true → skip_leading_whitespace cs ≡ cs
+visible_stays [] h = refl
+visible_stays (c ∷ cs) h = rw (visible_first c cs h).0 refl
+
+-- so a text that begins with one has no white space at its start
+pub visible_trimmed : (text : List ℕ) → IsUtf8 text → begins_visibly text ≡ true → text ≡ trim_start text
+unfolding trim_start
+visible_trimmed text u h =
+    rw (visible_stays (chars text) (rw (encodes-chars text u) h), encodes-chars text u) refl
 
 -- a text that begins with a character's bytes begins with that character, and a text follows
 pub begins_with_first : (text rest : List ℕ) (c : ℕ) → IsUtf8 text → text ≡ encode_utf8 c ++ rest →

@@ -33,7 +33,7 @@ pub calm_passed : (blanks : Blanks) {bytes run rest : List ℕ} → IsSpan is_ca
 calm_passed blanks {run = run} {rest = rest} span = rw span.spelled (over_calm blanks run rest span.pass)
 
 -- a byte between quotes is no line feed, no such quote and no backslash
-quoted_tests : (quote b : ℕ) → is_in_quotes quote b ≡ true
+pub quoted_tests : (quote b : ℕ) → is_in_quotes quote b ≡ true
     → ((b == line_feed) ≡ false) × ((b == quote) ≡ false) × ((b == backslash) ≡ false)
 quoted_tests quote b h = (grind (arith, nat_tests), grind (arith, nat_tests), grind (arith, nat_tests))
 

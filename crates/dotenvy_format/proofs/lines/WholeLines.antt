@@ -97,7 +97,7 @@ shown (c ∷ cs) more there b led ends alone =
     ]
 
 -- the bytes before the end of the logical line, by their number
-cut_kept : {bytes kept : List ℕ} (end : List ℕ) (n : ℕ) → bytes ≡ kept ++ end → n ≡ length bytes - length end
+pub cut_kept : {bytes kept : List ℕ} (end : List ℕ) (n : ℕ) → bytes ≡ kept ++ end → n ≡ length bytes - length end
     → take n bytes ≡ kept
 cut_kept {bytes} {kept} end n parts e =
     let size : n ≡ length kept = omega (arith, e, ap length parts, length-append kept end) in

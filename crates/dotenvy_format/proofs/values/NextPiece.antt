@@ -1,7 +1,8 @@
 -- How the pieces that the code reads follow from the reader of values.
-use Rattle.std.proofs.lemmas.Bool.{and_parts}
+use Rattle.std.proofs.lemmas.Bool.{and_parts, eqb-true, not-false, not-true}
 use Rattle.std.proofs.Common.{◌≡◌, ◌≢◌, ℕ, suc, ◌%◌, ◌<◌, true, false, not, ◌&&◌, List, [], ◌∷◌, ◌++◌}
-use Rattle.std.proofs.Common.{Some, refl, arith, length}
+use Rattle.std.proofs.Common.{Option, Some, None, refl, arith, length}
+use Rattle.std.specs.Prelude.{MatchOption}
 use Rattle.std.specs.Prelude.{◌==◌, if◌then◌else◌}
 use Rattle.std.specs.List.{list_all}
 use denote.Ref.{Bor}
@@ -12,6 +13,7 @@ use Rattle.std.proofs.lemmas.Grind.{common_steps}
 use Rattle.std.proofs.lemmas.Bool.Decides.{nat_tests}
 use Rattle.std.proofs.lemmas.Str.{chars-encodes, scalars-chars, encodes-append, encode_ascii}
 use Rattle.dotenvy_format.specs.declared.dialect.Dialect.{Dialect}
+use Rattle.dotenvy_format.specs.declared.dialect.Dialect.TheVariants.{V15}
 use Rattle.dotenvy_format.specs.declared.text.Quoting.{Quoting}
 use Rattle.dotenvy_format.specs.declared.text.Quoting.TheVariants.{Unquoted, DoubleQuoted}
 use Rattle.dotenvy_format.specs.declared.value.Kind.{Kind}
@@ -20,19 +22,23 @@ use Rattle.dotenvy_format.specs.declared.value.Kind.TheVariants.{DoubleQuote, Do
 use Rattle.dotenvy_format.specs.declared.value.Kind.TheVariants.{Plain}
 use Rattle.dotenvy_format.specs.declared.value.Piece.TheVariants.{Text as CodeText, Name as CodeName}
 use Rattle.dotenvy_format.specs.declared.value.NextPiece.{NextPiece}
+use Rattle.dotenvy_format.specs.declared.value.TextPart.{TextPart}
 use Rattle.dotenvy_format.specs.declared.value.NextPiece.TheVariants.{Piece as GivesNext, End, Unfinished, Fault}
-use Rattle.dotenvy_format.specs.Characters.{double_quote, left_brace, is_space_or_tab, is_name_character}
+use Rattle.dotenvy_format.specs.Characters.{double_quote, single_quote, left_brace, is_space_or_tab}
+use Rattle.dotenvy_format.specs.Characters.{is_name_character}
 use Rattle.dotenvy_format.specs.Characters.{is_empty_or_comment, begins_with, begins_passing}
 use Rattle.dotenvy_format.specs.inside.Slices.{BeginsWith, IsSpan}
 use Rattle.dotenvy_format.specs.Value.{Text, Name}
-use Rattle.dotenvy_format.specs.Value.{is_plain, is_left_by_name, ends_name}
+use Rattle.dotenvy_format.specs.Value.{is_escape, is_plain, is_left_by_name, ends_name}
 use Rattle.dotenvy_format.specs.Items.{LookUp, meaning}
 use Rattle.dotenvy_format.specs.inside.ReadValue.{ValueMode, base, escaping, in_single, naming, in_tail}
 use Rattle.dotenvy_format.specs.inside.ReadValue.{ValueStep, value_goes}
 use Rattle.dotenvy_format.specs.inside.NextPiece.{other_quoting, is_empty, kind_of, IsReadTo}
 use Rattle.dotenvy_format.specs.inside.NextPiece.{GivesPiece, StopsAt, NextPieceIs, IsShorter, without_texts}
+use Rattle.dotenvy_format.specs.inside.NextPiece.{MeansText, begins_text, begins_text_by, piece_of}
 pub use Rattle.dotenvy_format.proofs.values.Readings.{none_read}
-use Rattle.dotenvy_format.proofs.values.Readings.{one, stop, read_then, stop_then, each_text, plain_run}
+use Rattle.dotenvy_format.proofs.values.Readings.{one, stop, read_then, stop_then, stop_open, each_text, plain_run}
+use Rattle.dotenvy_format.proofs.values.Readings.{single_run}
 
 -- after characters that complete no piece, what comes next is what comes next from before them
 pub next_after : {dialect : Dialect} {m n : ValueMode} {text left : List ℕ} (result : NextPiece) →
@@ -76,6 +82,32 @@ next_by_kind dialect q {n = n} {cs = cs} result e k g h = record {
   shorter = rw e (grind (arith, common_steps));
 }
 
+-- after characters that complete no piece, a text is meant as from before them
+pub means_after : {dialect : Dialect} {m n : ValueMode} {text left : List ℕ} {part : TextPart}
+    → IsReadTo dialect m text [] n left → MeansText dialect n left part → MeansText dialect m text part
+means_after {part = part} a h = next_after (piece_of part) a h
+
+-- a text that is meant after a first character that begins something is meant with it, and leaves fewer characters
+pub means_by_kind : {q : Quoting} {kind : Kind} {n : ValueMode} {text cs : List ℕ} {c : ℕ} {part : TextPart}
+    → text ≡ c ∷ cs → kind ≡ kind_of q c → goes_kind kind q c ≡ Some (n, [])
+    → ((dialect : Dialect) → MeansText dialect n cs part)
+    → ((dialect : Dialect) → MeansText dialect (base q) text part)
+    × (length (chars part.rest.now) < length text)
+means_by_kind {q = q} {part = part} e k g h = (
+  λ dialect. (next_by_kind dialect q (piece_of part) e k g (h dialect)).next,
+  (next_by_kind V15 q (piece_of part) e k g (h V15)).shorter,
+)
+
+-- so is one that may be meant
+pub part_by_kind : (q : Quoting) {kind : Kind} {n : ValueMode} {text cs : List ℕ} {c : ℕ} (found : Option TextPart)
+    → text ≡ c ∷ cs → kind ≡ kind_of q c → goes_kind kind q c ≡ Some (n, [])
+    → MatchOption found (begins_text_by kind cs ≡ false) (λ part. (dialect : Dialect) → MeansText dialect n cs part)
+    → MatchOption found (begins_text q text ≡ false)
+    (λ part. ((dialect : Dialect) → MeansText dialect (base q) text part)
+    × (length (chars part.rest.now) < length text))
+part_by_kind q None e k g h = rw (e, ← k) h
+part_by_kind q (Some part) e k g h = means_by_kind e k g h
+
 -- texts of one character each mean these characters in a row
 meaning-each : (look_up : LookUp) (cs : List ℕ) → meaning look_up (each_text cs) ≡ cs
 meaning-each look_up [] = refl
@@ -99,6 +131,15 @@ gives_texts cs u e read = record {
   names = without_texts-each cs;
 }
 
+-- one character that means itself is meant, and fewer are left
+pub one_plain : {q : Quoting} {text : List ℕ} {c : ℕ} {meant rest : Bor (List ℕ)} → text ≡ c ∷ chars rest.now
+    → Plain ≡ kind_of q c → IsUtf8 rest.now → meant.now ≡ encode_utf8_all (c ∷ [])
+    → ((dialect : Dialect) → MeansText dialect (base q) text (record { meant = meant; rest = rest; quoting = q }))
+    × (length (chars rest.now) < length text)
+one_plain {q = q} {c = c} e k u m =
+    let is : list_all (is_plain q) (c ∷ []) ≡ true = rw (kind_plain q c k) refl in
+    (λ dialect. gives_texts (c ∷ []) u m (rw e (plain_run dialect q (c ∷ []) _ is)), rw e (omega arith))
+
 -- a name and the characters after it are given as that name, and a text that has the bytes of these characters
 pub gives_name : {dialect : Dialect} {m : ValueMode} {q : Quoting} {text : List ℕ}
     {name follows rest : Bor (List ℕ)} (after : List ℕ) → IsUtf8 rest.now → scalars after ≡ true →
@@ -117,6 +158,29 @@ gives_name after u are e read = record {
 pub own_bytes : (c : ℕ) (row : List ℕ) → c < 128 → list_all (λ d. d == c) row ≡ true → encode_utf8_all row ≡ row
 own_bytes c [] small h = refl
 own_bytes c (d ∷ row) small h = grind (arith, nat_tests, encode_ascii c small, own_bytes c row small)
+
+-- behind a run without a single quote, the first character is one
+pub behind_single : {text run rest behind : List ℕ} {c : ℕ} → IsSpan (λ d. not (d == single_quote)) text run rest
+    → rest ≡ c ∷ behind → text ≡ run ++ single_quote ∷ behind
+behind_single {run = run} {behind = behind} {c = c} span parts =
+    let is : c ≡ single_quote = eqb-true c single_quote (not-false _ (not-true _ (rw parts at span.longest))) in
+    rw (span.spelled, parts, is) refl
+
+-- where nothing is behind such a run, no text begins
+pub none_single : {text run rest : List ℕ} → IsSpan (λ d. not (d == single_quote)) text run rest → rest ≡ []
+    → begins_text_by SingleQuote text ≡ false
+none_single {run = run} span none = rw (span.spelled, none, append-nil run, span.pass) refl
+
+-- where no single quote follows one, the text lacks the end of its value
+pub single_stops : (dialect : Dialect) (text : List ℕ) → begins_text_by SingleQuote text ≡ false
+    → StopsAt dialect (in_single []) text []
+single_stops dialect text h =
+    stop_open text (single_run text [] (not-false (list_all (λ c. not (c == single_quote)) text) h)) refl
+
+-- a character behind a backslash that is no escape is a fault where it is
+pub no_escape_stops : (dialect : Dialect) (q : Quoting) (c : ℕ) (cs : List ℕ) → is_escape c ≡ false
+    → StopsAt dialect (escaping q) (c ∷ cs) (c ∷ cs)
+no_escape_stops dialect q c cs h = stop (rw (h, value_goes))
 
 -- in a value's tail, a character that is no space, tab or `#` is a fault where it is
 pub tail_stops : (dialect : Dialect) (comment : List ℕ) → not (begins_passing is_space_or_tab comment) ≡ true →

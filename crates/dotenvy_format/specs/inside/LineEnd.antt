@@ -104,3 +104,18 @@ pub record BeginsWhole (bytes kept rest : List ℕ) : Type 0 where
   pub begins : bytes ≡ kept ++ end
   pub ends : from_line_end line_start bytes ≡ Some end
   pub line : BeginsLine is_ascii_in_line end rest
+
+-- the bytes from the line feed on that ends a line between such quotes; `None` where one closes before, or none comes
+abbrev pub from_feed : ℕ → Bool → List ℕ → Option (List ℕ)
+from_feed quote escaped [] = None
+from_feed quote escaped (b ∷ bytes) =
+    if b == line_feed then Some (b ∷ bytes) else
+    if escaped then from_feed quote false bytes else
+    if b == quote then None else from_feed quote (b == backslash) bytes
+
+-- the bytes begin with a line, which is text, and over which such quotes stay open
+pub record BeginsOpen (quote : ℕ) (bytes line : List ℕ) : Type 0 where
+  pub text : IsUtf8 line
+  pub end : List ℕ
+  pub begins : bytes ≡ line ++ end
+  pub ends : from_feed quote false bytes ≡ Some end

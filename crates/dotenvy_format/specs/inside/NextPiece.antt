@@ -1,8 +1,10 @@
 -- What the functions that read a value piece by piece return, said by its characters.
-use Rattle.std.specs.Prelude.{ℕ, zero, suc, ◌≡◌, ◌+◌, ◌<◌, Bool, true, false, ◌==◌, List, [], ◌∷◌, ◌++◌}
+use Rattle.std.specs.Prelude.{ℕ, zero, suc, ◌≡◌, ◌+◌, ◌<◌, Bool, true, false, not, ◌==◌, List, [], ◌∷◌, ◌++◌}
 use Rattle.std.specs.Prelude.{length, Option, Some, None, MatchOption, if◌then◌else◌}
+use Rattle.std.specs.Prelude.{◌-◌, ◌^◌, ◌≤◌, min}
 use denote.Ref.{Bor}
 use Rattle.std.specs.Str.{chars, encode_utf8_all, IsUtf8}
+use Rattle.std.specs.List.{list_all}
 use Rattle.dotenvy_format.specs.declared.dialect.Dialect.{Dialect}
 use Rattle.dotenvy_format.specs.declared.text.Quoting.{Quoting}
 use Rattle.dotenvy_format.specs.declared.text.Quoting.TheVariants.{Unquoted, DoubleQuoted}
@@ -15,9 +17,12 @@ use Rattle.dotenvy_format.specs.declared.value.Piece.TheVariants.{Text as GivesT
 use Rattle.dotenvy_format.specs.declared.value.Piece.TheVariants.{LastBackslash as GivesBackslash}
 use Rattle.dotenvy_format.specs.declared.value.Piece.TheVariants.{EmptyNames as GivesEmptyNames}
 use Rattle.dotenvy_format.specs.declared.value.Given.{Given}
+use Rattle.dotenvy_format.specs.declared.value.TextPart.{TextPart}
+use Rattle.dotenvy_format.specs.declared.texts.Texts.{Texts}
 use Rattle.dotenvy_format.specs.declared.value.NextPiece.{NextPiece}
 use Rattle.dotenvy_format.specs.declared.value.NextPiece.TheVariants.{Piece as GivesNext, End, Unfinished, Fault}
 use Rattle.dotenvy_format.specs.Characters.{single_quote, double_quote, dollar, backslash, is_space_or_tab}
+use Rattle.dotenvy_format.specs.Characters.{begins_passing}
 use Rattle.dotenvy_format.specs.Value.{Piece, Text, Name}
 use Rattle.dotenvy_format.specs.Value.{LastBackslash, is_escape, escape_meaning}
 use Rattle.dotenvy_format.specs.Items.{LookUp, meaning, text_of}
@@ -104,6 +109,12 @@ pub record GivesPiece (dialect : Dialect) (m : ValueMode) (text : List ℕ) (nex
       piece_bytes look_up next.piece ≡ encode_utf8_all (meaning look_up pieces)
   pub names : without_texts pieces ≡ named_piece next.piece
 
+-- a part of the code means this text, and the value goes on where it says
+abbrev pub MeansText : (dialect : Dialect) → ValueMode → List ℕ → TextPart → Type 0
+MeansText dialect m text part =
+    GivesPiece dialect m text
+    (record { piece = GivesText part.meant; rest = part.rest; quoting = part.quoting })
+
 -- the text is no value: it can be completed up to what is left, and no further
 pub record StopsAt (dialect : Dialect) (m : ValueMode) (text left : List ℕ) : Type 0 where
   pub front : List ℕ
@@ -117,6 +128,57 @@ NextPieceIs dialect m text End = read_value dialect text m ≡ Some []
 NextPieceIs dialect m text (GivesNext next) = GivesPiece dialect m text next
 NextPieceIs dialect m text Unfinished = StopsAt dialect m text []
 NextPieceIs dialect m text (Fault left) = StopsAt dialect m text (chars left.now)
+
+-- a part that means a text, as a piece
+abbrev pub piece_of : TextPart → NextPiece
+piece_of part =
+    GivesNext (record { piece = GivesText part.meant; rest = part.rest; quoting = part.quoting })
+
+-- a character of this kind, and what follows it, begin with a part that means a text
+abbrev pub begins_text_by : Kind → List ℕ → Bool
+begins_text_by Backslash cs = begins_passing is_escape cs
+begins_text_by SingleQuote cs = not (list_all (λ c. not (c == single_quote)) cs)
+begins_text_by DoubleQuote cs = true
+begins_text_by Dollar cs = false
+begins_text_by SpaceOrTab cs = false
+begins_text_by Plain cs = true
+
+-- what is left of a value begins with a part that means a text
+abbrev pub begins_text : Quoting → List ℕ → Bool
+begins_text quoting [] = false
+begins_text quoting (c ∷ cs) = begins_text_by (kind_of quoting c) cs
+
+-- texts are read from the start, which mean these bytes, whatever names stand for; then the value goes on
+pub record ReadsTexts (dialect : Dialect) (start : Quoting) (text meant : List ℕ) (quoting : Quoting)
+    (rest : List ℕ) : Type 0 where
+  pub pieces : List Piece
+  pub is_read : IsReadTo dialect (base start) text pieces (base quoting) rest
+  pub means : (look_up : LookUp) → encode_utf8_all (meaning look_up pieces) ≡ meant
+
+-- texts are read, up to where none begins; they mean so many bytes, or more than can be counted
+pub record MeasuresTexts (start : Quoting) (text : List ℕ) (texts : Texts) : Type 0 where
+  pub meant : List ℕ
+  pub len : texts.len ≡ min (length meant) (2 ^ 64 - 1)
+  pub follows : IsUtf8 texts.rest.now
+  pub reads : (dialect : Dialect) →
+      ReadsTexts dialect start text meant texts.quoting (chars texts.rest.now)
+  pub ends : begins_text texts.quoting (chars texts.rest.now) ≡ false
+
+-- what texts at the start mean fits after so many bytes
+abbrev pub HasTextRoom : Quoting → List ℕ → ℕ → ℕ → Type 0
+HasTextRoom start text len capacity =
+    (dialect : Dialect) × ((meant : List ℕ) (quoting : Quoting) (rest : List ℕ) →
+    ReadsTexts dialect start text meant quoting rest → len + length meant ≤ capacity)
+
+-- texts are read, up to where none begins; what they mean is appended
+pub record PushesTexts (start : Quoting) (text old new : List ℕ) (left : Bor (List ℕ) × Quoting)
+    : Type 0 where
+  pub meant : List ℕ
+  pub bytes : new ≡ old ++ meant
+  pub follows : IsUtf8 left.0.now
+  pub reads : (dialect : Dialect) →
+      ReadsTexts dialect start text meant left.1 (chars left.0.now)
+  pub ends : begins_text left.1 (chars left.0.now) ≡ false
 
 -- after a piece, fewer characters are left than in the text
 abbrev pub IsShorter : List ℕ → NextPiece → Type 0

@@ -1,6 +1,6 @@
 -- What the two passes over a value give: its length, and its meaning.
 use Rattle.std.specs.Prelude.{ℕ, ◌≡◌, ◌≤◌, ◌+◌, ◌-◌, ◌^◌, min, List, ◌++◌, Option, Result, Ok, Err}
-use Rattle.std.specs.Prelude.{MatchOption}
+use Rattle.std.specs.Prelude.{Some, MatchOption}
 use denote.Ref.{Bor}
 use Rattle.std.specs.Str.{chars, encode_utf8_all}
 use Rattle.dotenvy_format.specs.declared.dialect.Dialect.{Dialect}
@@ -39,6 +39,13 @@ abbrev pub IsMeasured : (dialect : Dialect) → LookUp → Value → Type 0
 IsMeasured dialect look_up value =
     MatchOption (read_value dialect (chars value.text.now) (base Unquoted)) ⊥
     (KnowsMeaning look_up value)
+
+-- the text is a value in each dialect, and means this text alone, whatever names stand for
+abbrev pub MeansAlone : List ℕ → Bor (List ℕ) → Type 0
+MeansAlone value text =
+    (dialect : Dialect) → (pieces : List Piece)
+    × (read_value dialect value (base Unquoted) ≡ Some pieces)
+    × ((look_up : LookUp) → text.now ≡ encode_utf8_all (meaning look_up pieces))
 
 -- the value, measured; or what is left where no value goes on
 abbrev pub Measures : (dialect : Dialect) → LookUp → List ℕ → Result Value (Bor (List ℕ)) → Type 0

@@ -1,12 +1,12 @@
 -- One physical line, in the pieces in which it is read, as a part of a logical line.
 use Rattle.std.specs.Prelude.{ℕ, ◌≡◌, ◌≢◌, ◌+◌, ◌≤◌, ◌<◌, ◌⊎◌, nat_le, ◌||◌, Bool, true, false}
-use Rattle.std.specs.Prelude.{◌&&◌, List, [], ◌∷◌, ◌++◌, length, take, Option, Some, None, Result, Ok, Err}
+use Rattle.std.specs.Prelude.{List, [], ◌++◌, length, take, Option, Some, None, Result, Ok, Err}
 use Rattle.std.specs.Prelude.{if◌then◌else◌}
 use Rattle.std.specs.Str.{chars, IsUtf8, skip_leading_whitespace}
 use Rattle.std.specs.declared.io.ErrorKind.{ErrorKind}
 use Rattle.dotenvy_base.specs.declared.errors.Error.{Error}
 use Rattle.dotenvy_format.specs.declared.walk.LineMode.{LineMode}
-use Rattle.dotenvy_format.specs.declared.walk.LineMode.TheVariants.{Outside}
+use Rattle.dotenvy_format.specs.declared.walk.LineMode.TheVariants.{Outside, Inside}
 use Rattle.dotenvy_lines.specs.declared.physical_line.Progress.{Progress}
 use Rattle.dotenvy_lines.specs.declared.physical_line.Progress.TheVariants.{Blank, Going, Ended, Comment}
 use Rattle.dotenvy_lines.specs.declared.physical_line.After.{After}
@@ -18,7 +18,7 @@ use Rattle.dotenvy_lines.specs.declared.physical_line.Taken.TheVariants.{Comment
 use Rattle.dotenvy_lines.specs.declared.physical_line.Taken.TheVariants.{Broken as taken_broken}
 use Rattle.dotenvy_format.specs.Characters.{begins_with, hash}
 use Rattle.dotenvy_format.specs.PhysicalLines.{no_line_feed, is_whole_line}
-use Rattle.dotenvy_format.specs.inside.LineEnd.{BeginsWhole}
+use Rattle.dotenvy_format.specs.inside.LineEnd.{BeginsOpen, BeginsWhole}
 use Rattle.dotenvy_format.specs.inside.Walk.{walk, going, ended, BeginsComment}
 use Rattle.dotenvy_base.specs.Source.{Ahead}
 use Rattle.dotenvy_lines.specs.Input.{InputState, IsFinal, input_measure}
@@ -36,11 +36,6 @@ abbrev pub after_text : ℕ → Bool → Bool → After
 after_text left whole at_end =
     if nat_le 1 left then (if whole || (at_end || nat_le 4 left) then Broken else Unread)
     else (if whole then LineEnd else (if at_end then InputEnd else Unread))
-
--- the first byte is a visible ASCII character
-abbrev pub begins_visibly : List ℕ → Bool
-begins_visibly [] = false
-begins_visibly (b ∷ bytes) = nat_le 33 b && nat_le b 126
 
 -- the text is the front of a line that is no comment; where no line feed ends it, more of it may follow
 abbrev pub IsNoComment : List ℕ → Type 0
@@ -167,6 +162,17 @@ TakesWhole seen s false now t =
     (now ≡ seen) × (t ≡ s)
     × ((a : Ahead) → s.left ≡ Some a → (kept rest : List ℕ) →
     ¬ (BeginsWhole (take s.unread a.bytes) kept rest))
+
+-- a line over which such quotes stay open was taken; or none is next in what was read, and nothing was used
+abbrev pub TakesOpen : ℕ → List ℕ → InputState → Bool → List ℕ → InputState → Type 0
+TakesOpen quote seen s true now t =
+    (input_measure t < input_measure s)
+    × ((a : Ahead) → s.left ≡ Some a →
+    LineMakes (Inside quote) seen a s (taken_going (Inside quote)) now t)
+TakesOpen quote seen s false now t =
+    (now ≡ seen) × (t ≡ s)
+    × ((a : Ahead) → s.left ≡ Some a → (line : List ℕ) →
+    ¬ (BeginsOpen quote (take s.unread a.bytes) line))
 
 -- a comment was taken; or none is next in what was read, and nothing was used
 abbrev pub TakesComment : InputState → Bool → InputState → Type 0

@@ -1,4 +1,4 @@
-use Rattle.std.proofs.Common.{◌∙◌, sym}
+use Rattle.std.proofs.Common.{[], ◌∙◌, sym}
 use Rattle.std.proofs.lemmas.Str.{chars-nil}
 use Rattle.dotenvy_editor.proofs.PieceReadings.{empty_mentioned}
 use Rattle.dotenvy_editor.proofs.values.mentions.Goals as goal
@@ -6,4 +6,4 @@ use Rattle.dotenvy_editor.proofs.values.mentions.Goals as goal
 pub returns-in-EmptyNames : goal.returns-in-EmptyNames
 returns-in-EmptyNames g c =
     λ some are.
-    rw (c.in-EmptyNames.is, empty_mentioned some c.in-EmptyNames.more) (c.has.ensures ∙ (rw chars-nil (are [])))
+    rw (c.in-EmptyNames.is, empty_mentioned some c.in-EmptyNames.more) (c.has-in-EmptyNames.ensures ∙ (rw chars-nil (are [])))

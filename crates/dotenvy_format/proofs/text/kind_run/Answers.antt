@@ -1,7 +1,7 @@
 use Rattle.std.proofs.Common.{rules, ◌≡◌, ◌++◌, ◌∙◌, sym, None, length, Fits, w64, arith}
 use Rattle.std.proofs.lemmas.List.Sums.{prefix_len-le-length}
 use Rattle.dotenvy_format.specs.inside.Slices.{is_of_kind}
-use Rattle.dotenvy_format.proofs.bytes.ByteRuns.{passes_block, run_behind, run_in_block}
+use Rattle.dotenvy_format.proofs.bytes.ByteRuns.{passes_block, passes_both, run_in_block}
 use Rattle.dotenvy_format.proofs.text.kind_run.Goals as goal
 
 pub returns-in-Some-block_end : goal.returns-in-Some-block_end
@@ -19,16 +19,13 @@ overflow_add-result c =
     (sym c.in-Some-block_end.is ∙ c.block_end.ensures))
     (omega arith)
 
+pub search-preserved-then-is_far : goal.search-preserved-then-is_far
+search-preserved-then-is_far c =
+    let none : c.block_end.result ≡ None = c.in_default-block_end.is in
+    passes_both (passes_block c.in-Some.block.now c.search.invariant (search rules) (rw c.block_end.ensures at none))
+    c.after_blocks-rest.ensures
+
 pub search-preserved : goal.search-preserved
 search-preserved c =
     let none : c.block_end.result ≡ None = c.in_default-block_end.is in
     passes_block c.in-Some.block.now c.search.invariant (search rules) (rw c.block_end.ensures at none)
-
-pub overflow_add-result-2 : goal.overflow_add-result-2
-overflow_add-result-2 c =
-    let bound : Fits w64 (length c.args.bytes.now) = search rules in
-    let most = prefix_len-le-length (is_of_kind c.args.kind) c.args.bytes.now in
-    rw (c.unwrap_or.ensures, run_behind c.search.invariant c.kind_end.ensures) (omega arith)
-
-pub returns : goal.returns
-returns c = rw c.unwrap_or.ensures (run_behind c.search.invariant c.kind_end.ensures)

@@ -4,7 +4,7 @@ use Rattle.std.proofs.lemmas.Str.{encodes-chars}
 use Rattle.dotenvy_format.specs.Characters.{double_quote}
 use Rattle.dotenvy_format.specs.inside.NextPiece.{other_quoting}
 use Rattle.dotenvy_format.proofs.values.NextPiece.{after_quotes, quotes_run, odd_back, own_bytes}
-use Rattle.dotenvy_format.proofs.values.NextPiece.{gives_texts, next_after}
+use Rattle.dotenvy_format.proofs.values.NextPiece.{gives_texts, means_after}
 use Rattle.dotenvy_format.proofs.value.double_quote.Goals as goal
 use Rattle.dotenvy_format.proofs.value.double_quote.Goals.{then-more-eq0, else-more-eq0}
 
@@ -40,4 +40,4 @@ returns-in-DoubleQuoted c =
     λ dialect.
     let opened = rw (leads, c.in-DoubleQuoted.is) at
     (quotes_run dialect (other_quoting from) (chars more) (chars c.split_while.result.1.now) span.pass) in
-    next_after c.double_quoted.result (rw span.spelled opened) (c.double_quoted.ensures dialect)
+    means_after (rw span.spelled opened) (c.double_quoted.ensures dialect)

@@ -1,7 +1,10 @@
 use Rattle.std.proofs.Common.{refl}
 use Rattle.std.proofs.lemmas.Str.{chars-nil}
 use Rattle.dotenvy_format.proofs.values.Readings.{lacks_end}
-use Rattle.dotenvy_format.proofs.values.NextPiece.{next_by_kind, kind_plain}
+use Rattle.std.specs.Str.{chars}
+use Rattle.dotenvy_format.specs.declared.value.NextPiece.TheVariants.{Unfinished}
+use Rattle.dotenvy_format.specs.inside.NextPiece.{piece_of}
+use Rattle.dotenvy_format.proofs.values.NextPiece.{next_by_kind, kind_plain, single_stops}
 use Rattle.dotenvy_format.proofs.value.next_piece.Goals as goal
 
 pub returns-in-Unquoted-clause-next : goal.returns-in-Unquoted-clause-next
@@ -10,20 +13,32 @@ returns-in-Unquoted-clause-next c = rw (c.in-Unquoted.is, c.in-None.ensures, cha
 pub returns-in-DoubleQuoted-clause-next : goal.returns-in-DoubleQuoted-clause-next
 returns-in-DoubleQuoted-clause-next c = rw (c.in-DoubleQuoted.is, c.in-None.ensures, chars-nil) (lacks_end refl)
 
-pub returns-in-Backslash : goal.returns-in-Backslash
-returns-in-Backslash c =
-    next_by_kind c.args.dialect c.args.quoting c.escape.result c.in-Some.ensures.characters
-    c.in-Backslash.ensures refl (c.escape.ensures c.args.dialect)
+pub returns-in-Some-escapes : goal.returns-in-Some-escapes
+returns-in-Some-escapes c =
+    rw c.text_piece.ensures (next_by_kind c.args.dialect c.args.quoting (piece_of c.in-Some-escapes.part)
+    c.in-Some.ensures.characters c.in-Backslash.ensures refl (c.in-Some-escapes.ensures c.args.dialect))
 
-pub returns-in-SingleQuote : goal.returns-in-SingleQuote
-returns-in-SingleQuote c =
-    next_by_kind c.args.dialect c.args.quoting c.single_quoted.result c.in-Some.ensures.characters
-    c.in-SingleQuote.ensures refl (c.single_quoted.ensures c.args.dialect)
+pub returns-in-None-escapes : goal.returns-in-None-escapes
+returns-in-None-escapes c =
+    next_by_kind c.args.dialect c.args.quoting c.no_escape.result c.in-Some.ensures.characters
+    c.in-Backslash.ensures refl (c.no_escape.ensures c.args.dialect)
+
+pub returns-in-Some-single_quoted : goal.returns-in-Some-single_quoted
+returns-in-Some-single_quoted c =
+    rw c.text_piece-in-Some-single_quoted.ensures (next_by_kind c.args.dialect c.args.quoting
+    (piece_of c.in-Some-single_quoted.part) c.in-Some.ensures.characters c.in-SingleQuote.ensures refl
+    (c.in-Some-single_quoted.ensures c.args.dialect))
+
+pub returns-in-None-single_quoted : goal.returns-in-None-single_quoted
+returns-in-None-single_quoted c =
+    next_by_kind c.args.dialect c.args.quoting Unfinished c.in-Some.ensures.characters c.in-SingleQuote.ensures refl
+    (single_stops c.args.dialect (chars c.in-Some.left.now) c.in-None-single_quoted.ensures)
 
 pub returns-in-DoubleQuote : goal.returns-in-DoubleQuote
 returns-in-DoubleQuote c =
-    next_by_kind c.args.dialect c.args.quoting c.double_quote.result c.in-Some.ensures.characters
-    c.in-DoubleQuote.ensures refl (c.double_quote.ensures c.args.dialect)
+    rw c.text_piece-in-DoubleQuote.ensures (next_by_kind c.args.dialect c.args.quoting
+    (piece_of c.double_quote.result) c.in-Some.ensures.characters c.in-DoubleQuote.ensures refl
+    (c.double_quote.ensures c.args.dialect))
 
 pub returns-in-Dollar : goal.returns-in-Dollar
 returns-in-Dollar c =
@@ -40,4 +55,4 @@ plain-requires c =
     rw c.in-Some.ensures.characters (kind_plain c.args.quoting c.in-Some.first c.in-Plain.ensures)
 
 pub returns-in-Plain-clause-next : goal.returns-in-Plain-clause-next
-returns-in-Plain-clause-next c = c.plain.ensures.next c.args.dialect
+returns-in-Plain-clause-next c = rw c.text_piece-in-Plain.ensures (c.plain.ensures.part c.args.dialect)

@@ -7,16 +7,19 @@ walking-init c = (walking_start c.utf8.text, c.utf8.text)
 
 pub walking-preserved : goal.walking-preserved
 walking-preserved c =
-    let run = walking_run c.walking.invariant.0 c.pass_run-rest.ensures in
+    let passed = walking_run c.pass_run.ensures c.pass_escapes-rest.ensures in
+    let run = walking_run c.walking.invariant.0 passed in
     (walking_step run c.in-Some.ensures c.in-Some-next_mode.ensures, c.in-Some.ensures.follows)
 
 pub walking-smaller : goal.walking-smaller
-walking-smaller c = run_smaller c.pass_run-rest.ensures c.in-Some.ensures
+walking-smaller c = run_smaller (walking_run c.pass_run.ensures c.pass_escapes-rest.ensures) c.in-Some.ensures
 
 pub returns-in-None : goal.returns-in-None
 returns-in-None c =
-    walking_ends (walking_run c.walking.invariant.0 c.pass_run-rest.ensures) c.in-Some.ensures c.in-None.ensures
+    let passed = walking_run c.pass_run.ensures c.pass_escapes-rest.ensures in
+    walking_ends (walking_run c.walking.invariant.0 passed) c.in-Some.ensures c.in-None.ensures
 
 pub returns-in_default : goal.returns-in_default
 returns-in_default c =
-    walking_done (walking_run c.walking.invariant.0 c.pass_run-rest.ensures) c.in_default.ensures
+    let passed = walking_run c.pass_run.ensures c.pass_escapes-rest.ensures in
+    walking_done (walking_run c.walking.invariant.0 passed) c.in_default.ensures

@@ -11,8 +11,8 @@ use Rattle.dotenvy_items.proofs.parse.scan_line.Goals as goal
 
 pub returns-then-is_empty_or_comment : goal.returns-then-is_empty_or_comment
 returns-then-is_empty_or_comment g c =
-    says_nothing c.args.line.now c.trim_end-trimmed.result.now c.trim_start.result.now _ c.utf8.line
-    c.trim_end-trimmed.utf8 c.trim_end-trimmed.ensures.trim c.trim_start.ensures.trim c.if-is_empty_or_comment.ensures
+    says_nothing c.args.line.now c.trim_end-trimmed.result.now c.skip_white.result.now _ c.utf8.line
+    c.trim_end-trimmed.utf8 c.trim_end-trimmed.ensures.trim c.skip_white.ensures c.if-is_empty_or_comment.ensures
 
 pub front_len-requires : goal.front_len-requires
 front_len-requires g c =
@@ -23,8 +23,8 @@ returns-in-Err g c =
     let trimmed =
     chars-trim_end c.args.line.now c.trim_end-trimmed.result.now c.utf8.line c.trim_end-trimmed.ensures.trim in
     statement_fault c.args.dialect (chars c.args.line.now) (chars c.in-Err.left.now) c.front_len.result
-    (says_nothing c.args.line.now c.trim_end-trimmed.result.now c.trim_start.result.now _ c.utf8.line
-    c.trim_end-trimmed.utf8 c.trim_end-trimmed.ensures.trim c.trim_start.ensures.trim c.if-is_empty_or_comment.ensures)
+    (says_nothing c.args.line.now c.trim_end-trimmed.result.now c.skip_white.result.now _ c.utf8.line
+    c.trim_end-trimmed.utf8 c.trim_end-trimmed.ensures.trim c.skip_white.ensures c.if-is_empty_or_comment.ensures)
     (sym (ap parse trimmed) ∙ sym c.in-Err.ensures) (λ front is. c.front_len.ensures front (trimmed ∙ is))
 
 pub returns-then-is_empty_or_comment-2 : goal.returns-then-is_empty_or_comment-2
@@ -32,8 +32,8 @@ returns-then-is_empty_or_comment-2 g c =
     let trimmed =
     chars-trim_end c.args.line.now c.trim_end-trimmed.result.now c.utf8.line c.trim_end-trimmed.ensures.trim in
     declared c.args.dialect (look_up_of c.args.names.now) (chars c.args.line.now) (chars c.in-Ok.statement.rest.now) [] _
-    (says_nothing c.args.line.now c.trim_end-trimmed.result.now c.trim_start.result.now _ c.utf8.line
-    c.trim_end-trimmed.utf8 c.trim_end-trimmed.ensures.trim c.trim_start.ensures.trim c.if-is_empty_or_comment.ensures)
+    (says_nothing c.args.line.now c.trim_end-trimmed.result.now c.skip_white.result.now _ c.utf8.line
+    c.trim_end-trimmed.utf8 c.trim_end-trimmed.ensures.trim c.skip_white.ensures c.if-is_empty_or_comment.ensures)
     (sym (ap parse trimmed) ∙ sym c.in-Ok.ensures) (sym c.if-is_empty_or_comment-2.ensures, refl)
 
 pub fault_index-requires-clause-nonempty : goal.fault_index-requires-clause-nonempty
@@ -47,8 +47,8 @@ returns-in-Ok-measure g c =
     let names = look_up_of c.args.names.now in
     let m = measured_value c.args.dialect names c.in-Ok-measure.value c.in-Ok-measure.ensures.1 in
     declared c.args.dialect names (chars c.args.line.now) (chars c.in-Ok.statement.rest.now) m.0 _
-    (says_nothing c.args.line.now c.trim_end-trimmed.result.now c.trim_start.result.now _ c.utf8.line
-    c.trim_end-trimmed.utf8 c.trim_end-trimmed.ensures.trim c.trim_start.ensures.trim c.if-is_empty_or_comment.ensures)
+    (says_nothing c.args.line.now c.trim_end-trimmed.result.now c.skip_white.result.now _ c.utf8.line
+    c.trim_end-trimmed.utf8 c.trim_end-trimmed.ensures.trim c.skip_white.ensures c.if-is_empty_or_comment.ensures)
     (sym (ap parse trimmed) ∙ sym c.in-Ok.ensures) (
       rw (← c.if-is_empty_or_comment-2.ensures) refl,
       c.in-Ok-measure.ensures.0,
@@ -64,8 +64,8 @@ returns-in-Err-measure g c =
     let stops = c.in-Err-measure.ensures in
     value_fault c.args.dialect (look_up_of c.args.names.now) (chars c.args.line.now) (chars c.in-Ok.statement.key.now)
     (record { text = c.in-Ok.statement.rest; index = c.fault_index.result })
-    (says_nothing c.args.line.now c.trim_end-trimmed.result.now c.trim_start.result.now _ c.utf8.line
-    c.trim_end-trimmed.utf8 c.trim_end-trimmed.ensures.trim c.trim_start.ensures.trim c.if-is_empty_or_comment.ensures)
+    (says_nothing c.args.line.now c.trim_end-trimmed.result.now c.skip_white.result.now _ c.utf8.line
+    c.trim_end-trimmed.utf8 c.trim_end-trimmed.ensures.trim c.skip_white.ensures c.if-is_empty_or_comment.ensures)
     (sym (ap parse trimmed) ∙ sym c.in-Ok.ensures) (record {
       assigned = rw (← c.if-is_empty_or_comment-2.ensures) refl;
       none = no_value c.args.dialect (chars text) stops.reads;

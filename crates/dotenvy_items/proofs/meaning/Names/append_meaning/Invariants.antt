@@ -13,8 +13,8 @@ use Rattle.dotenvy_items.specs.inside.ValuePasses.{IsKnown}
 use Rattle.dotenvy_items.proofs.meaning.Names.append_meaning.Given as goal
 
 -- the pieces so far lead to the rest, and their meaning was appended
-abbrev pub invariant-loop-given : goal.invariant-loop-given
-invariant-loop-given g l =
+abbrev pub invariant-pieces : goal.invariant-pieces
+invariant-pieces g l =
     shadow (Utf8 l.rest)
     × IsKnown (look_up_of l.self) l.known
     × ((pieces : _) × IsReadTo l.dialect (base Unquoted) (chars l.value.text.now) pieces (base
@@ -23,5 +23,5 @@ invariant-loop-given g l =
     ++ encode_utf8_all (meaning (look_up_of l.self) pieces)) × (string_capacity l.initial.text
     ≤ string_capacity l.text))
 
-abbrev pub decreases-loop-given : goal.decreases-loop-given
-decreases-loop-given g l = length (chars l.rest)
+abbrev pub decreases-pieces : goal.decreases-pieces
+decreases-pieces g l = length (chars l.rest)
