@@ -11,9 +11,7 @@ ghost use Rattle.dotenvy_format.specs.inside.LineEnd.{BeginsOpen, BeginsWhole, L
 ghost use Rattle.dotenvy_format.specs.inside.LineEnd.{line_start, between, unquoted};
 ghost use Rattle.dotenvy_format.specs.inside.LineEnd.{after_byte, blanks_over, ends_line, hash_leads, is_odd, with_one};
 
-use crate::text::{
-    ByteKind, Class, line_of, row_len, split_first, split_run, split_while,
-};
+use crate::text::{ByteKind, Class, line_of, row_len, split_first, split_run, split_while};
 
 /// What the walk is in the middle of.
 #[derive(Clone, Copy, Drop)]
