@@ -1,5 +1,5 @@
 -- The report of a file, as the parts that were written.
-use Rattle.std.proofs.Common.{◌≡◌, ℕ, Bool, List, [], ◌∷◌, ◌++◌, ◌∙◌, ap, refl, sym, inl, inr, Option, Some, None}
+use Rattle.std.proofs.Common.{◌≡◌, ℕ, List, [], ◌∷◌, ◌++◌, ◌∙◌, ap, refl, sym, inl, inr, Option}
 use Rattle.std.proofs.Common.{Result, Ok, Err, string_bytes, subst}
 use Rattle.std.specs.Prelude.{IsErrAnd, OnOk}
 use Rattle.std.specs.List.{concat}
@@ -14,7 +14,6 @@ use Rattle.dotenvy_findings.specs.declared.kind.Kind.{Kind}
 use Rattle.dotenvy_findings.specs.Readings.{Known}
 use Rattle.dotenvy_format.specs.declared.dialect.Dialect.{Dialect}
 use Rattle.dotenvy_items.specs.Iter.{IterState}
-use Rattle.dotenvy_lines.specs.Lines.{LinesState}
 use Rattle.dotenvy_checker.specs.declared.check.Checked.{Checked}
 use Rattle.dotenvy_checker.specs.declared.failure.Stop.{Stop}
 use Rattle.dotenvy_checker.specs.declared.failure.Stop.TheVariants as stop
@@ -23,7 +22,7 @@ use Rattle.dotenvy_checker.specs.declared.lines.Checker.{Checker}
 use Rattle.dotenvy_checker.specs.declared.report.Reporting.{Reporting}
 use Rattle.dotenvy_checker.specs.Checks.{file_setting, names_in, FindsFirst, HasFindings, IsMemoryStop, Reports}
 use Rattle.dotenvy_checker.specs.Checks.{ReportsFirst, ReportsFound, Tells}
-use Rattle.dotenvy_checker.specs.Findings.{Remark, SoFar, nothing_yet, settled_all, with_rows}
+use Rattle.dotenvy_checker.specs.Findings.{Remark, SoFar, nothing_yet, settled_all}
 use Rattle.dotenvy_checker.specs.Parts.{SendsEach, SendsParts}
 use Rattle.dotenvy_checker.specs.Report.{report}
 use Rattle.dotenvy_checker.specs.inside.CheckedLines.{declared_of, IsNew}

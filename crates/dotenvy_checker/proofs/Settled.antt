@@ -1,6 +1,6 @@
 -- What is settled of what was found stays as it is, whatever is declared later; what was told stands before the rest.
-use Rattle.std.proofs.Common.{◌≡◌, ℕ, Bool, true, false, List, [], ◌∷◌, ◌++◌, ◌∙◌, map, refl, sym, ap, inl, inr}
-use Rattle.std.proofs.Common.{Option, Some, None, arith}
+use Rattle.std.proofs.Common.{◌≡◌, ℕ, true, false, List, [], ◌∷◌, ◌++◌, ◌∙◌, map, refl, sym, ap, inl, inr}
+use Rattle.std.proofs.Common.{Option, Some, None}
 use Rattle.std.specs.Prelude.{bytes_eq, encode_utf8_all, is_some}
 use Rattle.std.specs.List.{AllByRecursion}
 use Rattle.std.proofs.lemmas.Bool.{cases_Bool}
@@ -11,8 +11,8 @@ use Rattle.dotenvy_format.specs.LogicalLine.{Logical}
 use Rattle.dotenvy_findings.specs.declared.finding.Finding.{Finding}
 use Rattle.dotenvy_lines.specs.Numbered.{FileLine}
 use Rattle.dotenvy_checker.specs.Checks.{IsKnown}
-use Rattle.dotenvy_checker.specs.Findings.{Declared, Remark, Row, Setting, SoFar, declared_by, is_unknown, last_of}
-use Rattle.dotenvy_checker.specs.Findings.{logical_remarks, resolved, settled, under, with_key, with_later, with_line}
+use Rattle.dotenvy_checker.specs.Findings.{Declared, Remark, Setting, SoFar, declared_by, is_unknown, last_of}
+use Rattle.dotenvy_checker.specs.Findings.{logical_remarks, settled, under, with_key, with_later, with_line}
 use Rattle.dotenvy_checker.specs.Findings.{with_lines, with_logical}
 use Rattle.dotenvy_checker.specs.inside.ToldLines.{IsSettled}
 

@@ -1,5 +1,5 @@
 -- What is told of a file and written in parts, one after another.
-use Rattle.std.proofs.Common.{◌≡◌, ℕ, Bool, true, false, List, [], ◌∷◌, ◌++◌, ◌∙◌, map, refl, sym, ap, inl, inr}
+use Rattle.std.proofs.Common.{◌≡◌, ℕ, Bool, false, List, [], ◌∷◌, ◌++◌, ◌∙◌, refl, sym, ap, inl, inr}
 use Rattle.std.proofs.Common.{Result, Ok, Err, string_bytes}
 use Rattle.std.specs.Prelude.{◌||◌, if◌then◌else◌}
 use Rattle.std.specs.List.{concat, list_any, AllByRecursion}
@@ -15,7 +15,6 @@ use Rattle.dotenvy_reports.specs.declared.format.Format.{Format}
 use Rattle.dotenvy_reports.specs.Formats.{separator}
 use Rattle.dotenvy_checker.specs.declared.file_report.FileReport.{FileReport}
 use Rattle.dotenvy_checker.specs.declared.report.Found.{Found}
-use Rattle.dotenvy_checker.specs.declared.report.Reporting.{Reporting}
 use Rattle.dotenvy_checker.specs.Checks.{both, found_in}
 use Rattle.dotenvy_checker.specs.Findings.{Remark, is_denied, is_error, is_warning, shown}
 use Rattle.dotenvy_checker.specs.Parts.{AreParts, SendsEach}

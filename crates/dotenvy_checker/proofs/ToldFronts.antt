@@ -1,5 +1,5 @@
 -- What a checker kept, told one after another.
-use Rattle.std.proofs.Common.{◌≡◌, ℕ, Bool, true, false, List, [], ◌∷◌, ◌++◌, ◌∙◌, drop, map, refl, sym, ap}
+use Rattle.std.proofs.Common.{◌≡◌, ℕ, Bool, false, List, [], ◌∷◌, ◌++◌, ◌∙◌, drop, map, refl, sym, ap}
 use Rattle.std.proofs.Common.{arith, length, Option, Some, None, Result, Ok, Err, string_bytes}
 use Rattle.std.specs.Prelude.{option_to_list, slice_index_or, IsErrAnd, IsSome}
 use Rattle.std.specs.List.{concat, AllByRecursion}
@@ -23,7 +23,7 @@ use Rattle.dotenvy_checker.specs.Checks.{both, found_in, IsMemoryStop}
 use Rattle.dotenvy_checker.specs.Findings.{Declared, Remark, bad_from, is_unknown, resolved, settled, told_one}
 use Rattle.dotenvy_checker.specs.inside.CheckedLines.{allow_comments, bad_bytes, declared_of, remark_of, so_far}
 use Rattle.dotenvy_checker.specs.inside.ToldLines.{last_above, next_above, AreToldInTurn, CannotWrite}
-use Rattle.dotenvy_checker.specs.inside.ToldLines.{IsSettled, KeepsNone, KeepsTold, TellsFront, TellsKept, TellsMore}
+use Rattle.dotenvy_checker.specs.inside.ToldLines.{IsSettled, KeepsNone, KeepsTold, TellsFront, TellsKept}
 use Rattle.dotenvy_checker.specs.inside.ToldLines.{TellsOne, TellsParts, TellsSome, WritesPart}
 use Rattle.dotenvy_checker.proofs.Told.{cannot-append, tells-append, tells_unwritten, told-append}
 

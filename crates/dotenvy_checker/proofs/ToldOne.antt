@@ -1,5 +1,5 @@
 -- One finding, which is told or allowed.
-use Rattle.std.proofs.Common.{◌≡◌, ℕ, true, false, List, [], ◌∷◌, ◌++◌, ◌∙◌, ap, drop, refl, subst, sym, string_bytes}
+use Rattle.std.proofs.Common.{◌≡◌, true, false, List, [], ◌∷◌, ◌∙◌, ap, drop, refl, subst, sym, string_bytes}
 use Rattle.std.proofs.Common.{Result, Ok, Err}
 use Rattle.std.specs.Prelude.{◌||◌, OnErr}
 use Rattle.std.proofs.Math.Bool.{or-false}

@@ -1,5 +1,5 @@
 -- A part of a report, which is written.
-use Rattle.std.proofs.Common.{◌≡◌, ℕ, true, false, List, [], ◌∷◌, ◌++◌, ◌∙◌, ap, refl, sym, inl, inr, string_bytes}
+use Rattle.std.proofs.Common.{◌≡◌, true, false, [], ◌∷◌, ◌++◌, ◌∙◌, ap, refl, sym, inl, inr, string_bytes}
 use Rattle.std.proofs.Common.{Result, Ok, Err}
 use Rattle.std.proofs.lemmas.List.{append-nil}
 use Rattle.dotenvy_base.specs.declared.errors.Error.{Error}

@@ -1,4 +1,4 @@
-use Rattle.std.proofs.Common.{[], ◌∙◌, sym}
+use Rattle.std.proofs.Common.{[], ◌∙◌}
 use Rattle.std.proofs.lemmas.Str.{chars-nil}
 use Rattle.dotenvy_editor.proofs.PieceReadings.{empty_mentioned}
 use Rattle.dotenvy_editor.proofs.values.mentions.Goals as goal

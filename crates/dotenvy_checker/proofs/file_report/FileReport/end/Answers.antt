@@ -1,4 +1,4 @@
-use Rattle.std.proofs.Common.{refl, sym, ◌∙◌}
+use Rattle.std.proofs.Common.{sym, ◌∙◌}
 use Rattle.dotenvy_checker.proofs.WrittenParts.{ends_sent, ends_unsent, ends_unwritten}
 use Rattle.dotenvy_checker.proofs.file_report.FileReport.end.Goals as goal
 

@@ -1,4 +1,3 @@
-use Rattle.std.proofs.Common.{◌∙◌, ap, refl}
 use Rattle.std.proofs.lemmas.Result.{err_from_is_err_and}
 use Rattle.dotenvy_checker.proofs.CheckedReads.{checked_rest, checked_rest_stop, checked_rest_unseen, shut_rest}
 use Rattle.dotenvy_checker.proofs.lines.Checker.check_all.Goals as goal

@@ -3,7 +3,7 @@ use Rattle.std.proofs.lemmas.Option.{none-some}
 use Rattle.std.proofs.lemmas.Result.{err_from_is_err_and}
 use Rattle.dotenvy_lines.proofs.LinesRead.{answers}
 use Rattle.dotenvy_checker.proofs.CheckedReads.{checked_all, checked_before, checked_mark, checked_more, checked_none}
-use Rattle.dotenvy_checker.proofs.CheckedReads.{checked_stop, checked_unseen, unseen_told}
+use Rattle.dotenvy_checker.proofs.CheckedReads.{checked_stop, unseen_told}
 use Rattle.dotenvy_checker.proofs.lines.Checker.check_lines.Goals as goal
 
 pub returns-in-Err-clause-told : goal.returns-in-Err-clause-told

@@ -1,4 +1,4 @@
-use Rattle.std.proofs.Common.{◌≡◌, [], refl}
+use Rattle.std.proofs.Common.{refl}
 use Rattle.std.proofs.lemmas.Result.{err_from_is_err_and}
 use Rattle.dotenvy_checker.specs.inside.ToldLines.{IsAny, KeepsNone}
 use Rattle.dotenvy_checker.proofs.ToldFronts.{none_left, tells_nothing, told_last, told_more, told_none, told_refused}

@@ -1,4 +1,4 @@
-use Rattle.std.proofs.Common.{◌≡◌, refl}
+use Rattle.std.proofs.Common.{refl}
 use Rattle.std.proofs.lemmas.Result.{err_from_is_err_and}
 use Rattle.dotenvy_checker.specs.inside.CheckedLines.{declared_of, remark_of}
 use Rattle.dotenvy_checker.specs.inside.ToldLines.{IsSettled, KeepsAny}
